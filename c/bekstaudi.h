@@ -290,12 +290,28 @@ bool bks_set_contains(const uint32_t *ends, size_t count, uint32_t c);
  * BKS_NO_SET. ICU: uset_size. */
 int64_t bks_set_size(const uint32_t *ends, size_t count);
 
-/* [m] Returns the size in bytes of the longest prefix of a UTF-8 text whose characters are all in
- * the set or, if `held` is false, all not in it. It ends at a character boundary. Errors:
- * BKS_NO_SET, BKS_NO_TEXT, BKS_NO_MEMORY. All of the text is validated first, which takes time for
- * all of it. So pass only the start of a long text, and more if the result is all of it, as
- * bekstaudi.hpp does. ICU: uset_spanUTF8. */
+/* Returns the size in bytes of the longest prefix of a text in UTF-8 whose characters are all in
+ * the set or, if `held` is false, all outside it. It ends at a character boundary. An ill-formed
+ * sequence ends it too. Error: BKS_NO_TEXT, exactly if the text is not empty and does not start
+ * with a character. So spans with true and false in turn reach the end of the text, or BKS_NO_TEXT
+ * at its first ill-formed sequence. Reads no further than the character after the span.
+ * Unspecified (but memory-safe) if bks_set_test returns false. ICU: uset_spanUTF8. */
 int64_t bks_set_span(const uint32_t *ends, size_t count, const char *text, size_t size, bool held);
+
+/* Returns the offset in bytes of the longest suffix of a text in UTF-8 whose characters are all in
+ * the set or, if `held` is false, all outside it. Error: BKS_NO_TEXT, exactly if the text is not
+ * empty and does not end with a character. Otherwise like bks_set_span.
+ * ICU: uset_spanBackUTF8. */
+int64_t bks_set_span_back(const uint32_t *ends, size_t count, const char *text, size_t size,
+                          bool held);
+
+/* Returns how many 16-bit units the longest prefix of a text in UTF-16 has whose code points are
+ * all in the set or, if `held` is false, all outside it. A high surrogate and the low surrogate
+ * after it are one code point. Each other unit is a code point of its own, even an unpaired
+ * surrogate.
+ * Unspecified (but memory-safe) if bks_set_test returns false. ICU: uset_span. */
+size_t bks_set_span_utf16(const uint32_t *ends, size_t count, const uint16_t *text, size_t units,
+                          bool held);
 
 /* [m] Writes the boundaries of a set made from two sets into `ends`, as many as fit: the union, the
  * intersection, the code points in the first set and not in the second, those in exactly one of
@@ -354,12 +370,15 @@ int64_t bks_set_freeze(const uint32_t *ends, size_t count, uint64_t *table, size
  * missing (from `count` on) count as 0. Inline: bks_frozen_has. ICU: uset_contains. */
 bool bks_frozen_contains(const uint64_t *table, size_t count, uint32_t c);
 
-/* Returns the size in bytes of the longest prefix of a UTF-8 text whose characters are all in the
- * frozen set or, if `held` is false, all not in it. It ends at a character boundary. Error:
- * BKS_NO_TEXT. Any words are accepted. Like bks_set_span it validates all of the text first.
- * ICU: uset_spanUTF8. */
+/* Spans as by bks_set_span, bks_set_span_back and bks_set_span_utf16, by the frozen set at the
+ * start of the words. Any words are accepted, as by bks_frozen_contains. ICU: uset_spanUTF8,
+ * uset_spanBackUTF8 and uset_span, of a frozen set. */
 int64_t bks_frozen_span(const uint64_t *table, size_t count, const char *text, size_t size,
                         bool held);
+int64_t bks_frozen_span_back(const uint64_t *table, size_t count, const char *text, size_t size,
+                             bool held);
+size_t bks_frozen_span_utf16(const uint64_t *table, size_t count, const uint16_t *text,
+                             size_t units, bool held);
 
 /* ---- Unit tries ------------------------------------------------------------------------------ */
 /* Maps from keys to numbers. Keys are lists of 16-bit units, mostly texts in UTF-16. They are read

@@ -40,8 +40,8 @@ private:
     bks_status status_;
 };
 
-// Thrown if the numbers are not the boundaries of a set, or if the part of a text that is read is
-// not UTF-8.
+// Thrown if the numbers are not the boundaries of a set, or if a text is ill-formed where it is
+// read.
 class set_refused : public std::invalid_argument {
 public:
     using std::invalid_argument::invalid_argument;
@@ -97,25 +97,9 @@ inline std::size_t answered(std::int64_t answer) {
     return static_cast<std::size_t>(answer);
 }
 
-// Returns a prefix of the text that ends at a character boundary, if the text is UTF-8. It has
-// `size` bytes or up to three fewer.
-inline std::string_view front_of(std::string_view text, std::size_t size) {
-    if (size >= text.size()) return text;
-    std::size_t end = size;
-    while (end + 3 > size && (static_cast<unsigned char>(text[end]) & 0xC0) == 0x80) end--;
-    return text.substr(0, end);
-}
-
-// Returns the longest prefix of a text that a call finds. A call validates all bytes that it gets.
-// So it gets a short prefix of the text first, and twice as many bytes as long as the result is all
-// of them.
-template <class Call>
-std::string_view span_of(std::string_view text, Call call) {
-    for (std::size_t size = 64;; size *= 2) {
-        std::string_view front = front_of(text, size);
-        std::size_t found = answered(call(view<char>(front)));
-        if (found < front.size() || front.size() == text.size()) return text.substr(0, found);
-    }
+// Returns the units of a text in UTF-16, as C has them.
+inline view<std::uint16_t> units_of(std::u16string_view text) noexcept {
+    return {reinterpret_cast<const std::uint16_t *>(text.data()), text.size()};
 }
 
 // Returns the boundaries that a call writes. The call is made again with a larger buffer if there
@@ -273,13 +257,29 @@ public:
         return detail::answered(bks_set_size(of().data(), ends_.size()));
     }
 
-    // Returns the longest prefix of a UTF-8 text whose characters are all in the set or, if `held`
-    // is false, all not in it. It reads at most 64 bytes, or four times the prefix. Throws
-    // set_refused if that part of the text is not UTF-8.
+    // Returns the longest prefix of a text in UTF-8 whose characters are all in the set or, if
+    // `held` is false, all outside it. An ill-formed sequence ends it. Throws set_refused if the
+    // text is not empty and does not start with a character.
     std::string_view span(std::string_view text, bool held = true) const {
-        return detail::span_of(text, [&](view<char> bytes) {
-            return bks_set_span(of().data(), ends_.size(), bytes.data(), bytes.size(), held);
-        });
+        view<char> bytes(text);
+        return text.substr(0, detail::answered(bks_set_span(of().data(), ends_.size(), bytes.data(),
+                                                            bytes.size(), held)));
+    }
+
+    // Returns the longest suffix of such characters. Throws set_refused if the text is not empty
+    // and does not end with a character.
+    std::string_view span_back(std::string_view text, bool held = true) const {
+        view<char> bytes(text);
+        return text.substr(detail::answered(bks_set_span_back(of().data(), ends_.size(),
+                                                              bytes.data(), bytes.size(), held)));
+    }
+
+    // Returns the longest prefix of a text in UTF-16 whose code points are all in the set or, if
+    // `held` is false, all outside it. An unpaired surrogate is a code point of its own.
+    std::u16string_view span(std::u16string_view text, bool held = true) const {
+        view<std::uint16_t> units = detail::units_of(text);
+        return text.substr(
+            0, bks_set_span_utf16(of().data(), ends_.size(), units.data(), units.size(), held));
     }
 
     friend code_point_set operator|(const code_point_set &a, const code_point_set &b) {
@@ -370,12 +370,29 @@ public:
 
     bool contains(std::uint32_t c) const noexcept { return bks_frozen_has(words_.data(), c); }
 
-    // Returns the longest prefix of a UTF-8 text whose characters are all in the set or, if `held`
-    // is false, all not in it. Like code_point_set::span, but it allocates nothing.
+    // Returns the longest prefix of a text in UTF-8 whose characters are all in the set or, if
+    // `held` is false, all outside it. An ill-formed sequence ends it. Throws set_refused if the
+    // text is not empty and does not start with a character.
     std::string_view span(std::string_view text, bool held = true) const {
-        return detail::span_of(text, [&](view<char> bytes) {
-            return bks_frozen_span(words_.data(), words_.size(), bytes.data(), bytes.size(), held);
-        });
+        view<char> bytes(text);
+        return text.substr(0, detail::answered(bks_frozen_span(words_.data(), words_.size(),
+                                                               bytes.data(), bytes.size(), held)));
+    }
+
+    // Returns the longest suffix of such characters. Throws set_refused if the text is not empty
+    // and does not end with a character.
+    std::string_view span_back(std::string_view text, bool held = true) const {
+        view<char> bytes(text);
+        return text.substr(detail::answered(bks_frozen_span_back(
+            words_.data(), words_.size(), bytes.data(), bytes.size(), held)));
+    }
+
+    // Returns the longest prefix of a text in UTF-16 whose code points are all in the set or, if
+    // `held` is false, all outside it. An unpaired surrogate is a code point of its own.
+    std::u16string_view span(std::u16string_view text, bool held = true) const {
+        view<std::uint16_t> units = detail::units_of(text);
+        return text.substr(0, bks_frozen_span_utf16(words_.data(), words_.size(), units.data(),
+                                                    units.size(), held));
     }
 
 private:
@@ -439,11 +456,14 @@ public:
     copied copy_values(std::string_view text, Value *values, std::size_t room) const noexcept {
         copied done = {0, 0};
         if constexpr (sizeof(Value) == 1)
-            done.values = bks_trie8_copy_utf8(&trie_, text.data(), text.size(), values, room, &done.bytes);
+            done.values = bks_trie8_copy_utf8(&trie_, text.data(), text.size(), values, room,
+                                               &done.bytes);
         else if constexpr (sizeof(Value) == 2)
-            done.values = bks_trie16_copy_utf8(&trie_, text.data(), text.size(), values, room, &done.bytes);
+            done.values = bks_trie16_copy_utf8(&trie_, text.data(), text.size(), values, room,
+                                               &done.bytes);
         else
-            done.values = bks_trie32_copy_utf8(&trie_, text.data(), text.size(), values, room, &done.bytes);
+            done.values = bks_trie32_copy_utf8(&trie_, text.data(), text.size(), values, room,
+                                               &done.bytes);
         return done;
     }
 
@@ -612,8 +632,9 @@ public:
             size = bks_units_build_utf8(keys.data(), keys.size(), sizes.data(), sizes.size(),
                                         numbers.data(), numbers.size(), bytes.data(), bytes.size());
         else
-            size = bks_units_build(units_of(keys).data(), keys.size(), sizes.data(), sizes.size(),
-                                   numbers.data(), numbers.size(), bytes.data(), bytes.size());
+            size = bks_units_build(detail::units_of(keys).data(), keys.size(), sizes.data(),
+                                   sizes.size(), numbers.data(), numbers.size(), bytes.data(),
+                                   bytes.size());
         if (size == BKS_NO_MEMORY) throw std::bad_alloc();
         if (size < 0) throw entries_refused(static_cast<bks_refusal>(size));
         bytes.resize(static_cast<std::size_t>(size));
@@ -660,7 +681,7 @@ public:
     // getValue).
     std::optional<std::int32_t> operator[](std::u16string_view key) const noexcept {
         std::int32_t value = 0;
-        view<std::uint16_t> units = units_of(key);
+        view<std::uint16_t> units = detail::units_of(key);
         bool found =
             bks_units_get(units_.data(), units_.size(), units.data(), units.size(), &value);
         return found ? std::optional<std::int32_t>(value) : std::nullopt;
@@ -669,7 +690,7 @@ public:
     // Returns the longest key that is a prefix of a UTF-16 text, or nothing if no key is.
     std::optional<match> longest(std::u16string_view text) const noexcept {
         std::int32_t value = 0;
-        view<std::uint16_t> units = units_of(text);
+        view<std::uint16_t> units = detail::units_of(text);
         std::int64_t size =
             bks_units_longest(units_.data(), units_.size(), units.data(), units.size(), &value);
         if (size < 0) return std::nullopt;
@@ -701,7 +722,7 @@ public:
 
     // Returns all keys that are prefixes of a UTF-16 text, the shortest first.
     std::vector<match> prefixes(std::u16string_view text) const {
-        view<std::uint16_t> units = units_of(text);
+        view<std::uint16_t> units = detail::units_of(text);
         return matches_of([&](bks_prefix *found, std::size_t room) {
             return static_cast<std::int64_t>(bks_units_prefixes(
                 units_.data(), units_.size(), units.data(), units.size(), found, room));
@@ -770,10 +791,6 @@ private:
         else
             return static_cast<std::int64_t>(number) >= INT32_MIN &&
                    static_cast<std::int64_t>(number) <= INT32_MAX;
-    }
-
-    static view<std::uint16_t> units_of(std::u16string_view text) noexcept {
-        return {reinterpret_cast<const std::uint16_t *>(text.data()), text.size()};
     }
 
     // Returns the prefixes that a call finds.

@@ -178,11 +178,15 @@ static void sets(const library *l) {
     static uint32_t a[256], b[256], ends[600];
     static uint64_t table[BKS_FROZEN_MOST + 8];
     static char text[512];
+    static uint16_t units[64];
     size_t n = any(9) ? set_of(a, 250, any(6) == 0) : 0, m = set_of(b, 250, any(6) == 0);
     size_t room = any(9) ? any(600) : 0, size = text_of(text, sizeof text, any(5) == 0);
     bool held = any(2);
     PUT(ASK(bks_set_test, SLICE(a, n))), PUT(ASK(bks_set_size, SLICE(a, n)));
     PUT(ASK(bks_set_span, SLICE(a, n), SLICE(text, size), held));
+    PUT(ASK(bks_set_span_back, SLICE(a, n), SLICE(text, size), held));
+    for (size_t i = 0; i < 64; i++) units[i] = (uint16_t)(any(4) ? point() : 0xD7F0 + any(0x820));
+    PUT(ASK(bks_set_span_utf16, SLICE(a, n), SLICE(units, any(64)), held));
     for (int i = 0; i < 30; i++) PUT(ASK(bks_set_contains, a, n, point()));
 #define JOIN(name)                                                                       \
     FILLED(ends), PUT(ASK(name, SLICE(a, n), SLICE(b, m), SLICE(ends, room))), put(ends, sizeof ends)
@@ -196,6 +200,8 @@ static void sets(const library *l) {
     room = any(5) ? room : any(2000);
     for (int i = 0; i < 30; i++) PUT(ASK(bks_frozen_contains, SLICE(table, room), point()));
     PUT(ASK(bks_frozen_span, SLICE(table, room), SLICE(text, size), held));
+    PUT(ASK(bks_frozen_span_back, SLICE(table, room), SLICE(text, size), held));
+    PUT(ASK(bks_frozen_span_utf16, SLICE(table, room), SLICE(units, any(64)), held));
 }
 
 static void keys(const library *l, const uint8_t *bytes, size_t size) {

@@ -159,19 +159,24 @@ static void spans() {
     CHECK(letters.span("Stra\xC3\x9F" "e 7") == "Stra\xC3\x9F" "e");
     CHECK(letters.span("7 a", false) == "7 " && letters.span("").empty());
     CHECK(letters.span(std::string_view()).empty());
-    CHECK(throws<bekstaudi::set_refused>([&] { letters.span("a\xFF"); }));
-    /* Prefixes of each length around the size that is read at a time, also if it splits a
-       character. */
+    CHECK(letters.span("a\xFF") == "a" && throws<bekstaudi::set_refused>([&] { letters.span("\xFF" "a"); }));
+    CHECK(letters.span_back("7 Stra\xC3\x9F" "e") == "Stra\xC3\x9F" "e" && letters.span_back("a7", false) == "7");
+    CHECK(letters.span_back("").empty() && letters.span_back(std::string_view()).empty());
+    CHECK(letters.span_back("\xFF" "a") == "a" && throws<bekstaudi::set_refused>([&] { letters.span_back("a\xFF"); }));
+    CHECK(letters.span(u"a\u00DF7") == u"a\u00DF" && letters.span(u"7\xD800" "a", false) == u"7\xD800");
+    CHECK(letters.span(std::u16string_view()).empty() && letters.span(u"").empty());
     for (size_t size = 0; size < 600; size++)
         for (std::string_view last : {"", "7", "\xC3\x9F", "\xC3\x9F" "7", "\xE4\xB8\x96", "\xF0\x9F\x98\x80"}) {
             std::string text = std::string(size, 'a') + std::string(last) + "7";
             CHECK(letters.span(text).size() == text.find_first_not_of("a\xC3\x9F"));
             CHECK(bekstaudi::frozen_set(letters).span(text) == letters.span(text));
+            CHECK(bekstaudi::frozen_set(letters).span_back(text, false) == letters.span_back(text, false));
         }
     /* An ill-formed part is an error if it is read, and not if it comes later. */
     const std::string before = std::string(100, ' ') + std::string(200, 'a') + "\xFF";
     CHECK(letters.span(before, false).size() == 100);
-    CHECK(throws<bekstaudi::set_refused>([&] { letters.span(std::string_view(before).substr(100)); }));
+    CHECK(letters.span(std::string_view(before).substr(100)).size() == 200);
+    CHECK(throws<bekstaudi::set_refused>([&] { letters.span(std::string_view(before).substr(300)); }));
     for (std::initializer_list<uint32_t> ends : {std::initializer_list<uint32_t>{1}, {2, 1}, {0, 0x110001}})
         CHECK(throws<bekstaudi::set_refused>([&] { code_point_set set(ends); }));
 }
@@ -198,8 +203,11 @@ static void frozen_sets() {
         CHECK(!copy.contains(UINT32_MAX) && copy.span("") == "" && copy.span(std::string_view()).empty());
         for (bool held : {false, true})
             for (std::string_view text : {"A\xC3\x9F" "d", "dA", "AAAA", "\xC3\x9F"})
-                CHECK(copy.span(text, held) == set.span(text, held));
-        CHECK(throws<bekstaudi::set_refused>([&] { copy.span("A\xFF"); }));
+                CHECK(copy.span(text, held) == set.span(text, held) && copy.span_back(text, held) == set.span_back(text, held));
+        for (std::u16string_view text : {u"A\u00DF" u"d", u"dA", u"\xD800", u"\U0001F600" u"A"})
+            CHECK(copy.span(text) == set.span(text) && copy.span(text, false) == set.span(text, false));
+        CHECK(throws<bekstaudi::set_refused>([&] { copy.span("\xFF" "A"); }));
+        CHECK(throws<bekstaudi::set_refused>([&] { copy.span_back("A\xFF"); }));
         refusing = true;
         bool told = throws<std::bad_alloc>([&] { bekstaudi::frozen_set refused(set); });
         refusing = false;

@@ -52,11 +52,16 @@ static void asks(const set_table *s, const uint64_t *table, size_t size) {
 
 /* Texts, and ICU's frozen set of the same ranges. */
 static void spans(const set_table *s, const uint64_t *table, size_t size) {
-    size_t bytes, front[2];
-    char *text = text_about(s, &bytes, front);
+    size_t bytes, front[2], back[2], count, unit_front[2];
+    char *text = text_about(s, &bytes, front, back);
+    uint16_t *units = units_about(s, &count, unit_front);
     for (int held = 0; held < 2; held++) {
         CHECK(bks_frozen_span(table, size, text, bytes, held) == (int64_t)front[held]);
         CHECK(bks_set_span(s->ends, s->count, text, bytes, held) == (int64_t)front[held]);
+        CHECK(bks_frozen_span_back(table, size, text, bytes, held) == (int64_t)back[held]);
+        CHECK(bks_set_span_back(s->ends, s->count, text, bytes, held) == (int64_t)back[held]);
+        CHECK(bks_frozen_span_utf16(table, size, units, count, held) == unit_front[held]);
+        CHECK(bks_set_span_utf16(s->ends, s->count, units, count, held) == unit_front[held]);
     }
 #ifdef WITH_ICU
     USet *icu = uset_openEmpty();
@@ -67,9 +72,14 @@ static void spans(const set_table *s, const uint64_t *table, size_t size) {
         CHECK(bks_frozen_has(table, c) == (bool)uset_contains(icu, (UChar32)c));
     CHECK((size_t)uset_spanUTF8(icu, text, (int32_t)bytes, USET_SPAN_SIMPLE) == front[1]);
     CHECK((size_t)uset_spanUTF8(icu, text, (int32_t)bytes, USET_SPAN_NOT_CONTAINED) == front[0]);
+    CHECK((size_t)uset_spanBackUTF8(icu, text, (int32_t)bytes, USET_SPAN_SIMPLE) == back[1]);
+    CHECK((size_t)uset_spanBackUTF8(icu, text, (int32_t)bytes, USET_SPAN_NOT_CONTAINED) == back[0]);
+    CHECK((size_t)uset_span(icu, (const UChar *)units, (int32_t)count, USET_SPAN_SIMPLE) == unit_front[1]);
+    CHECK((size_t)uset_span(icu, (const UChar *)units, (int32_t)count, USET_SPAN_NOT_CONTAINED) == unit_front[0]);
     uset_close(icu);
 #endif
     released(text, bytes);
+    released(units, 2 * count);
 }
 
 /* Every second code point, so that each block has words of its own; no code point; and all. */
@@ -87,19 +97,63 @@ static void extremes(void) {
     for (uint32_t c = 0; c < CODE_POINTS; c++) CHECK(bks_frozen_has(table, c));
 }
 
-/* Boundaries that are no set, and bytes that are no text. */
+/* Boundaries that are no set. */
 static void refused(void) {
     static const uint32_t lists[][4] = {
         {1, 2, 3, 3}, {1, 2, 2, 3}, {2, 1, 3, 4}, {1, 2, 3, 0x110001}, {1, 1, 3, 4}, {0, 9, 8, 9}};
-    static const char *const texts[] = {"\x80", "a\xFF", "\xED\xA0\x80", "\xC0\x80", "\xF4\x90\x80\x80", "\xE4\xB8"};
     memset(room, 0x77, sizeof room);
     for (size_t i = 0; i < sizeof lists / sizeof lists[0]; i++)
         CHECK(bks_set_freeze(lists[i], 4, room, BKS_FROZEN_MOST) == BKS_NO_SET);
     CHECK(bks_set_freeze(lists[0], 3, room, BKS_FROZEN_MOST) == BKS_NO_SET);
     for (size_t i = 0; i < BKS_FROZEN_MOST; i++) CHECK(room[i] == 0x7777777777777777);
-    for (size_t i = 0; i < sizeof texts / sizeof texts[0]; i++)
-        CHECK(bks_frozen_span(room, BKS_FROZEN_MOST, texts[i], strlen(texts[i]), true) == BKS_NO_TEXT);
-    CHECK(bks_frozen_span(room, 0, "", 0, true) == 0);
+}
+
+/* Ill-formed sequences, in the middle of the text, at its start and at its end. The sequences are
+   those of the Unicode Standard's table 3-8 and others that table 3-7 leaves out. */
+static void ill_formed(void) {
+    static const char *const faults[] = {"\x80",         "\xBF",         "\xC0\x80",         "\xC1\xBF",
+                                         "\xC2",         "\xE0\x80\x80", "\xE0\x9F\xBF",     "\xED\xA0\x80",
+                                         "\xED\xBF\xBF", "\xE4\xB8",     "\xF0\x8F\xBF\xBF", "\xF0\x9F\x98",
+                                         "\xF1\x80",     "\xF4\x90\x80\x80", "\xF5\x80\x80\x80", "\xFE", "\xFF"};
+    static const uint32_t all[] = {0, CODE_POINTS};
+    int64_t size = bks_set_freeze(all, 2, room, BKS_FROZEN_MOST);
+    for (size_t i = 0; i < sizeof faults / sizeof faults[0]; i++) {
+        size_t length = strlen(faults[i]);
+        for (size_t before = 0; before < 3; before++)
+            for (size_t after = 0; after < 3; after++) {
+                char bytes[32];
+                size_t end = 0;
+                for (size_t k = 0; k < before; k++) end += write_utf8(k ? 0x61 : 0x4E16, bytes + end);
+                size_t front = end;
+                memcpy(bytes + end, faults[i], length);
+                end += length;
+                size_t back = end;
+                for (size_t k = 0; k < after; k++) end += write_utf8(k ? 0x1F600 : 0xDF, bytes + end);
+                char *text = (char *)memcpy(before_closed_page(end), bytes, end);
+                int64_t first = before ? (int64_t)front : BKS_NO_TEXT, last = after ? (int64_t)back : BKS_NO_TEXT;
+                CHECK(bks_frozen_span(room, (size_t)size, text, end, true) == first);
+                CHECK(bks_set_span(all, 2, text, end, true) == first);
+                CHECK(bks_frozen_span(room, (size_t)size, text, end, false) == (before ? 0 : BKS_NO_TEXT));
+                CHECK(bks_set_span(all, 2, text, end, false) == (before ? 0 : BKS_NO_TEXT));
+                CHECK(bks_frozen_span_back(room, (size_t)size, text, end, true) == last);
+                CHECK(bks_set_span_back(all, 2, text, end, true) == last);
+                CHECK(bks_frozen_span_back(room, (size_t)size, text, end, false) == (after ? (int64_t)end : BKS_NO_TEXT));
+                CHECK(bks_set_span_back(all, 2, text, end, false) == (after ? (int64_t)end : BKS_NO_TEXT));
+                released(text, end);
+            }
+    }
+    CHECK(bks_frozen_span(room, (size_t)size, "", 0, true) == 0 && bks_set_span(all, 2, "", 0, false) == 0);
+    CHECK(bks_frozen_span_back(room, (size_t)size, "", 0, true) == 0 && bks_set_span_back(all, 2, "", 0, false) == 0);
+}
+
+/* A set of a surrogate: pairs are one code point, and unpaired surrogates one each (ICU: uset_span). */
+static void surrogates(void) {
+    static const uint32_t high[] = {0xD835, 0xD836}, pair[] = {0x1D400, 0x1D401};
+    static const uint16_t text[] = {0xD835, 0xDC00, 0xD835, 0xD835, 0xDC00, 0xDC00};
+    CHECK(bks_set_span_utf16(high, 2, text, 6, true) == 0 && bks_set_span_utf16(high, 2, text, 6, false) == 2);
+    CHECK(bks_set_span_utf16(pair, 2, text, 6, true) == 2 && bks_set_span_utf16(pair, 2, text + 2, 4, false) == 1);
+    CHECK(bks_set_span_utf16(high, 2, text + 2, 1, true) == 1 && bks_set_span_utf16(high, 2, text + 5, 1, false) == 1);
+    CHECK(bks_set_span_utf16(pair, 2, text, 0, true) == 0);
 }
 
 /* Changes a few words of the table, or cuts it off: the results are what the words say. */
@@ -119,6 +173,10 @@ static void damaged(const uint64_t *table, size_t size) {
         for (size_t i = 0; i < 11 && said(copy, count, characters[i]) == held; i++)
             front += (int64_t)write_utf8(characters[i], part);
         CHECK(bks_frozen_span(copy, count, text, sizeof text - 1, held) == front);
+        int64_t back = sizeof text - 1;
+        for (size_t i = 11; i > 0 && said(copy, count, characters[i - 1]) == held; i--)
+            back -= (int64_t)write_utf8(characters[i - 1], part);
+        CHECK(bks_frozen_span_back(copy, count, text, sizeof text - 1, held) == back);
     }
     released(copy, 8 * count);
 }
@@ -136,6 +194,8 @@ int main(int count, char **words) {
     }
     extremes();
     refused();
+    ill_formed();
+    surrogates();
     printf("%s frozen sets, each damaged %s times\n", words[1], words[2]);
     return 0;
 }

@@ -40,23 +40,49 @@ static inline void make(set_table *s) {
         memset(s->held + s->ends[i], 1, s->ends[i + 1] - s->ends[i]);
 }
 
-/* Makes a text of characters in and near the set, before a closed page, and the sizes of its
-   spans. */
-static inline char *text_about(const set_table *s, size_t *size, size_t front[2]) {
+/* A code point in or near the set. The first ones are alike, so that spans are not all short. */
+static inline uint32_t point_near(const set_table *s, int i) {
+    uint32_t c = s->count && below(8) ? s->ends[below((uint32_t)s->count)] : below(CODE_POINTS);
+    return i < 32 && s->count ? s->ends[0] : c < CODE_POINTS ? c : CODE_POINTS - 1;
+}
+
+/* Makes a text of characters in and near the set, before a closed page, the sizes of its spans, and
+   the offsets of its spans from the end. */
+static inline char *text_about(const set_table *s, size_t *size, size_t front[2], size_t back[2]) {
     static char text[1 << 12];
     bool going[2] = {true, true};
-    *size = front[0] = front[1] = 0;
-    for (int i = 0; i < 256; i++) {
-        uint32_t c = s->count && below(8) ? s->ends[below((uint32_t)s->count)] : below(CODE_POINTS);
-        c = i < 32 && s->count ? s->ends[0] : c < CODE_POINTS ? c : CODE_POINTS - 1;
+    *size = front[0] = front[1] = back[0] = back[1] = 0;
+    for (int i = 0; i < 288; i++) {
+        uint32_t c = point_near(s, i < 256 ? i : 0);
         if (c >= 0xD800 && c < 0xE000) continue;
         *size += write_utf8(c, text + *size);
         for (int held = 0; held < 2; held++) {
             going[held] = going[held] && s->held[c] == held;
             if (going[held]) front[held] = *size;
+            if (s->held[c] != held) back[held] = *size;
         }
     }
     return (char *)memcpy(before_closed_page(*size), text, *size);
+}
+
+/* Makes units of code points in and near the set, before a closed page, and the sizes of its spans.
+   A surrogate follows only characters, so that none is part of a pair. */
+static inline uint16_t *units_about(const set_table *s, size_t *count, size_t front[2]) {
+    static uint16_t units[600];
+    bool going[2] = {true, true}, is_high = false;
+    *count = front[0] = front[1] = 0;
+    for (int i = 0; i < 256; i++) {
+        uint32_t c = point_near(s, i);
+        if (is_high && c >= 0xDC00 && c < 0xE000) continue;
+        is_high = c >= 0xD800 && c < 0xDC00;
+        if (c > 0xFFFF) units[(*count)++] = (uint16_t)(0xD7C0 + (c >> 10));
+        units[(*count)++] = (uint16_t)(c > 0xFFFF ? 0xDC00 + (c & 0x3FF) : c);
+        for (int held = 0; held < 2; held++) {
+            going[held] = going[held] && s->held[c] == held;
+            if (going[held]) front[held] = *count;
+        }
+    }
+    return (uint16_t *)memcpy(before_closed_page(2 * *count), units, 2 * *count);
 }
 
 #endif

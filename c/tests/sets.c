@@ -46,16 +46,24 @@ static void joined(int64_t count, const uint32_t *ends, const bool wanted[2][2])
 
 /* The span of a text. */
 static void spans(const set_table *s) {
-    size_t size, front[2];
-    char *text = text_about(s, &size, front);
-    for (int held = 0; held < 2; held++)
+    size_t size, front[2], back[2], count, unit_front[2];
+    char *text = text_about(s, &size, front, back);
+    uint16_t *units = units_about(s, &count, unit_front);
+    for (int held = 0; held < 2; held++) {
         CHECK(bks_set_span(s->ends, s->count, text, size, held) == (int64_t)front[held]);
+        CHECK(bks_set_span_back(s->ends, s->count, text, size, held) == (int64_t)back[held]);
+        CHECK(bks_set_span_utf16(s->ends, s->count, units, count, held) == unit_front[held]);
+    }
 #ifdef WITH_ICU
     USet *icu = uset_openEmpty();
     for (size_t i = 0; i < s->count; i += 2)
         uset_addRange(icu, (UChar32)s->ends[i], (UChar32)s->ends[i + 1] - 1);
     CHECK((size_t)uset_spanUTF8(icu, text, (int32_t)size, USET_SPAN_SIMPLE) == front[1]);
     CHECK((size_t)uset_spanUTF8(icu, text, (int32_t)size, USET_SPAN_NOT_CONTAINED) == front[0]);
+    CHECK((size_t)uset_spanBackUTF8(icu, text, (int32_t)size, USET_SPAN_SIMPLE) == back[1]);
+    CHECK((size_t)uset_spanBackUTF8(icu, text, (int32_t)size, USET_SPAN_NOT_CONTAINED) == back[0]);
+    CHECK((size_t)uset_span(icu, (const UChar *)units, (int32_t)count, USET_SPAN_SIMPLE) == unit_front[1]);
+    CHECK((size_t)uset_span(icu, (const UChar *)units, (int32_t)count, USET_SPAN_NOT_CONTAINED) == unit_front[0]);
     CHECK(uset_size(icu) == bks_set_size(s->ends, s->count));
     uset_close(icu);
 #endif
@@ -73,7 +81,8 @@ static void refused(void) {
         CHECK(bks_set_difference(good, 2, lists[i], 4, ends, 4) == BKS_NO_SET);
         CHECK(bks_set_symmetric_difference(lists[i], 4, lists[i], 4, ends, 4) == BKS_NO_SET);
         CHECK(bks_set_size(lists[i], 4) == BKS_NO_SET);
-        CHECK(bks_set_span(lists[i], 4, "a", 1, true) == BKS_NO_SET);
+        int64_t any = bks_set_span(lists[i], 4, "a", 1, true);
+        CHECK(any >= 0 && any <= 1 && bks_set_span(lists[i], 4, "\x80", 1, true) == BKS_NO_TEXT);
     }
     CHECK(!bks_set_test(good, 1) && bks_set_test(good, 0) && ends[0] == 7 && ends[3] == 7);
     CHECK(bks_set_span(good, 2, "\x80", 1, true) == BKS_NO_TEXT);

@@ -12,6 +12,8 @@ mod OpeningLemmas
 mod RangeLemmas
 mod RunLemmas
 mod SetLemmas
+mod KindLemmas
+mod SpanLemmas
 mod SetMakingLemmas
 mod SetPlaceLemmas
 mod UnitLemmas

@@ -18,7 +18,7 @@ pub record Ascend (ends : List ℕ) (i next : ℕ) : Type 0 where
   pub last : 0 < i → get_or ends (i - 1) 0 + 1 ≡ next
 
 -- Boundaries that rise do not fall.
-rises : (xs : List ℕ) (i n : ℕ) → IsStrictlyIncreasing xs → i + n < length xs → get_or xs i 0 ≤ get_or xs (i + n) 0
+pub rises : (xs : List ℕ) (i n : ℕ) → IsStrictlyIncreasing xs → i + n < length xs → get_or xs i 0 ≤ get_or xs (i + n) 0
 rises xs i zero up l = rw add-zero (omega arith)
 rises xs i (suc n) up l =
     let before = rises xs i n up (omega arith) in

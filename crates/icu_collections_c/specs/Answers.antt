@@ -35,15 +35,6 @@ AnswersNumber is_set n returned =
     (is_set × ((returned ≡ pos n) ⊎ (returned ≡ refused NoMemory)))
     ⊎ (¬ is_set × (returned ≡ refused NoSet))
 
--- If the boundaries are those of a set and the bytes are a `text`: the number n, which is a
--- position in the text, or `NoMemory` if an allocation failed. If they are not those of a set:
--- `NoSet`. If they are, and the bytes are not a text: `NoText`.
-abbrev pub AnswersSpan : Type 0 → Type 0 → ℕ → (ℕ → Type 0) → ℤ → Type 0
-AnswersSpan is_set text n is_place returned =
-    (is_set × text × (((returned ≡ pos n) × is_place n) ⊎ (returned ≡ refused NoMemory)))
-    ⊎ (is_set × ¬ text × (returned ≡ refused NoText))
-    ⊎ (¬ is_set × (returned ≡ refused NoSet))
-
 -- If the bytes are a `text`: the number of values, and the buffer holds as many of them as fit. If
 -- they are not: `NoText`, and the buffer is unchanged.
 abbrev pub AnswersText : {T : Type 0} → Type 0 → List T → List T → List T → ℤ → Type 0

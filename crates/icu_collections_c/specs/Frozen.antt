@@ -8,7 +8,7 @@ use Rattle.icu_zerovec.specs.CodePoints.{code_point_limit}
 use Rattle.icu_invlist.specs.InversionList.{IsValid, holds}
 use Rattle.icu_collections_c.specs.Building.{written_whole}
 use Rattle.icu_collections_c.specs.Status.{refused}
-use Rattle.icu_collections_c.specs.declared.status.Refusal.TheVariants.{NoMemory, NoSet, NoText}
+use Rattle.icu_collections_c.specs.declared.status.Refusal.TheVariants.{NoMemory, NoSet}
 
 -- The offset of block b.
 abbrev pub place_in : List ℕ → ℕ → ℕ
@@ -46,9 +46,3 @@ AnswersFrozen ends old new returned =
     ((n : ℕ) × (returned ≡ pos n) × IsValid ends × HasFrozen ends old new n)
     ⊎ ((returned ≡ refused NoSet) × ¬ (IsValid ends) × (new ≡ old))
     ⊎ ((returned ≡ refused NoMemory) × IsValid ends × (new ≡ old))
-
--- If the bytes are a `text`: the number n, which is a position in the text. If they are not:
--- `NoText`.
-abbrev pub AnswersPlace : Type 0 → ℕ → (ℕ → Type 0) → ℤ → Type 0
-AnswersPlace text n is_place returned =
-    (text × (returned ≡ pos n) × is_place n) ⊎ (¬ text × (returned ≡ refused NoText))

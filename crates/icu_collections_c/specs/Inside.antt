@@ -2,6 +2,7 @@
 -- them.
 pub mod BuiltValues
 pub mod Joined
+pub mod Kinds
 pub mod Listed
 pub mod NumberLaws
 pub mod Operations

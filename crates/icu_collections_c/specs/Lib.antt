@@ -10,6 +10,7 @@ pub mod Opening
 pub mod Ranges
 pub mod SetBuilding
 pub mod SetQueries
+pub mod Spans
 pub mod Status
 pub mod UnitBuilding
 pub mod UnitNodes

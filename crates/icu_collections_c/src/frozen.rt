@@ -1,11 +1,8 @@
 //! Frozen sets in the caller's 64-bit words, and look-ups in them.
 ghost use Rattle.std.specs.Prelude.{◌≡◌, ℕ, ◌+◌, ◌*◌, ◌≤◌, ◌++◌, List, IfOk, length, slice_index};
-ghost use Rattle.std.specs.List.{take_while};
-ghost use Rattle.std.specs.Str.{IsCharBoundary, IsUtf8, chars, encode_utf8_all};
-ghost use mathlib.Core.Bool.{beq};
 ghost use Rattle.icu_invlist.specs.InversionList.{IsValid, holds};
 ghost use Rattle.icu_collections_c.specs.Building.{written_whole};
-ghost use Rattle.icu_collections_c.specs.Frozen.{AnswersFrozen, AnswersPlace, IsFrozenOf, bit_in, is_held, place_in};
+ghost use Rattle.icu_collections_c.specs.Frozen.{AnswersFrozen, IsFrozenOf, bit_in, is_held, place_in};
 ghost use Rattle.icu_collections_c.specs.Inside.PackedPlaces.{packed, word_at};
 
 use crate::sets::bks_set_test;
@@ -16,11 +13,11 @@ use icu_zerovec::{CODE_POINT_LIMIT, MemoryError};
 use std::alloc::Global;
 
 /// How many words the block offsets take.
-const PLACE_WORDS: usize = 1088;
+pub(crate) const PLACE_WORDS: usize = 1088;
 
 /// Returns the word at this index, or 0 if there is none.
 #[inline(always)]
-fn word(table: &[u64], place: usize) -> u64
+pub(crate) fn word(table: &[u64], place: usize) -> u64
     ensures { result ≡ slice_index table.now place }
 {
     if place < table.len() { table[place] } else { 0 }
@@ -28,7 +25,7 @@ fn word(table: &[u64], place: usize) -> u64
 
 /// Returns the offset of the block's words.
 #[inline(always)]
-fn place_of(table: &[u64], block: u32) -> usize
+pub(crate) fn place_of(table: &[u64], block: u32) -> usize
     ensures { result ≡ place_in table.now block }
 {
     let four = word(table, (block / 4) as usize);
@@ -46,7 +43,7 @@ fn bit_of(table: &[u64], c: u32) -> bool
 
 /// Returns whether the frozen set contains the code point.
 #[inline(always)]
-fn contains(table: &[u64], c: u32) -> bool
+pub(crate) fn contains(table: &[u64], c: u32) -> bool
     ensures { result ≡ is_held table.now c }
 {
     c < CODE_POINT_LIMIT && bit_of(table, c)
@@ -135,48 +132,4 @@ pub extern "C" fn bks_frozen_contains(table: &[u64], c: u32) -> bool
         → result ≡ holds ends c }
 {
     contains(table, c)
-}
-
-/// Returns the size in bytes of the longest prefix of a text whose characters are all in the set
-/// or, if `held` is false, all not in it.
-fn span(table: &[u64], text: &str, held: bool) -> usize
-    ensures place { result
-        ≡ length (encode_utf8_all
-        (take_while (λ c. beq (is_held table.now c) held) (chars text.now))) }
-    ensures boundary { IsCharBoundary text.now result }
-{
-    let mut length = 0;
-    for c in text.chars() {
-        if contains(table, u32::from(c)) != held {
-            return length;
-        }
-        length += c.len_utf8();
-    }
-    length
-}
-
-/// Returns the size in bytes of the longest prefix of a UTF-8 text whose characters are all in the
-/// frozen set at the start of the words or, if `held` is false, all not in it. The prefix ends at a
-/// character boundary. Any words are accepted, as by [`bks_frozen_contains`].
-///
-/// ICU: `uset_spanUTF8`.
-///
-/// # Errors
-/// Returns the number of [`Refusal::NoText`] if the text is not UTF-8.
-#[unsafe(no_mangle)]
-pub extern "C" fn bks_frozen_span(table: &[u64], text: &[u8], held: bool) -> i64
-    ensures exact { AnswersPlace (IsUtf8 text.now)
-        (length (encode_utf8_all
-        (take_while (λ c. beq (is_held table.now c) held) (chars text.now))))
-        (IsCharBoundary text.now) result }
-    ensures set { (ends words rest : List ℕ) → IsFrozenOf ends words → table.now ≡ words ++ rest
-        → AnswersPlace (IsUtf8 text.now)
-        (length (encode_utf8_all
-        (take_while (λ c. beq (holds ends c) held) (chars text.now))))
-        (IsCharBoundary text.now) result }
-{
-    match str::from_utf8(text) {
-        Ok(text) => span(table, text, held) as i64,
-        Err(_) => Refusal::NoText.number(),
-    }
 }

@@ -16,6 +16,7 @@
 //! - `set_building`: sets made from ranges, from single code points or from another set
 //! - `set_queries`: subsets, and the code points of a set by their index
 //! - `frozen`: frozen sets in words, and look-ups in them
+//! - `spans`: the spans of a text; `kinds`: what they test characters for
 //! - `unit_tries`: look-ups in unit tries; `units`: helpers of them
 //! - `unit_texts`: unit tries whose keys are texts in UTF-8; `unit_keys`: transcodes them
 //! - `unit_prefixes`: the keys that are prefixes of a text
@@ -32,6 +33,7 @@ mod buffers;
 pub mod building;
 mod cells;
 pub mod frozen;
+mod kinds;
 pub mod listing;
 pub mod opening;
 pub mod ranges;
@@ -39,6 +41,7 @@ pub mod set_building;
 pub mod set_operations;
 pub mod set_queries;
 pub mod sets;
+pub mod spans;
 pub mod status;
 pub mod texts;
 pub mod tries;

@@ -1,11 +1,8 @@
 //! Sets of code points as lists of their boundaries.
-ghost use Rattle.std.specs.Prelude.{◌≡◌, ◌↔◌, IsTrue, length};
-ghost use Rattle.std.specs.List.{take_while};
-ghost use Rattle.std.specs.Str.{IsCharBoundary, IsUtf8, chars, encode_utf8_all};
-ghost use mathlib.Core.Bool.{beq};
+ghost use Rattle.std.specs.Prelude.{◌≡◌, ◌↔◌, IsTrue};
 ghost use Rattle.icu_zerovec.specs.CodePoints.{code_point_limit};
 ghost use Rattle.icu_invlist.specs.InversionList.{IsValid, holds, members_below};
-ghost use Rattle.icu_collections_c.specs.Answers.{AnswersNumber, AnswersSpan};
+ghost use Rattle.icu_collections_c.specs.Answers.{AnswersNumber};
 
 use crate::status::Refusal;
 use icu_invlist::codepointinvlist::CodePointInversionList;
@@ -61,36 +58,6 @@ pub extern "C" fn bks_set_size(alloc: Global, ends: &[u32]) -> i64
     }
     match CodePointInversionList::from_valid_slice(alloc, ends) {
         Ok(set) => set.size() as i64,
-        Err(_) => Refusal::NoMemory.number(),
-    }
-}
-
-/// Returns the size in bytes of the longest prefix of a UTF-8 text whose characters are all in the
-/// set or, if `held` is false, all not in it. The prefix ends at a character boundary.
-///
-/// ICU: `uset_spanUTF8`.
-///
-/// # Errors
-/// Returns the number of the first of these that applies:
-///
-/// - [`Refusal::NoSet`] if the numbers are not the boundaries of a set
-/// - [`Refusal::NoText`] if the text is not UTF-8
-/// - [`Refusal::NoMemory`] if an allocation fails
-#[unsafe(no_mangle)]
-pub extern "C" fn bks_set_span(alloc: Global, ends: &[u32], text: &[u8], held: bool) -> i64
-    ensures { AnswersSpan (IsValid ends.now) (IsUtf8 text.now)
-        (length (encode_utf8_all
-        (take_while (λ c. beq (holds ends.now c) held) (chars text.now))))
-        (IsCharBoundary text.now) result }
-{
-    if !bks_set_test(ends) {
-        return Refusal::NoSet.number();
-    }
-    let Ok(text) = str::from_utf8(text) else {
-        return Refusal::NoText.number();
-    };
-    match CodePointInversionList::from_valid_slice(alloc, ends) {
-        Ok(set) => set.span(text, held) as i64,
         Err(_) => Refusal::NoMemory.number(),
     }
 }

@@ -1,0 +1,201 @@
+//! What a span tests characters for: that they are in a set, or that they are outside it.
+ghost use Rattle.std.specs.Prelude.{◌≡◌, ◌-◌, ◌<◌, ◌≤◌, ◌==◌, ℕ, length, slice_index};
+ghost use Rattle.std.specs.Int.{bit_at};
+ghost use mathlib.Core.Bool.{beq};
+ghost use Rattle.icu_invlist.specs.InversionList.{IsValid, holds};
+ghost use Rattle.icu_collections_c.specs.Frozen.{is_held};
+ghost use Rattle.icu_collections_c.specs.Inside.Kinds.{IsRangeOfKind};
+
+use crate::frozen::{PLACE_WORDS, contains, place_of, word};
+use icu_zerovec::CODE_POINT_LIMIT;
+use std::marker::Model;
+
+/// The code points in a set, or those outside it.
+pub(crate) trait Kind {
+    ghost use Rattle.std.specs.Prelude.{◌≡◌, ◌<◌, ℕ, Bool};
+    ghost use mathlib.Core.Bool.{beq};
+
+    /// There is such a set.
+    ghost is_sound: { Self → Type 0 };
+
+    /// Whether the set contains a code point.
+    ghost is_in: { Self → ℕ → Bool };
+
+    /// Whether the code points in the set are meant, or those outside it.
+    ghost held: { Self → Bool };
+
+    /// Returns true if the code point is of this kind.
+    fn has(&mut self, c: u32) -> bool
+        ensures same { self.new ≡ self.old }
+        ensures is { is_sound self.old → result ≡ beq (is_in self.old c) (held self.old) };
+
+    /// Returns true if the ASCII character is of this kind.
+    fn has_ascii(&mut self, c: u32) -> bool
+        requires { c < 128 }
+        ensures same { self.new ≡ self.old }
+        ensures is { is_sound self.old → result ≡ beq (is_in self.old c) (held self.old) };
+}
+
+/// A kind by the words of a frozen set.
+#[derive(Drop)]
+pub(crate) struct FrozenKind<'a> {
+    table: &'a [u64],
+    held: bool,
+    /// A bit for each ASCII character: whether it is of this kind.
+    ascii: [u64; 2],
+}
+
+impl<'a> Model for FrozenKind<'a> {
+    ghost use Rattle.icu_collections_c.specs.Inside.Kinds.{HasAscii, NumbersAndHeld};
+
+    ghost Value = { NumbersAndHeld };
+
+    ghost view = { λ a. record { numbers = a.table.now; held = a.held } };
+
+    ghost invariant = { λ a. HasAscii a.table.now a.held a.ascii };
+}
+
+/// Returns the word if `held` is true, and otherwise the word with each bit the other way.
+#[inline(always)]
+fn turned(word: u64, held: bool) -> u64
+    ensures { (i : ℕ) → i < 64 → (bit_at result i == 1) ≡ beq (bit_at word i == 1) held }
+{
+    if held { word } else { !word }
+}
+
+impl<'a> FrozenKind<'a> {
+    /// Returns the kind by the frozen set at the start of the words.
+    #[inline(always)]
+    pub(crate) fn new(table: &'a [u64], held: bool) -> FrozenKind<'a>
+        ensures { result ≡ record { numbers = table.now; held = held } }
+    {
+        let first = PLACE_WORDS + place_of(table, 0);
+        let ascii = [
+            turned(word(table, first), held),
+            turned(word(table, first + 1), held),
+        ];
+        FrozenKind { table, held, ascii }
+    }
+}
+
+impl<'a> Kind for FrozenKind<'a> {
+    ghost is_sound = { λ kind. Unit {0} };
+
+    ghost is_in = { λ kind. is_held kind.numbers };
+
+    ghost held = { λ kind. kind.held };
+
+    #[inline(always)]
+    fn has(&mut self, c: u32) -> bool {
+        contains(self.table, c) == self.held
+    }
+
+    #[inline(always)]
+    fn has_ascii(&mut self, c: u32) -> bool {
+        (self.ascii[(c / 64) as usize] >> (c % 64)) & 1 == 1
+    }
+}
+
+/// The code points between two boundaries of a set that follow one another, and whether they are of
+/// a kind.
+#[derive(Clone, Copy)]
+pub(crate) struct RangeOfKind {
+    /// The first code point.
+    from: u32,
+    /// The code point after the last one.
+    to: u32,
+    /// Whether they are of the kind.
+    is_of_kind: bool,
+}
+
+/// Returns the boundary before index `i`, or 0 if there is none.
+#[inline(always)]
+fn boundary_before(ends: &[u32], i: usize) -> u32
+    requires { i ≤ length ends.now }
+    ensures { 0 < i → result ≡ slice_index ends.now (i - 1) }
+{
+    if i > 0 { ends[i - 1] } else { 0 }
+}
+
+/// Returns the boundary at index `i`, or the end of the code space if there is none.
+#[inline(always)]
+fn boundary_at(ends: &[u32], i: usize) -> u32
+    ensures { i < length ends.now → result ≡ slice_index ends.now i }
+{
+    if i < ends.len() {
+        ends[i]
+    } else {
+        CODE_POINT_LIMIT
+    }
+}
+
+/// Returns the range that contains the code point. As the boundaries ascend, at most `c + 1` of them
+/// are not above `c`.
+#[inline(never)]
+fn range_at(ends: &[u32], held: bool, c: u32) -> RangeOfKind
+    ensures range { IsRangeOfKind ends.now held result.from result.to result.is_of_kind }
+    ensures here { IsValid ends.now → result.is_of_kind ≡ beq (holds ends.now c) held }
+{
+    let most = ends.len().min(c as usize + 1);
+    let before = ends[..most].partition_point(|end| *end <= c);
+    RangeOfKind {
+        from: boundary_before(ends, before),
+        to: boundary_at(ends, before),
+        is_of_kind: (before % 2 == 1) == held,
+    }
+}
+
+/// A kind by the boundaries of a set. It remembers the range that it searched last.
+#[derive(Drop)]
+pub(crate) struct EndsKind<'a> {
+    ends: &'a [u32],
+    held: bool,
+    range: RangeOfKind,
+}
+
+impl<'a> Model for EndsKind<'a> {
+    ghost use Rattle.icu_collections_c.specs.Inside.Kinds.{IsRangeOfKind, NumbersAndHeld};
+
+    ghost Value = { NumbersAndHeld };
+
+    ghost view = { λ a. record { numbers = a.ends.now; held = a.held } };
+
+    ghost invariant = { λ a. IsRangeOfKind a.ends.now a.held a.range.from a.range.to
+        a.range.is_of_kind };
+}
+
+impl<'a> EndsKind<'a> {
+    /// Returns the kind by the set with these boundaries. No range is known yet.
+    #[inline(always)]
+    pub(crate) fn new(ends: &'a [u32], held: bool) -> EndsKind<'a>
+        ensures { result ≡ record { numbers = ends.now; held = held } }
+    {
+        let range = RangeOfKind {
+            from: 0,
+            to: 0,
+            is_of_kind: false,
+        };
+        EndsKind { ends, held, range }
+    }
+}
+
+impl<'a> Kind for EndsKind<'a> {
+    ghost is_sound = { λ kind. IsValid kind.numbers };
+
+    ghost is_in = { λ kind. holds kind.numbers };
+
+    ghost held = { λ kind. kind.held };
+
+    #[inline(always)]
+    fn has(&mut self, c: u32) -> bool {
+        if c < self.range.from || c >= self.range.to {
+            self.range = range_at(self.ends, self.held, c);
+        }
+        self.range.is_of_kind
+    }
+
+    #[inline(always)]
+    fn has_ascii(&mut self, c: u32) -> bool {
+        self.has(c)
+    }
+}

@@ -1,0 +1,225 @@
+//! The spans of a text: its longest prefix or suffix of characters that are all in a set, or all
+//! outside it.
+ghost use Rattle.std.specs.Prelude.{◌≡◌, ◌<◌, ◌≤◌, ◌++◌, ◌∷◌, [], ℕ, List, true, false, length, slice_index};
+ghost use mathlib.Core.Bool.{beq};
+ghost use Rattle.icu_invlist.specs.InversionList.{IsValid, holds};
+ghost use Rattle.icu_collections_c.specs.Frozen.{IsFrozenOf, is_held};
+ghost use Rattle.icu_collections_c.specs.Spans.{AnswersSpan, AnswersSpanBack, AnswersTextSpan, AnswersTextSpanBack, unit_count, unit_span};
+
+use crate::kinds::{EndsKind, FrozenKind, Kind};
+use crate::status::Refusal;
+use icu_trie_text::characters::{first_character, last_character};
+use icu_trie_text::first_utf16::first_code_point;
+
+/// Returns the offset of the first byte from `start` on that is not ASCII or not of the kind. If
+/// there is none, returns the length of the bytes.
+#[inline(always)]
+fn past_ascii<K: Kind>(kind: &mut K, bytes: &[u8], start: usize) -> usize
+    requires { start ≤ length bytes.now }
+    ensures same { kind.new ≡ kind.old }
+    ensures order { start ≤ result }
+    ensures within { result ≤ length bytes.now }
+    ensures ascii { (i : ℕ) → start ≤ i → i < result → slice_index bytes.now i < 128 }
+    ensures passed { K.is_sound kind.old → (i : ℕ) → start ≤ i → i < result
+        → beq (K.is_in kind.old (slice_index bytes.now i)) (K.held kind.old) ≡ true }
+    ensures stops { K.is_sound kind.old → result < length bytes.now
+        → slice_index bytes.now result < 128
+        → beq (K.is_in kind.old (slice_index bytes.now result)) (K.held kind.old) ≡ false }
+{
+    let mut end = start;
+    while end < bytes.len() {
+        let byte = bytes[end];
+        if byte >= 0x80 {
+            return end;
+        }
+        if !kind.has_ascii(u32::from(byte)) {
+            return end;
+        }
+        end += 1;
+    }
+    end
+}
+
+/// Returns the length of the longest prefix whose characters are all of the kind, or the number of
+/// [`Refusal::NoText`] if the bytes are not empty and do not start with a character.
+#[inline(always)]
+fn span<K: Kind>(kind: &mut K, bytes: &[u8]) -> i64
+    ensures { K.is_sound kind.old
+        → AnswersSpan (K.is_in kind.old) (K.held kind.old) bytes.now result }
+{
+    let mut passed = 0;
+    loop {
+        passed = past_ascii(kind, bytes, passed);
+        if passed >= bytes.len() {
+            return passed as i64;
+        }
+        if bytes[passed] < 0x80 {
+            return passed as i64;
+        }
+        let Some((c, size)) = first_character(&bytes[passed..]) else {
+            if passed > 0 {
+                return passed as i64;
+            }
+            return Refusal::NoText.number();
+        };
+        if !kind.has(u32::from(c)) {
+            return passed as i64;
+        }
+        passed += size;
+    }
+}
+
+/// Returns the offset of the longest suffix whose characters are all of the kind, or the number of
+/// [`Refusal::NoText`] if the bytes are not empty and do not end with a character.
+#[inline(always)]
+fn span_back<K: Kind>(kind: &mut K, bytes: &[u8]) -> i64
+    ensures { K.is_sound kind.old
+        → AnswersSpanBack (K.is_in kind.old) (K.held kind.old) bytes.now result }
+{
+    let mut start = bytes.len();
+    while start > 0 {
+        let Some((c, size)) = last_character(&bytes[..start]) else {
+            if start < bytes.len() {
+                return start as i64;
+            }
+            return Refusal::NoText.number();
+        };
+        if !kind.has(u32::from(c)) {
+            return start as i64;
+        }
+        start -= size;
+    }
+    0
+}
+
+/// Returns the number of 16-bit units of a code point.
+#[inline(always)]
+fn unit_size(c: u32) -> usize
+    ensures { result ≡ unit_count (c ∷ []) }
+{
+    if c < 0x1_0000 { 1 } else { 2 }
+}
+
+/// Returns the number of units of the longest prefix whose code points are all of the kind.
+#[inline(always)]
+fn span_units<K: Kind>(kind: &mut K, units: &[u16]) -> usize
+    ensures { K.is_sound kind.old
+        → result ≡ unit_span (K.is_in kind.old) (K.held kind.old) units.now }
+{
+    let mut passed = 0;
+    let mut rest = units;
+    while let Some((c, after)) = first_code_point(rest) {
+        if !kind.has(c) {
+            return passed;
+        }
+        passed += unit_size(c);
+        rest = after;
+    }
+    passed
+}
+
+/// Returns the length in bytes of the longest prefix of the text that is UTF-8 and whose characters
+/// are all in the frozen set at the start of the words or, if `held` is false, all outside it. Reads
+/// no further than the character after the span. Any words are accepted, as by
+/// [`bks_frozen_contains`](crate::frozen::bks_frozen_contains).
+///
+/// ICU: `uset_spanUTF8`, which takes an ill-formed sequence for U+FFFD instead.
+///
+/// # Errors
+/// Returns the number of [`Refusal::NoText`] if the text is not empty and does not start with a
+/// character.
+#[unsafe(no_mangle)]
+pub extern "C" fn bks_frozen_span(table: &[u64], text: &[u8], held: bool) -> i64
+    ensures exact { AnswersSpan (is_held table.now) held text.now result }
+    ensures text { AnswersTextSpan (is_held table.now) held text.now result }
+    ensures set { (ends words rest : List ℕ) → IsFrozenOf ends words → table.now ≡ words ++ rest
+        → AnswersSpan (holds ends) held text.now result }
+    ensures text_set { (ends words rest : List ℕ) → IsFrozenOf ends words
+        → table.now ≡ words ++ rest → AnswersTextSpan (holds ends) held text.now result }
+{
+    span(&mut FrozenKind::new(table, held), text)
+}
+
+/// Returns the offset in bytes of the longest suffix of the text that is UTF-8 and whose characters
+/// are all in the frozen set at the start of the words or, if `held` is false, all outside it. Reads
+/// no further than the four bytes before the span. Any words are accepted.
+///
+/// ICU: `uset_spanBackUTF8`, which takes an ill-formed sequence for U+FFFD instead.
+///
+/// # Errors
+/// Returns the number of [`Refusal::NoText`] if the text is not empty and does not end with a
+/// character.
+#[unsafe(no_mangle)]
+pub extern "C" fn bks_frozen_span_back(table: &[u64], text: &[u8], held: bool) -> i64
+    ensures exact { AnswersSpanBack (is_held table.now) held text.now result }
+    ensures text { AnswersTextSpanBack text.now result }
+    ensures set { (ends words rest : List ℕ) → IsFrozenOf ends words → table.now ≡ words ++ rest
+        → AnswersSpanBack (holds ends) held text.now result }
+{
+    span_back(&mut FrozenKind::new(table, held), text)
+}
+
+/// Returns the number of units of the longest prefix of 16-bit units whose code points are all in
+/// the frozen set at the start of the words or, if `held` is false, all outside it. A high surrogate
+/// and the low surrogate after it are one code point. Each other unit is a code point of its own,
+/// even an unpaired surrogate. Any words are accepted.
+///
+/// ICU: `uset_span`.
+#[unsafe(no_mangle)]
+pub extern "C" fn bks_frozen_span_utf16(table: &[u64], text: &[u16], held: bool) -> usize
+    ensures exact { result ≡ unit_span (is_held table.now) held text.now }
+    ensures set { (ends words rest : List ℕ) → IsFrozenOf ends words → table.now ≡ words ++ rest
+        → result ≡ unit_span (holds ends) held text.now }
+{
+    span_units(&mut FrozenKind::new(table, held), text)
+}
+
+/// Returns the length in bytes of the longest prefix of the text that is UTF-8 and whose characters
+/// are all in the set with these boundaries or, if `held` is false, all outside it. Reads no further
+/// than the character after the span. The result is unspecified (but memory-safe) if
+/// [`bks_set_test`](crate::sets::bks_set_test) returns false.
+///
+/// ICU: `uset_spanUTF8`, which takes an ill-formed sequence for U+FFFD instead.
+///
+/// # Errors
+/// Returns the number of [`Refusal::NoText`] if the text is not empty and does not start with a
+/// character.
+#[unsafe(no_mangle)]
+pub extern "C" fn bks_set_span(ends: &[u32], text: &[u8], held: bool) -> i64
+    ensures exact { IsValid ends.now → AnswersSpan (holds ends.now) held text.now result }
+    ensures text { IsValid ends.now → AnswersTextSpan (holds ends.now) held text.now result }
+{
+    span(&mut EndsKind::new(ends, held), text)
+}
+
+/// Returns the offset in bytes of the longest suffix of the text that is UTF-8 and whose characters
+/// are all in the set with these boundaries or, if `held` is false, all outside it. Reads no further
+/// than the four bytes before the span. The result is unspecified (but memory-safe) if
+/// [`bks_set_test`](crate::sets::bks_set_test) returns false.
+///
+/// ICU: `uset_spanBackUTF8`, which takes an ill-formed sequence for U+FFFD instead.
+///
+/// # Errors
+/// Returns the number of [`Refusal::NoText`] if the text is not empty and does not end with a
+/// character.
+#[unsafe(no_mangle)]
+pub extern "C" fn bks_set_span_back(ends: &[u32], text: &[u8], held: bool) -> i64
+    ensures exact { IsValid ends.now → AnswersSpanBack (holds ends.now) held text.now result }
+    ensures text { IsValid ends.now → AnswersTextSpanBack text.now result }
+{
+    span_back(&mut EndsKind::new(ends, held), text)
+}
+
+/// Returns the number of units of the longest prefix of 16-bit units whose code points are all in
+/// the set with these boundaries or, if `held` is false, all outside it. A high surrogate and the
+/// low surrogate after it are one code point. Each other unit is a code point of its own, even an
+/// unpaired surrogate. The result is unspecified (but memory-safe) if
+/// [`bks_set_test`](crate::sets::bks_set_test) returns false.
+///
+/// ICU: `uset_span`.
+#[unsafe(no_mangle)]
+pub extern "C" fn bks_set_span_utf16(ends: &[u32], text: &[u16], held: bool) -> usize
+    ensures { IsValid ends.now → result ≡ unit_span (holds ends.now) held text.now }
+{
+    span_units(&mut EndsKind::new(ends, held), text)
+}
