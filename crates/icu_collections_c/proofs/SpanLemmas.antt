@@ -86,13 +86,19 @@ module _ (is_in : ℕ → Bool) (held : Bool) where
 
   later_held : (xs ys : List ℕ) → IsUtf8 xs → IsUtf8 ys → AllHeld is_in held (xs ++ ys) → AllHeld is_in held ys
   later_held xs ys u v a =
-      let whole : All IsAlike (chars xs ++ chars ys) = rw (chars-append xs ys u) at a.1 in
-      (v, rw (drop_at (chars xs) (chars ys) (length (chars xs)) refl) at (All-drop IsAlike (length (chars xs)) (chars xs ++ chars ys) whole))
+      let whole : All IsAlike (chars xs ++ chars ys) = rw (chars-append xs ys u) at a.1 in (
+        v,
+        rw (drop_at (chars xs) (chars ys) (length (chars xs)) refl) at (All-drop IsAlike (length (chars xs))
+            (chars xs ++ chars ys) whole),
+      )
 
   earlier_held : (xs ys : List ℕ) → IsUtf8 xs → AllHeld is_in held (xs ++ ys) → AllHeld is_in held xs
   earlier_held xs ys u a =
-      let whole : All IsAlike (chars xs ++ chars ys) = rw (chars-append xs ys u) at a.1 in
-      (u, rw (take_at (chars xs) (chars ys) (length (chars xs)) refl) at (All-take IsAlike (length (chars xs)) (chars xs ++ chars ys) whole))
+      let whole : All IsAlike (chars xs ++ chars ys) = rw (chars-append xs ys u) at a.1 in (
+        u,
+        rw (take_at (chars xs) (chars ys) (length (chars xs)) refl) at (All-take IsAlike (length (chars xs))
+            (chars xs ++ chars ys) whole),
+      )
 
   head_alike : (bytes more : List ℕ) (c : ℕ) → AllHeld is_in held bytes → bytes ≡ encode_utf8 c ++ more → IsAlike c
   head_alike bytes more c a e = All-head IsAlike c (chars more) (rw (chars_past_char bytes more c a.0 e) at a.1)
@@ -147,7 +153,14 @@ module _ (is_in : ℕ → Bool) (held : Bool) where
     -- At the end of the bytes.
     pub answers_end : n ≡ length bytes → AnswersSpan is_in held bytes (pos n)
     answers_end e = answers
-        (λ c more s p h. omega (arith, e, length-drop n bytes, ap (λ (bs : List ℕ). length bs) p, length-append (encode_utf8 c) more, size_of c))
+        (λ c more s p h. omega (
+          arith,
+          e,
+          length-drop n bytes,
+          ap (λ (bs : List ℕ). length bs) p,
+          length-append (encode_utf8 c) more,
+          size_of c,
+        ))
         (λ z some none. omega (arith, e, z, some))
 
     -- At a character that is not of the kind.
@@ -262,7 +275,10 @@ module _ (is_in : ℕ → Bool) (held : Bool) where
 
   pub starts_back : (bytes : List ℕ) → AllHeld is_in held (drop (length bytes) bytes)
   starts_back bytes =
-      let none : drop (length bytes) bytes ≡ [] = nil_from_length (drop (length bytes) bytes) (omega (arith, length-drop (length bytes) bytes)) in
+      let none : drop (length bytes) bytes ≡ [] = nil_from_length (drop (length bytes) bytes) (omega (
+        arith,
+        length-drop (length bytes) bytes,
+      )) in
       rw none none_held
 
 -- ---- what is found out about a character

@@ -150,8 +150,13 @@ AreValued-none P size i zero xs h none = subst (λ n. AreValued P size n xs) (sa
     same : (n : ℕ) → n ≡ n + zero
     same n = omega arith
 AreValued-none P size i (suc j) xs h none =
-    subst (λ n. AreValued P size n xs) last
-    (xs, None, AreValued-none P size i j xs h (λ k a b. none k a (omega (arith, b))), none (i + j) (omega arith) (omega arith), sym (append-nil xs))
+    subst (λ n. AreValued P size n xs) last (
+      xs,
+      None,
+      AreValued-none P size i j xs h (λ k a b. none k a (omega (arith, b))),
+      none (i + j) (omega arith) (omega arith),
+      sym (append-nil xs),
+    )
   where
     last : suc (i + j) ≡ i + suc j
     last = omega arith
@@ -317,7 +322,8 @@ units_more cs i k below within =
 pub bytes_within : (text : List ℕ) (k : ℕ) → IsUtf8 text → length (encode_utf8_all (take k (chars text))) ≤ length text
 bytes_within text k u =
     let whole : encodes (take k (chars text)) ++ encodes (drop k (chars text)) ≡ text =
-    sym (encodes-append (take k (chars text)) (drop k (chars text))) ∙ ap encodes (take-append-drop k (chars text)) ∙ encodes-chars text u in
+    sym (encodes-append (take k (chars text)) (drop k (chars text))) ∙ ap encodes (take-append-drop k (chars text))
+    ∙ encodes-chars text u in
     omega (arith, ap length whole, length-append (encodes (take k (chars text))) (encodes (drop k (chars text))))
 
 -- There are no more characters than bytes.

@@ -1,5 +1,5 @@
--- Spans: the longest prefix or suffix of a text whose characters are all in a set, or all outside it.
--- The text is bytes that may be ill-formed UTF-8, or units that may be ill-formed UTF-16.
+-- Spans: the longest prefix or suffix of a text whose characters are all in a set, or all outside
+-- it. The text is bytes that may be ill-formed UTF-8, or units that may be ill-formed UTF-16.
 use Rattle.std.specs.Prelude.{◌≡◌, ◌⊎◌, ℕ, ℤ, pos, ◌+◌, ◌<◌, ◌≤◌, Bool, nat_lt, if◌then◌else◌, List, [], ◌∷◌, length, take, drop}
 use Rattle.std.specs.List.{All, take_while}
 use Rattle.std.specs.Str.{IsCharBoundary, IsUtf8, StartsWithNoChar, chars, encode_utf8_all}
@@ -10,7 +10,8 @@ use Rattle.icu_collections_c.specs.Status.{refused}
 use Rattle.icu_collections_c.specs.declared.status.Refusal.TheVariants.{NoText}
 
 module _ (is_in : ℕ → Bool) (held : Bool) where
-  -- The bytes are UTF-8. All their characters are in the set or, if `held` is false, all outside it.
+  -- The bytes are UTF-8. All their characters are in the set or, if `held` is false, all outside
+  -- it.
   abbrev pub AllHeld : List ℕ → Type 0
   AllHeld bytes = IsUtf8 bytes × All (λ c. is_in c ≡ held) (chars bytes)
 
@@ -42,7 +43,8 @@ module _ (is_in : ℕ → Bool) (held : Bool) where
       ⊎ (¬ ((0 < length bytes) × EndsWithNoChar bytes)
       × ((n : ℕ) × (returned ≡ pos n) × IsSpanBack bytes n))
 
-  -- For UTF-8: the size of the longest prefix of such characters, which ends at a character boundary.
+  -- For UTF-8: the size of the longest prefix of such characters, which ends at a character
+  -- boundary.
   abbrev pub AnswersTextSpan : List ℕ → ℤ → Type 0
   AnswersTextSpan bytes returned = IsUtf8 bytes → (n : ℕ) × (returned ≡ pos n)
       × (n ≡ length (encode_utf8_all (take_while (λ c. beq (is_in c) held) (chars bytes))))

@@ -31,12 +31,13 @@ abbrev pub GivesPrefixes : (ℕ → Option ℤ → Type 0) → (ℕ → ℕ) →
 GivesPrefixes HasValue size most old new n =
     (xs : List (ℕ × ℤ)) × AreValued HasValue size (suc most) xs × HasFound xs old new n
 
--- The same for a UTF-8 text, 2^63 - 1 if there are more, one after each byte of a text of that size.
--- If the bytes are not a text: `NoText`, and the buffer is unchanged.
+-- The same for a UTF-8 text, 2^63 - 1 if there are more, one after each byte of a text of that
+-- size. If the bytes are not a text: `NoText`, and the buffer is unchanged.
 abbrev pub AnswersPrefixes : Type 0 → (ℕ → Option ℤ → Type 0) → (ℕ → ℕ) → ℕ → List Prefix
     → List Prefix → ℤ → Type 0
 AnswersPrefixes text HasValue size most old new returned =
-    (text × (n : ℕ) × (returned ≡ pos (min n (2 ^ 63 - 1))) × GivesPrefixes HasValue size most old new n)
+    (text × (n : ℕ) × (returned ≡ pos (min n (2 ^ 63 - 1)))
+    × GivesPrefixes HasValue size most old new n)
     ⊎ (¬ text × (returned ≡ refused NoText) × (new ≡ old))
 
 -- How many bytes of UTF-8 the first k of some characters take.

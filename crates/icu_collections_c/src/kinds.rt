@@ -129,8 +129,8 @@ fn boundary_at(ends: &[u32], i: usize) -> u32
     }
 }
 
-/// Returns the range that contains the code point. As the boundaries ascend, at most `c + 1` of them
-/// are not above `c`.
+/// Returns the range that contains the code point. As the boundaries ascend, at most `c + 1` of
+/// them are not above `c`.
 #[inline(never)]
 fn range_at(ends: &[u32], held: bool, c: u32) -> RangeOfKind
     ensures range { IsRangeOfKind ends.now held result.from result.to result.is_of_kind }

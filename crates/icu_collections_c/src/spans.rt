@@ -119,8 +119,8 @@ fn span_units<K: Kind>(kind: &mut K, units: &[u16]) -> usize
 }
 
 /// Returns the length in bytes of the longest prefix of the text that is UTF-8 and whose characters
-/// are all in the frozen set at the start of the words or, if `held` is false, all outside it. Reads
-/// no further than the character after the span. Any words are accepted, as by
+/// are all in the frozen set at the start of the words or, if `held` is false, all outside it.
+/// Reads no further than the character after the span. Any words are accepted, as by
 /// [`bks_frozen_contains`](crate::frozen::bks_frozen_contains).
 ///
 /// ICU: `uset_spanUTF8`, which takes an ill-formed sequence for U+FFFD instead.
@@ -141,8 +141,8 @@ pub extern "C" fn bks_frozen_span(table: &[u64], text: &[u8], held: bool) -> i64
 }
 
 /// Returns the offset in bytes of the longest suffix of the text that is UTF-8 and whose characters
-/// are all in the frozen set at the start of the words or, if `held` is false, all outside it. Reads
-/// no further than the four bytes before the span. Any words are accepted.
+/// are all in the frozen set at the start of the words or, if `held` is false, all outside it.
+/// Reads no further than the four bytes before the span. Any words are accepted.
 ///
 /// ICU: `uset_spanBackUTF8`, which takes an ill-formed sequence for U+FFFD instead.
 ///
@@ -160,9 +160,9 @@ pub extern "C" fn bks_frozen_span_back(table: &[u64], text: &[u8], held: bool) -
 }
 
 /// Returns the number of units of the longest prefix of 16-bit units whose code points are all in
-/// the frozen set at the start of the words or, if `held` is false, all outside it. A high surrogate
-/// and the low surrogate after it are one code point. Each other unit is a code point of its own,
-/// even an unpaired surrogate. Any words are accepted.
+/// the frozen set at the start of the words or, if `held` is false, all outside it. A high
+/// surrogate and the low surrogate after it are one code point. Each other unit is a code point of
+/// its own, even an unpaired surrogate. Any words are accepted.
 ///
 /// ICU: `uset_span`.
 #[unsafe(no_mangle)]
@@ -175,8 +175,8 @@ pub extern "C" fn bks_frozen_span_utf16(table: &[u64], text: &[u16], held: bool)
 }
 
 /// Returns the length in bytes of the longest prefix of the text that is UTF-8 and whose characters
-/// are all in the set with these boundaries or, if `held` is false, all outside it. Reads no further
-/// than the character after the span. The result is unspecified (but memory-safe) if
+/// are all in the set with these boundaries or, if `held` is false, all outside it. Reads no
+/// further than the character after the span. The result is unspecified (but memory-safe) if
 /// [`bks_set_test`](crate::sets::bks_set_test) returns false.
 ///
 /// ICU: `uset_spanUTF8`, which takes an ill-formed sequence for U+FFFD instead.
@@ -193,8 +193,8 @@ pub extern "C" fn bks_set_span(ends: &[u32], text: &[u8], held: bool) -> i64
 }
 
 /// Returns the offset in bytes of the longest suffix of the text that is UTF-8 and whose characters
-/// are all in the set with these boundaries or, if `held` is false, all outside it. Reads no further
-/// than the four bytes before the span. The result is unspecified (but memory-safe) if
+/// are all in the set with these boundaries or, if `held` is false, all outside it. Reads no
+/// further than the four bytes before the span. The result is unspecified (but memory-safe) if
 /// [`bks_set_test`](crate::sets::bks_set_test) returns false.
 ///
 /// ICU: `uset_spanBackUTF8`, which takes an ill-formed sequence for U+FFFD instead.

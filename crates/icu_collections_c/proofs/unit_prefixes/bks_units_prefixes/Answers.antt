@@ -67,10 +67,12 @@ returns c =
     let over : c.loop-i.i ≡ length text = omega (arith, c.loop-i-test.false, c.loop-i.invariant.within) in
     record {
       keys = λ m h. subst (λ k. GivesPrefixes (HasFrontValue m text) (λ j. j) k c.args.found.now c.loop-i.found c.loop-i.count) over
-          (looked_all_keys (units_of c.args.units.now) (λ k. take k text) (λ k. k) c.args.found.now c.loop-i.i c.loop-i.cursor c.loop-i.found
+          (looked_all_keys (units_of c.args.units.now) (λ k. take k text)
+          (λ k. k) c.args.found.now c.loop-i.i c.loop-i.cursor c.loop-i.found
           c.loop-i.count was m h);
       exact = subst
-          (λ k. GivesPrefixes (HasFrontStepped (units_of c.args.units.now) text) (λ j. j) k c.args.found.now c.loop-i.found c.loop-i.count) over
+          (λ k. GivesPrefixes (HasFrontStepped (units_of c.args.units.now) text)
+          (λ j. j) k c.args.found.now c.loop-i.found c.loop-i.count) over
           (looked_all_exact (units_of c.args.units.now) (λ k. take k text) (λ k. k) c.args.found.now c.loop-i.i c.loop-i.cursor
           c.loop-i.found c.loop-i.count was);
     }

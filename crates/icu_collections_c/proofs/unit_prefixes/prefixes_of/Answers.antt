@@ -92,7 +92,8 @@ returns-then-is_empty c =
     let none : (m : UnitMap) (w : List ℕ) → HasPassed c.loop-c.cursor m w → goes_on m w ≡ false =
     λ m w h. no_more _ (sym (c.is_empty.ensures.empty m w h) ∙ c.if-is_empty.true) in
     record {
-      keys = looked_ends_keys (units_of c.args.units.now) (front_units cs) (bytes_before cs) c.args.found.now k c.loop-c.cursor c.loop-c.found
+      keys = looked_ends_keys (units_of c.args.units.now) (front_units cs)
+          (bytes_before cs) c.args.found.now k c.loop-c.cursor c.loop-c.found
           c.loop-c.count was (length cs) within ends none (units_more cs k);
       exact = looked_ends_exact (units_of c.args.units.now) (front_units cs) (bytes_before cs) c.args.found.now k c.loop-c.cursor
           c.loop-c.found c.loop-c.count was (length cs) within ends none (units_more cs k);
@@ -105,7 +106,8 @@ returns c =
     let over = YieldsList-end (YieldsList-from_chars c.args.text.now c.utf8.text cc) c.loop-c.yielded _ c.loop-c.yielded_by _ _ c.in-None.is
     c.next.ensures.steps in
     record {
-      keys = λ m h. subst (λ k. GivesPrefixes (HasCharsValue m cs) (bytes_before cs) k c.args.found.now c.loop-c.found c.loop-c.count) over.1
+      keys = λ m h. subst (λ k. GivesPrefixes (HasCharsValue m cs)
+          (bytes_before cs) k c.args.found.now c.loop-c.found c.loop-c.count) over.1
           (looked_all_keys (units_of c.args.units.now) (front_units cs) (bytes_before cs) c.args.found.now (length c.loop-c.yielded)
           c.loop-c.cursor c.loop-c.found c.loop-c.count was m h);
       exact = subst

@@ -21,7 +21,8 @@ answers c =
     let lengths : c.deref-in-Ok.result.now ≡ key_lengths keys = c.deref-in-Ok.ensures.value ∙ c.in-Ok.ensures.lengths in
     subst (λ us. AnswersUnits us (key_lengths keys) c.args.values.now c.args.bytes.now c.bks_units_build.new.bytes c.bks_units_build.result)
     units
-    (subst (λ ns. AnswersUnits c.deref.result.now ns c.args.values.now c.args.bytes.now c.bks_units_build.new.bytes c.bks_units_build.result)
+    (subst
+    (λ ns. AnswersUnits c.deref.result.now ns c.args.values.now c.args.bytes.now c.bks_units_build.new.bytes c.bks_units_build.result)
     lengths c.bks_units_build.ensures)
 
 same : (c : After-drop-given-in-Ok) → to_z w64 (of_z w64 c.bks_units_build.result) ≡ c.bks_units_build.result
