@@ -26,12 +26,21 @@ static int view_kind(PyObject *view) {
     return kind;
 }
 
-static int text_numbers(PyObject *text, numbers *found) {
-    found->count = PyUnicode_GetLength(text);
+/* Reads the characters of a str, in place if that is possible. */
+static int text_numbers(PyObject *given, numbers *found) {
+    text characters;
+    if (text_of("code_points", given, &characters)) return -1;
+    found->count = characters.length;
+#ifdef Py_LIMITED_API
     found->copy = PyMem_Malloc(((size_t)found->count + 1) * sizeof(uint32_t));
     if (!found->copy) return PyErr_NoMemory(), -1;
     found->items = found->copy;
-    return PyUnicode_AsUCS4(text, found->copy, found->count + 1, 0) ? 0 : -1;
+    return PyUnicode_AsUCS4(given, found->copy, found->count + 1, 0) ? 0 : -1;
+#else
+    found->items = characters.data;
+    found->width = characters.kind;
+    return 0;
+#endif
 }
 
 /* Reads integers in place, or from a copy if they are not contiguous. Returns 1 if the object has no
@@ -68,7 +77,11 @@ static int buffer_numbers(PyObject *given, numbers *found) {
 }
 
 static int iterable_numbers(PyObject *given, numbers *found) {
-    PyObject *items = PySequence_Tuple(given);
+    PyObject *iterator = PyObject_GetIter(given);
+    PyObject *items = iterator ? PySequence_Tuple(iterator) : NULL;
+    if (!iterator && PyErr_ExceptionMatches(PyExc_TypeError))
+        raise_type("code_points", "a str, integers in a buffer or an iterable", given);
+    Py_XDECREF(iterator);
     if (!items) return -1;
     found->owner = items;
     found->count = PyTuple_Size(items);
@@ -122,8 +135,11 @@ static uint64_t item(const numbers *given, Py_ssize_t index) {
 }
 
 Py_ssize_t numbers_copy(const numbers *given, Py_ssize_t from, Py_ssize_t count, uint32_t *points) {
-    if (given->width == 4 && !given->is_signed) {
-        memcpy(points, given->items + 4 * from, 4 * (size_t)count);
+    if (!given->is_signed && given->width <= 4) {
+        const uint8_t *items = given->items + from * given->width;
+        if (given->width == 4) memcpy(points, items, 4 * (size_t)count);
+        else if (given->width == 1) for (Py_ssize_t i = 0; i < count; i++) points[i] = items[i];
+        else for (Py_ssize_t i = 0; i < count; i++) memcpy(points + i, items + 2 * i, 2), points[i] &= 0xFFFF;
         return count;
     }
     for (Py_ssize_t i = 0; i < count; i++) {

@@ -6,31 +6,33 @@
 #include <string.h>
 
 /* A set is not frozen if it has at most MANY_ENDS boundaries, as its binary search is short, or before
- * it has looked up MANY_TESTS code points, as the table would not pay off. */
+ * it has looked up MANY_TESTS code points, as the table would not pay off. A FrozenCodePointSet is frozen
+ * from the start. */
 #define MANY_ENDS 16
 #define MANY_TESTS 512
 
-typedef struct {
+struct code_point_set {
     PyObject_HEAD
     uint32_t *ends;
     size_t count;
-    uint64_t *frozen;       /* NULL if there is no frozen form yet */
-    size_t frozen_count;
+    PyObject *words;        /* the table, a bytes object; NULL if there is none yet */
+    const uint64_t *table;  /* its words, or NULL */
+    bool is_frozen;         /* whether the table has to be there: of a FrozenCodePointSet */
     size_t tests;
     Py_hash_t hash;         /* -1 if not computed yet */
-} code_point_set;
+};
 
 static void set_free(code_point_set *self) {
     PyTypeObject *type = Py_TYPE(self);
     PyMem_Free(self->ends);
-    PyMem_Free(self->frozen);
+    Py_XDECREF(self->words);
     ((freefunc)PyType_GetSlot(type, Py_tp_free))(self);
     Py_DECREF(type);
 }
 
-int is_set(PyObject *object) { return is_freed_by(object, set_free); }
+bool is_set(PyObject *object) { return is_freed_by(object, set_free); }
 
-PyObject *set_owning(PyTypeObject *type, uint32_t *ends, size_t count) {
+static code_point_set *set_owning(PyTypeObject *type, uint32_t *ends, size_t count) {
     code_point_set *self = (code_point_set *)PyType_GenericAlloc(type, 0);
     if (!self) {
         PyMem_Free(ends);
@@ -39,7 +41,7 @@ PyObject *set_owning(PyTypeObject *type, uint32_t *ends, size_t count) {
     self->ends = ends;
     self->count = count;
     self->hash = -1;
-    return (PyObject *)self;
+    return self;
 }
 
 /* Raises NoSet with a message. Takes over the reference to it. */
@@ -79,7 +81,7 @@ static PyObject *set_new(PyTypeObject *type, PyObject *args, PyObject *keywords)
     bool is_read = ends && read == count, is_set = is_read && bks_set_test(ends, (size_t)count);
     if (is_read && !is_set) raise_no_set(PyUnicode_FromFormat("ends: expected an even count, found %zd", count));
     Py_DECREF(all);
-    if (is_set) return set_owning(type, ends, (size_t)count);
+    if (is_set) return (PyObject *)set_owning(type, ends, (size_t)count);
     PyMem_Free(ends);
     return NULL;
 }
@@ -92,40 +94,71 @@ static PyObject *set_from_bytes(PyTypeObject *type, PyObject *args) {
     uint32_t *ends = PyMem_Malloc((count + 1) * sizeof *ends);
     if (!ends) return PyErr_NoMemory();
     memcpy(ends, PyBytes_AsString(packed), count * sizeof *ends);
-    if (bks_set_test(ends, count)) return set_owning(type, ends, count);
+    if (bks_set_test(ends, count)) return (PyObject *)set_owning(type, ends, count);
     PyMem_Free(ends);
     return raise_error("NoSet", NULL);
 }
 
-/* Makes the frozen form. If an allocation fails the set stays as it is, which only takes more time. */
-static void freeze(code_point_set *self) {
+/* Makes the table, if there is none. Returns 0, or -1 with an exception set. */
+static int freeze(code_point_set *self) {
     uint64_t nothing[1];
-    self->tests = 0;
+    if (self->table) return 0;
     int64_t count = bks_set_freeze(self->ends, self->count, nothing, 0);
-    uint64_t *frozen = count < 0 ? NULL : PyMem_Malloc((size_t)count * sizeof *frozen);
-    if (frozen && bks_set_freeze(self->ends, self->count, frozen, (size_t)count) == count) {
-        self->frozen = frozen;
-        self->frozen_count = (size_t)count;
-    } else {
-        PyMem_Free(frozen);
+    if (count < 0) return raise_refusal(count), -1;
+    PyObject *words = PyBytes_FromStringAndSize(NULL, (Py_ssize_t)(count * (int64_t)sizeof *self->table));
+    uint64_t *table = words ? (uint64_t *)(void *)PyBytes_AsString(words) : NULL;
+    int64_t written = table ? bks_set_freeze(self->ends, self->count, table, (size_t)count) : 0;
+    if (!table || written != count) {
+        Py_XDECREF(words);
+        return written < 0 ? (raise_refusal(written), -1) : -1;
     }
+    self->words = words;
+    self->table = table;
+    return 0;
 }
 
-static void count_tests(code_point_set *self, size_t tests) {
-    if (self->frozen || self->count <= MANY_ENDS) return;
+void set_count_tests(code_point_set *self, size_t tests) {
+    if (self->table || self->count <= MANY_ENDS) return;
     self->tests += tests;
-    if (self->tests >= MANY_TESTS) freeze(self);
+    if (self->tests < MANY_TESTS) return;
+    self->tests = 0;
+    /* If an allocation fails the set stays as it is, which only takes more time. */
+    if (freeze(self)) PyErr_Clear();
 }
 
-static bool contains(const code_point_set *self, uint32_t c) {
-    return self->frozen ? bks_frozen_contains(self->frozen, self->frozen_count, c)
-                        : bks_set_contains(self->ends, self->count, c);
+/* Nobody changes the table, and bks_set_freeze wrote it, so the inline function may read it. */
+static inline bool contains(const code_point_set *self, uint32_t c) {
+    return self->table ? bks_frozen_has(self->table, c) : bks_set_contains(self->ends, self->count, c);
+}
+
+/* Returns another set, as an object of this class that has its table. */
+static PyObject *set_frozen(PyTypeObject *type, PyObject *given) {
+    code_point_set *self = (code_point_set *)given;
+    if (!is_set(given)) return raise_type("set", "a CodePointSet", given);
+    if (freeze(self)) return NULL;
+    uint32_t *ends = PyMem_Malloc((self->count + 1) * sizeof *ends);
+    if (!ends) return PyErr_NoMemory();
+    memcpy(ends, self->ends, self->count * sizeof *ends);
+    code_point_set *made = set_owning(type, ends, self->count);
+    if (!made) return NULL;
+    Py_INCREF(self->words);
+    made->words = self->words;
+    made->table = self->table;
+    made->is_frozen = true;
+    return (PyObject *)made;
+}
+
+static PyObject *set_words(code_point_set *self, void *none) {
+    (void)none;
+    if (freeze(self)) return NULL;
+    Py_INCREF(self->words);
+    return self->words;
 }
 
 static int set_contains(code_point_set *self, PyObject *key) {
     int64_t c = code_point(key);
     if (c == POINT_ERROR) return -1;
-    count_tests(self, 1);
+    set_count_tests(self, 1);
     return c >= 0 && contains(self, (uint32_t)c);
 }
 
@@ -145,37 +178,65 @@ static PyObject *set_ends(code_point_set *self, void *none) {
     return ends;
 }
 
-/* A long span copies this many characters at a time, and releases the GIL while it looks them up. */
-#define SPAN_PART 65536
+/* ---- Spans of texts ---- */
 
-static Py_ssize_t span_of_part(const code_point_set *self, const uint32_t *points, Py_ssize_t count, bool held) {
-    Py_ssize_t i = 0;
-    while (i < count && contains(self, points[i]) == held) i++;
-    return i;
+static Py_ssize_t walk(const code_point_set *self, const text *from, Py_ssize_t at, Py_ssize_t stop, bool held) {
+    while (at < stop && contains(self, text_at(from, at)) == held) at++;
+    return at;
 }
 
-/* Continues a span at the index `at`. Returns the index at which it ends, or -1 with an exception set. */
-static Py_ssize_t long_span(code_point_set *self, PyObject *text, Py_ssize_t at, Py_ssize_t length, bool held) {
-    /* A copy, as another thread may freeze the set while the GIL is released. */
-    const code_point_set copy = *self;
-    uint32_t *points = PyMem_Malloc(SPAN_PART * sizeof *points);
-    Py_ssize_t size = 0, found = 0;
-    if (!points) return PyErr_NoMemory(), -1;
-    for (; found == size && at < length; at += found) {
-        size = length - at < SPAN_PART ? length - at : SPAN_PART;
-        PyObject *part = PyUnicode_Substring(text, at, at + size);
-        bool is_copied = part && PyUnicode_AsUCS4(part, points, size, 0);
-        Py_XDECREF(part);
-        if (!is_copied) {
-            PyMem_Free(points);
-            return -1;
-        }
-        Py_BEGIN_ALLOW_THREADS
-        found = span_of_part(&copy, points, size, held);
-        Py_END_ALLOW_THREADS
-    }
-    PyMem_Free(points);
+static Py_ssize_t walk_back(const code_point_set *self, const text *from, Py_ssize_t at, Py_ssize_t start, bool held) {
+    while (at > start && contains(self, text_at(from, at - 1)) == held) at--;
     return at;
+}
+
+typedef Py_ssize_t walking(const code_point_set *, const text *, Py_ssize_t, Py_ssize_t, bool);
+
+/* How many characters are walked at a time without the GIL. */
+#define SPAN_PART 65536
+
+/* Continues a walk without the GIL. Returns where it ends, or -1 with an exception set. */
+static Py_ssize_t long_walk(const code_point_set *self, const text *from, Py_ssize_t at, Py_ssize_t stop, bool held,
+                            walking *go) {
+    /* A copy, as another thread may freeze the set meanwhile. */
+    const code_point_set copy = *self;
+    text part = *from;
+    Py_ssize_t next = at;
+    while (at == next && at != stop) {
+        next = stop > at ? (stop - at < SPAN_PART ? stop : at + SPAN_PART)
+                         : (at - stop < SPAN_PART ? stop : at - SPAN_PART);
+        if (text_open(&part, at < next ? at : next, at < next ? next : at)) return -1;
+        Py_BEGIN_ALLOW_THREADS
+        at = go(&copy, &part, at, next, held);
+        Py_END_ALLOW_THREADS
+        text_close(&part);
+    }
+    return at;
+}
+
+Py_ssize_t set_span_end(code_point_set *self, const text *from, Py_ssize_t at, bool held) {
+    Py_ssize_t near = from->length - at < MANY_TESTS ? from->length : at + MANY_TESTS;
+    Py_ssize_t end = walk(self, from, at, near, held);
+    set_count_tests(self, (size_t)(end - at) + 1);
+    return end < near || near == from->length ? end : long_walk(self, from, end, from->length, held, walk);
+}
+
+/* Returns the index at which the span of `held` that ends at `at` starts, or -1 with an exception set. */
+static Py_ssize_t span_start(code_point_set *self, const text *from, Py_ssize_t at, bool held) {
+    Py_ssize_t near = at < MANY_TESTS ? 0 : at - MANY_TESTS;
+    Py_ssize_t start = walk_back(self, from, at, near, held);
+    set_count_tests(self, (size_t)(at - start) + 1);
+    return start > near || near == 0 ? start : long_walk(self, from, start, 0, held, walk_back);
+}
+
+/* Reads the arguments of a span: a text, `held`, and the index of its start or end, which is returned. */
+static Py_ssize_t span_arguments(const parameters *wanted, PyObject *const *args, Py_ssize_t count, PyObject *keywords,
+                                 text *from, bool *held, bool is_back) {
+    PyObject *found[3];
+    if (sort_arguments(wanted, args, count, keywords, found) || text_of("text", found[0], from)) return -1;
+    int is_held = found[1] ? PyObject_IsTrue(found[1]) : 1;
+    *held = is_held;
+    return is_held < 0 ? -1 : slice_index(wanted->names[2], found[2], from->length, is_back ? from->length : 0);
 }
 
 PyDoc_STRVAR(set_span_text,
@@ -183,19 +244,30 @@ PyDoc_STRVAR(set_span_text,
     "Return how many characters of `text[start:]`, from its first one on, are in the set; if `held`\n"
     "is false, how many are not.");
 
-static PyObject *set_span(code_point_set *self, PyObject *args, PyObject *keywords) {
-    static char *names[] = {"text", "held", "start", NULL};
-    PyObject *text, *from = NULL;
-    int held = 1;
-    if (!PyArg_ParseTupleAndKeywords(args, keywords, "U|pO", names, &text, &held, &from)) return NULL;
-    Py_ssize_t length = PyUnicode_GetLength(text), start = start_index(from, length), at = start;
-    if (start < 0) return NULL;
-    Py_ssize_t near_end = length - start < MANY_TESTS ? length : start + MANY_TESTS;
-    while (at < near_end && contains(self, PyUnicode_ReadChar(text, at)) == (held != 0)) at++;
-    count_tests(self, (size_t)(at - start) + 1);
-    if (at == near_end && at < length) at = long_span(self, text, at, length, held != 0);
-    return at < 0 ? NULL : PyLong_FromSsize_t(at - start);
+static PyObject *set_span(code_point_set *self, PyObject *const *args, Py_ssize_t count, PyObject *keywords) {
+    static const parameters wanted = {"span", {"text", "held", "start", NULL}, 1};
+    text from;
+    bool held;
+    Py_ssize_t at = span_arguments(&wanted, args, count, keywords, &from, &held, false);
+    Py_ssize_t end = at < 0 ? -1 : set_span_end(self, &from, at, held);
+    return end < 0 ? NULL : PyLong_FromSsize_t(end - at);
 }
+
+PyDoc_STRVAR(set_span_back_text,
+    "span_back($self, /, text, held=True, end=None)\n--\n\n"
+    "Return how many characters of `text[:end]`, from its last one back, are in the set; if `held`\n"
+    "is false, how many are not.");
+
+static PyObject *set_span_back(code_point_set *self, PyObject *const *args, Py_ssize_t count, PyObject *keywords) {
+    static const parameters wanted = {"span_back", {"text", "held", "end", NULL}, 1};
+    text from;
+    bool held;
+    Py_ssize_t at = span_arguments(&wanted, args, count, keywords, &from, &held, true);
+    Py_ssize_t start = at < 0 ? -1 : span_start(self, &from, at, held);
+    return start < 0 ? NULL : PyLong_FromSsize_t(at - start);
+}
+
+/* ---- Operations on two sets ---- */
 
 typedef int64_t operation(const uint32_t *, size_t, const uint32_t *, size_t, uint32_t *, size_t);
 
@@ -204,9 +276,44 @@ static PyObject *not_implemented(void) {
     return Py_NotImplemented;
 }
 
-static PyObject *joined(PyObject *left, PyObject *right, operation *call) {
-    if (!is_set(left) || !is_set(right)) return not_implemented();
-    code_point_set *a = (code_point_set *)left, *b = (code_point_set *)right;
+/* Returns collections.abc.Set if `object` is an instance of it, None if it is not, or NULL with an
+ * exception set. */
+static PyObject *set_class_of(PyObject *object) {
+    PyObject *module = PyImport_ImportModule("collections.abc");
+    PyObject *class = module ? PyObject_GetAttrString(module, "Set") : NULL;
+    int is_one = class ? PyObject_IsInstance(object, class) : -1;
+    Py_XDECREF(module);
+    if (is_one > 0) return class;
+    Py_XDECREF(class);
+    return is_one < 0 ? NULL : (Py_INCREF(Py_None), Py_None);
+}
+
+/* Returns an operand as a set of this module: a new one of the class of `like` if it is a set of another
+ * kind. NotImplemented if it is no set. */
+static PyObject *as_set(PyObject *operand, PyObject *like) {
+    if (is_set(operand)) return Py_INCREF(operand), operand;
+    PyObject *class = set_class_of(operand), *made = NULL;
+    if (class == Py_None) made = not_implemented();
+    else if (class) made = PyObject_CallMethod(like, "from_chars", "O", operand);
+    Py_XDECREF(class);
+    return made;
+}
+
+/* Returns a new set that owns `ends` and has the class of another one. A count below 0 is an error. */
+static PyObject *set_like(const code_point_set *like, uint32_t *ends, int64_t count) {
+    if (count < 0) {
+        PyMem_Free(ends);
+        return raise_refusal(count);
+    }
+    code_point_set *made = set_owning(Py_TYPE(like), ends, (size_t)count);
+    if (!made || !like->is_frozen) return (PyObject *)made;
+    made->is_frozen = true;
+    if (!freeze(made)) return (PyObject *)made;
+    Py_DECREF(made);
+    return NULL;
+}
+
+static PyObject *joined_sets(const code_point_set *a, const code_point_set *b, operation *call) {
     size_t room = a->count + b->count;
     uint32_t *ends = PyMem_Malloc((room + 1) * sizeof *ends);
     if (!ends) return raise_refusal(BKS_NO_MEMORY);
@@ -218,9 +325,16 @@ static PyObject *joined(PyObject *left, PyObject *right, operation *call) {
     } else {
         count = call(a->ends, a->count, b->ends, b->count, ends, room);
     }
-    if (count >= 0) return set_owning(Py_TYPE(left), ends, (size_t)count);
-    PyMem_Free(ends);
-    return raise_refusal(count);
+    return set_like(a, ends, count);
+}
+
+static PyObject *joined(PyObject *left, PyObject *right, operation *call) {
+    PyObject *a = as_set(left, right), *b = a ? as_set(right, left) : NULL, *result = NULL;
+    if (a == Py_NotImplemented || b == Py_NotImplemented) result = not_implemented();
+    else if (b) result = joined_sets((code_point_set *)a, (code_point_set *)b, call);
+    Py_XDECREF(a);
+    Py_XDECREF(b);
+    return result;
 }
 
 static PyObject *set_or(PyObject *a, PyObject *b) { return joined(a, b, bks_set_union); }
@@ -235,9 +349,7 @@ static PyObject *set_invert(code_point_set *self) {
     uint32_t *ends = PyMem_Malloc((self->count + 2) * sizeof *ends);
     int64_t count = ends ? bks_set_difference(all, 2, self->ends, self->count, ends, self->count + 2)
                          : BKS_NO_MEMORY;
-    if (count >= 0) return set_owning(Py_TYPE(self), ends, (size_t)count);
-    PyMem_Free(ends);
-    return raise_refusal(count);
+    return set_like(self, ends, count);
 }
 
 /* Returns how many boundaries the result of an operation has, or -1 with an exception set. */
@@ -249,14 +361,31 @@ static int64_t count_of(operation *call, const code_point_set *a, const code_poi
 }
 
 static PyObject *set_is_disjoint(code_point_set *self, PyObject *other) {
-    if (!is_set(other)) return PyErr_Format(PyExc_TypeError, "expected a CodePointSet, found %S", Py_TYPE(other));
-    int64_t count = count_of(bks_set_intersection, self, (code_point_set *)other);
+    PyObject *like = (PyObject *)self;
+    PyObject *set = is_set(other) ? (Py_INCREF(other), other) : PyObject_CallMethod(like, "from_chars", "O", other);
+    int64_t count = set ? count_of(bks_set_intersection, self, (code_point_set *)set) : -1;
+    Py_XDECREF(set);
     return count < 0 ? NULL : PyBool_FromLong(count == 0);
+}
+
+/* Compares with a set of another kind, element by element, as collections.abc.Set does. */
+static PyObject *compare_elements(PyObject *self, PyObject *other, int how) {
+    /* In the order of Py_LT to Py_GE. `!=` is the negation of `==`. */
+    static const char *const names[] = {"__lt__", "__le__", "__eq__", "__eq__", "__gt__", "__ge__"};
+    PyObject *class = set_class_of(other), *result;
+    if (!class) return NULL;
+    if (class == Py_None) result = not_implemented();
+    else result = PyObject_CallMethod(class, names[how], "OO", self, other);
+    Py_DECREF(class);
+    if (how != Py_NE || !result || result == Py_NotImplemented) return result;
+    int is_equal = PyObject_IsTrue(result);
+    Py_DECREF(result);
+    return is_equal < 0 ? NULL : PyBool_FromLong(!is_equal);
 }
 
 /* Equality, and whether one set is a subset of the other. */
 static PyObject *set_compare(PyObject *left, PyObject *right, int how) {
-    if (!is_set(right)) return not_implemented();
+    if (!is_set(right)) return compare_elements(left, right, how);
     const code_point_set *a = (code_point_set *)left, *b = (code_point_set *)right;
     bool same = a->count == b->count && !memcmp(a->ends, b->ends, a->count * sizeof *a->ends);
     if (how == Py_EQ || how == Py_NE) return PyBool_FromLong(same == (how == Py_EQ));
@@ -266,31 +395,42 @@ static PyObject *set_compare(PyObject *left, PyObject *right, int how) {
     return outside < 0 ? NULL : PyBool_FromLong(outside == 0);
 }
 
+/* A set equals a frozenset of the same ints, so it has the same hash: this is the algorithm of
+ * frozenset, and of collections.abc.Set. The hash of such an int is the int. */
 static Py_hash_t set_hash(code_point_set *self) {
     if (self->hash != -1) return self->hash;
-    PyObject *bytes = PyBytes_FromStringAndSize((char *)self->ends, (Py_ssize_t)(self->count * sizeof *self->ends));
-    self->hash = bytes ? PyObject_Hash(bytes) : -1;
-    Py_XDECREF(bytes);
+    Py_ssize_t length = set_length(self);
+    if (length < 0) return -1;
+    uint64_t hash = 1927868237u * ((uint64_t)length + 1);
+    for (size_t i = 0; i + 1 < self->count; i += 2)
+        for (uint64_t c = self->ends[i]; c < self->ends[i + 1]; c++) hash ^= (c ^ c << 16 ^ 89869747u) * 3644798167u;
+    hash ^= hash >> 11 ^ hash >> 25;
+    hash = hash * 69069 + 907133923u;
+    self->hash = hash == UINT64_MAX ? 590923713 : (Py_hash_t)hash;
     return self->hash;
 }
 
 static PyObject *set_size_in_memory(code_point_set *self, PyObject *none) {
     (void)none;
-    size_t size = sizeof *self + self->count * sizeof *self->ends + self->frozen_count * sizeof *self->frozen;
-    return PyLong_FromSize_t(size);
+    size_t words = self->words ? (size_t)PyBytes_Size(self->words) : 0;
+    return PyLong_FromSize_t(sizeof *self + self->count * sizeof *self->ends + words);
 }
 
 static PyMethodDef methods[] = {
-    {"span", METHOD(set_span), METH_VARARGS | METH_KEYWORDS, set_span_text},
+    {"span", METHOD(set_span), METH_FASTCALL | METH_KEYWORDS, set_span_text},
+    {"span_back", METHOD(set_span_back), METH_FASTCALL | METH_KEYWORDS, set_span_back_text},
     {"isdisjoint", METHOD(set_is_disjoint), METH_O,
-     "isdisjoint($self, other, /)\n--\n\nReturn whether the two sets have no code point in common."},
+     "isdisjoint($self, other, /)\n--\n\n"
+     "Return whether the set has no code point in common with another set or iterable of code points."},
     {"_from_bytes", METHOD(set_from_bytes), METH_VARARGS | METH_CLASS, NULL},
+    {"_frozen", METHOD(set_frozen), METH_O | METH_CLASS, NULL},
     {"__sizeof__", METHOD(set_size_in_memory), METH_NOARGS,
      "__sizeof__($self, /)\n--\n\nReturn the size in memory, in bytes."},
     {NULL, NULL, 0, NULL}};
 
 static PyGetSetDef fields[] = {
     {"ends", (getter)set_ends, NULL, "The boundaries, in ascending order: a tuple of ints.", NULL},
+    {"_words", (getter)set_words, NULL, NULL, NULL},
     {NULL, NULL, NULL, NULL, NULL}};
 
 static PyType_Slot slots[] = {

@@ -42,18 +42,107 @@ void *raise_refusal(int64_t refusal) {
     }
 }
 
+void *raise_type(const char *name, const char *expected, PyObject *given) {
+    PyObject *kind = PyObject_GetAttrString((PyObject *)Py_TYPE(given), "__name__");
+    if (kind) PyErr_Format(PyExc_TypeError, "%s: expected %s, found %S", name, expected, kind);
+    Py_XDECREF(kind);
+    return NULL;
+}
+
+/* Returns the index of an argument's name, or -1 with TypeError set. */
+static Py_ssize_t named(const parameters *wanted, PyObject *name) {
+    for (Py_ssize_t i = 0; wanted->names[i]; i++)
+        if (!PyUnicode_CompareWithASCIIString(name, wanted->names[i])) return i;
+    PyErr_Format(PyExc_TypeError, "%s() has no argument %R", wanted->function, name);
+    return -1;
+}
+
+int sort_arguments(const parameters *wanted, PyObject *const *args, Py_ssize_t count, PyObject *keywords,
+                   PyObject **found) {
+    Py_ssize_t most = 0, named_count = keywords ? PyTuple_Size(keywords) : 0;
+    while (wanted->names[most]) found[most++] = NULL;
+    if (count > most) {
+        PyErr_Format(PyExc_TypeError, "%s() takes at most %zd arguments, found %zd", wanted->function, most, count);
+        return -1;
+    }
+    for (Py_ssize_t i = 0; i < count; i++) found[i] = args[i];
+    for (Py_ssize_t i = 0; i < named_count; i++) {
+        Py_ssize_t index = named(wanted, PyTuple_GetItem(keywords, i));
+        if (index < 0) return -1;
+        if (found[index]) {
+            PyErr_Format(PyExc_TypeError, "%s() has two arguments %s", wanted->function, wanted->names[index]);
+            return -1;
+        }
+        found[index] = args[count + i];
+    }
+    for (Py_ssize_t i = 0; i < wanted->least; i++) {
+        if (!found[i]) {
+            PyErr_Format(PyExc_TypeError, "%s() lacks the argument %s", wanted->function, wanted->names[i]);
+            return -1;
+        }
+    }
+    return 0;
+}
+
+int text_of(const char *name, PyObject *given, text *found) {
+    if (!PyUnicode_Check(given)) return raise_type(name, "a str", given), -1;
+    found->object = given;
+    /* Up to CPython 3.11 this also makes the characters readable, and may fail. */
+    found->length = PyUnicode_GetLength(given);
+    if (found->length < 0) return -1;
+#ifdef Py_LIMITED_API
+    found->copy = NULL;
+#else
+    found->kind = (int)PyUnicode_KIND(given);
+    found->data = PyUnicode_DATA(given);
+#endif
+    return 0;
+}
+
+#ifdef Py_LIMITED_API
+int text_open(text *from, Py_ssize_t start, Py_ssize_t stop) {
+    PyObject *part = PyUnicode_Substring(from->object, start, stop);
+    uint32_t *copy = part ? PyMem_Malloc(((size_t)(stop - start) + 1) * sizeof *copy) : NULL;
+    if (part && !copy) PyErr_NoMemory();
+    bool is_copied = copy && PyUnicode_AsUCS4(part, copy, stop - start + 1, 0);
+    Py_XDECREF(part);
+    if (!is_copied) {
+        PyMem_Free(copy);
+        return -1;
+    }
+    from->copy = copy;
+    from->copied = start;
+    return 0;
+}
+
+void text_close(text *from) {
+    PyMem_Free(from->copy);
+    from->copy = NULL;
+}
+#else
+int text_open(text *from, Py_ssize_t start, Py_ssize_t stop) { return (void)from, (void)start, (void)stop, 0; }
+void text_close(text *from) { (void)from; }
+#endif
+
+/* Returns the only character of a str, or POINT_ERROR with TypeError set. */
+static int64_t character(PyObject *given) {
+    text one;
+    if (text_of("code point", given, &one)) return POINT_ERROR;
+    if (one.length == 1) return text_at(&one, 0);
+    PyErr_Format(PyExc_TypeError, "code point: expected one character, found a str of length %zd", one.length);
+    return POINT_ERROR;
+}
+
 int64_t code_point(PyObject *given) {
-    if (PyUnicode_Check(given)) {
-        Py_ssize_t length = PyUnicode_GetLength(given);
-        if (length == 1) return PyUnicode_ReadChar(given, 0);
-        PyErr_Format(PyExc_TypeError, "expected one character, found a str of length %zd", length);
+    int overflow;
+    if (PyUnicode_Check(given)) return character(given);
+    PyObject *index = PyLong_Check(given) ? NULL : PyNumber_Index(given);
+    if (!index && !PyLong_Check(given)) {
+        if (PyErr_ExceptionMatches(PyExc_TypeError)) raise_type("code point", "an int or a str", given);
         return POINT_ERROR;
     }
-    PyObject *index = PyNumber_Index(given);
-    if (!index) return POINT_ERROR;
-    int overflow;
-    long long number = PyLong_AsLongLongAndOverflow(index, &overflow);
-    Py_DECREF(index);
+    long long number = PyLong_AsLongLongAndOverflow(index ? index : given, &overflow);
+    Py_XDECREF(index);
     return overflow || number < 0 || number > UINT32_MAX ? POINT_OUTSIDE : number;
 }
 
@@ -64,9 +153,13 @@ int64_t checked_code_point(PyObject *given) {
     return found;
 }
 
-Py_ssize_t start_index(PyObject *start, Py_ssize_t length) {
-    Py_ssize_t index = start ? PyNumber_AsSsize_t(start, NULL) : 0;
-    if (index == -1 && PyErr_Occurred()) return -1;
+Py_ssize_t slice_index(const char *name, PyObject *given, Py_ssize_t length, Py_ssize_t otherwise) {
+    if (!given || given == Py_None) return otherwise;
+    Py_ssize_t index = PyNumber_AsSsize_t(given, NULL);
+    if (index == -1 && PyErr_Occurred()) {
+        if (PyErr_ExceptionMatches(PyExc_TypeError)) raise_type(name, "an int", given);
+        return -1;
+    }
     if (index < 0) index += length;
     return index < 0 ? 0 : index > length ? length : index;
 }
@@ -112,6 +205,7 @@ over_bytes *over_bytes_new(PyTypeObject *type, PyObject *data) {
     self->bytes = size ? bytes : nothing;
     self->size = (size_t)size;
     self->hash = -1;
+    self->is_fixed = PyBytes_CheckExact(owner);
     return self;
 }
 

@@ -1,15 +1,25 @@
 /* What the files of the extension module `bekstaudi._native` share.
  *
- * The module uses only the limited API of CPython 3.9, so one binary works from 3.9 on. It has no
- * global or module state, so it works in subinterpreters: exceptions are looked up when they are raised,
- * and `is_set` recognises a set by its type's slots. */
+ * The module is compiled twice. One binary uses only the limited API of CPython 3.9 and works from 3.9
+ * on. The other one, with BEKSTAUDI_ONE_VERSION, is for the version that compiles it, and reads the
+ * characters of a str in place: see `text`. Nothing else differs.
+ *
+ * The module has no global or module state, so it works in subinterpreters: exceptions are looked up
+ * when they are raised, and `is_set` recognises a set by its type's slots. */
 #ifndef BEKSTAUDI_SHARED_H
 #define BEKSTAUDI_SHARED_H
 
 #define PY_SSIZE_T_CLEAN
+#ifndef BEKSTAUDI_ONE_VERSION
 #define Py_LIMITED_API 0x03090000
+#endif
 #include <Python.h>
 #include <bekstaudi.h>
+
+/* The calling convention is the same from 3.7 on, but the limited API names it only from 3.10 on. */
+#ifndef METH_FASTCALL
+#define METH_FASTCALL 0x0080
+#endif
 
 /* The GIL is released by calls over more numbers than this, which take more than 10 microseconds. */
 #define LONG_CALL 8192
@@ -21,6 +31,58 @@ void *raise_error(const char *name, PyObject *argument);
 
 /* Raises the exception for an `enum bks_refusal`. */
 void *raise_refusal(int64_t refusal);
+
+/* Raises TypeError: `name`: expected `expected`, found the type of `given`. */
+void *raise_type(const char *name, const char *expected, PyObject *given);
+
+/* ---- Arguments ---- */
+
+/* A function's name, the names of its arguments, ended by NULL, and how many of these it needs. */
+typedef struct {
+    const char *function;
+    const char *names[4];
+    Py_ssize_t least;
+} parameters;
+
+/* Sorts the arguments of a METH_FASTCALL | METH_KEYWORDS call: found[i] is the one that names[i] names,
+ * or NULL. Returns 0, or -1 with TypeError set. */
+int sort_arguments(const parameters *wanted, PyObject *const *args, Py_ssize_t count, PyObject *keywords,
+                   PyObject **found);
+
+/* ---- Texts ---- */
+
+/* A str that the caller keeps alive. With the limited API, each character is a call to the interpreter,
+ * unless it is in a copy. */
+typedef struct {
+    PyObject *object;
+    Py_ssize_t length;
+#ifdef Py_LIMITED_API
+    uint32_t *copy;         /* the characters from `copied` on, or NULL */
+    Py_ssize_t copied;
+#else
+    int kind;               /* bytes per character */
+    const void *data;
+#endif
+} text;
+
+/* Returns 0, or -1 with an exception set: TypeError if `given` is not a str. */
+int text_of(const char *name, PyObject *given, text *found);
+
+/* Makes a part of the characters readable without the GIL, until text_close. Returns 0, or -1 with an
+ * exception set. */
+int text_open(text *from, Py_ssize_t start, Py_ssize_t stop);
+void text_close(text *from);
+
+/* Returns the character at an index below the length. */
+static inline uint32_t text_at(const text *from, Py_ssize_t index) {
+#ifdef Py_LIMITED_API
+    return from->copy ? from->copy[index - from->copied] : PyUnicode_ReadChar(from->object, index);
+#else
+    return from->kind == 1   ? ((const Py_UCS1 *)from->data)[index]
+           : from->kind == 2 ? ((const Py_UCS2 *)from->data)[index]
+                             : ((const Py_UCS4 *)from->data)[index];
+#endif
+}
 
 /* ---- Code points and positions ---- */
 
@@ -34,8 +96,9 @@ int64_t code_point(PyObject *given);
 /* As `code_point`, but raises ValueError for an int outside 0..=0xFFFFFFFF. */
 int64_t checked_code_point(PyObject *given);
 
-/* Returns the index at which `text[start:]` starts, or -1 with an exception set. */
-Py_ssize_t start_index(PyObject *start, Py_ssize_t length);
+/* Returns an index of a slice, as `text[index:]` means it, and `otherwise` if it is NULL or None. Returns
+ * -1 with an exception set: TypeError if it is not an int. */
+Py_ssize_t slice_index(const char *name, PyObject *index, Py_ssize_t length, Py_ssize_t otherwise);
 
 /* ---- Borrowed bytes ---- */
 
@@ -51,6 +114,7 @@ typedef struct {
     const uint8_t *bytes;
     size_t size;
     Py_hash_t hash;         /* -1 if not computed yet */
+    bool is_fixed;          /* whether nobody can change the bytes: the owner is a bytes object */
     bks_trie trie;
 } over_bytes;
 
@@ -99,15 +163,20 @@ PyObject *new_view(Py_ssize_t count, Py_ssize_t width, void **address);
 
 /* ---- Sets ---- */
 
-/* Returns a new set of the given type that owns `ends`, memory from PyMem_Malloc, in every case. */
-PyObject *set_owning(PyTypeObject *type, uint32_t *ends, size_t count);
+typedef struct code_point_set code_point_set;
 
 /* Whether `object` is a set of this module or of a subclass. */
-int is_set(PyObject *object);
+bool is_set(PyObject *object);
+
+/* Says that so many code points are looked up: after many, the set makes its table. */
+void set_count_tests(code_point_set *self, size_t tests);
+
+/* Returns the index at which the span of `held` that starts at `at` ends, or -1 with an exception set. */
+Py_ssize_t set_span_end(code_point_set *self, const text *from, Py_ssize_t at, bool held);
 
 /* ---- Types ---- */
 
-extern PyType_Spec trie_spec, set_spec, units_spec;
+extern PyType_Spec trie_spec, set_spec, units_spec, spans_spec;
 PyObject *build_trie(PyObject *module, PyObject *args);
 PyObject *build_units(PyObject *module, PyObject *args);
 

@@ -1,7 +1,8 @@
 /* The type bekstaudi._native.Trie.
  *
- * Look-ups call the library and do not use the inline functions of bekstaudi.h: the library checks
- * each index, so nothing is read out of bounds even if the bytes change after the trie was opened. */
+ * Only look-ups in a bytes object use the inline functions of bekstaudi.h. The bytes of other objects,
+ * such as a mapped file, may change after the trie was opened: there the library checks each index, so
+ * that nothing is read out of bounds. */
 #include "shared.h"
 #include <string.h>
 
@@ -20,6 +21,15 @@ static PyObject *trie_new(PyTypeObject *type, PyObject *args, PyObject *keywords
     if (number) raise_error("TrieRefused", number);
     Py_XDECREF(number);
     return NULL;
+}
+
+static uint32_t value_of(const over_bytes *self, uint32_t c) {
+    const bks_trie *trie = &self->trie;
+    if (self->is_fixed)
+        return trie->width == 1 ? bks_get8(trie, c) : trie->width == 2 ? bks_get16(trie, c) : bks_get32(trie, c);
+    return trie->width == 1   ? bks_trie8_get(trie, c)
+           : trie->width == 2 ? bks_trie16_get(trie, c)
+                              : bks_trie32_get(trie, c);
 }
 
 static size_t get_many(const bks_trie *trie, const uint32_t *points, size_t count, void *values) {
@@ -69,13 +79,12 @@ PyDoc_STRVAR(trie_values_text,
     "The values are written to the start of `out`, if it is given: a contiguous writable buffer of\n"
     "unsigned integers of `value_bits` bits. ValueError if it has other items or is too short.");
 
-static PyObject *trie_values(over_bytes *self, PyObject *args, PyObject *keywords) {
-    static char *names[] = {"code_points", "out", NULL};
-    PyObject *given, *out = Py_None;
+static PyObject *trie_values(over_bytes *self, PyObject *const *args, Py_ssize_t count, PyObject *keywords) {
+    static const parameters wanted = {"values", {"code_points", "out", NULL}, 1};
+    PyObject *found[2];
     numbers points;
-    if (!PyArg_ParseTupleAndKeywords(args, keywords, "O|O", names, &given, &out)) return NULL;
-    if (numbers_of(given, &points)) return NULL;
-    PyObject *view = values_of(self, &points, out == Py_None ? NULL : out);
+    if (sort_arguments(&wanted, args, count, keywords, found) || numbers_of(found[0], &points)) return NULL;
+    PyObject *view = values_of(self, &points, found[1] == Py_None ? NULL : found[1]);
     numbers_free(&points);
     return view;
 }
@@ -98,10 +107,7 @@ static PyObject *trie_item(over_bytes *self, PyObject *key) {
     if (PySlice_Check(key)) return trie_slice(self, key);
     int64_t c = checked_code_point(key);
     if (c < 0) return NULL;
-    const bks_trie *trie = &self->trie;
-    return PyLong_FromUnsignedLong(trie->width == 1   ? bks_trie8_get(trie, (uint32_t)c)
-                                   : trie->width == 2 ? bks_trie16_get(trie, (uint32_t)c)
-                                                      : bks_trie32_get(trie, (uint32_t)c));
+    return PyLong_FromLong((long)value_of(self, (uint32_t)c));
 }
 
 /* Returns at most 256 ranges from a code point on: a list of first, last and value. */
@@ -195,7 +201,7 @@ PyObject *build_trie(PyObject *module, PyObject *args) {
 }
 
 static PyMethodDef methods[] = {
-    {"values", METHOD(trie_values), METH_VARARGS | METH_KEYWORDS, trie_values_text},
+    {"values", METHOD(trie_values), METH_FASTCALL | METH_KEYWORDS, trie_values_text},
     {"_ranges", METHOD(trie_ranges_from), METH_O, NULL},
     {"_set_of", METHOD(trie_set_of), METH_O, NULL},
     {"is_coherent", METHOD(trie_is_coherent), METH_NOARGS,

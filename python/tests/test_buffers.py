@@ -64,6 +64,7 @@ class ReadInPlace(unittest.TestCase):
         for byte in (0, 0x55, 0xFF):
             data[:] = bytes([byte]) * len(data)
             self.assertEqual(len(trie.values(range(0x110001))), 0x110001)
+            self.assertLess(max(trie[it] for it in range(0, 0x110001, 7)), 1 << 32)
             self.assertGreaterEqual(len(list(trie.ranges())), 0)
         with self.assertRaises(TrieRefused):
             Trie(data)

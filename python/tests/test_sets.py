@@ -1,9 +1,20 @@
-"""Sets of code points."""
+"""Sets of code points, frozen or not."""
+import array
+import collections.abc
+import itertools
 import operator
 import unittest
 
-from bekstaudi import CodePointSet, NoSet
+from bekstaudi import CodePointSet, FrozenCodePointSet, NoSet
 from samples import copies
+
+# Boundaries of few and of many ranges.
+ENDS = ([0x41, 0x5B, 0x61, 0x7B], [it for first in range(0, 0x110000, 4999) for it in (first, first + 700 + first % 1999)])
+
+
+def both_kinds(ends):
+    """The set of some boundaries, not frozen and frozen."""
+    return CodePointSet(ends), FrozenCodePointSet(ends)
 
 
 class Sets(unittest.TestCase):
@@ -40,11 +51,57 @@ class Sets(unittest.TestCase):
                 self.assertEqual((left >= right, left > right), (mine >= theirs, mine > theirs))
                 self.assertEqual((left == right, left != right), (mine == theirs, mine != theirs))
                 self.assertEqual(left.isdisjoint(right), mine.isdisjoint(theirs))
-        for wrong in ({0x41}, 5, None):
-            with self.assertRaises(TypeError):
-                self.letters <= wrong
+        for wrong in ([0x41], 5, None, "A", {0x41: 1}):
+            for compare in (operator.le, operator.lt, operator.ge, operator.gt):
+                with self.assertRaises(TypeError):
+                    compare(self.letters, wrong)
+            self.assertNotEqual(self.letters, wrong)
+        for wrong in (5, None):
             with self.assertRaises(TypeError):
                 self.letters.isdisjoint(wrong)
+
+    def test_other_sets(self):
+        tables = [set(), {0x41}, {0x41, 0x42, 7}, set(self.letters), set(self.letters) | {0x10FFFF}, {0x5B}]
+        for theirs, made in itertools.product(tables, both_kinds(ENDS[0])):
+            for other in (theirs, frozenset(theirs), dict.fromkeys(theirs).keys(), CodePointSet.from_chars(theirs)):
+                mine = set(made)
+                for compare in (operator.le, operator.lt, operator.ge, operator.gt, operator.eq, operator.ne):
+                    self.assertEqual(compare(made, other), compare(mine, theirs))
+                    self.assertEqual(compare(other, made), compare(theirs, mine))
+                for operation in (operator.or_, operator.and_, operator.sub, operator.xor):
+                    self.assertEqual(set(operation(made, other)), operation(mine, theirs))
+                    self.assertEqual(set(operation(other, made)), operation(theirs, mine))
+                    self.assertIs(type(operation(made, other)), type(made))
+                for name in ("isdisjoint", "issubset", "issuperset"):
+                    for given in (other, list(theirs), map(chr, theirs)):
+                        self.assertEqual(getattr(made, name)(given), getattr(mine, name)(theirs))
+        for operation in (operator.or_, operator.and_, operator.sub, operator.xor):
+            for wrong in ({0x41, None}, {1.5}, {"ab"}):
+                with self.assertRaises(TypeError):
+                    operation(self.letters, wrong)
+            with self.assertRaises(NoSet):
+                operation(self.letters, {-1})
+
+    def test_methods_of_python_sets(self):
+        for made in both_kinds(ENDS[0]):
+            mine, others = set(made), ({1, 0x41}, [0x42, 0x41], "AZ", CodePointSet([0x41, 0x44]))
+            shown = [set(map(ord, it)) if isinstance(it, str) else set(it) for it in others]
+            for name in ("union", "intersection", "difference"):
+                for count in range(5):
+                    found = getattr(made, name)(*others[:count])
+                    self.assertEqual((found, type(found)), (getattr(mine, name)(*shown[:count]), type(made)))
+            for other, theirs in zip(others, shown):
+                self.assertEqual(made.symmetric_difference(other), mine ^ theirs)
+            for name in ("union", "intersection", "difference", "symmetric_difference", "issubset", "issuperset"):
+                with self.assertRaises(TypeError):
+                    getattr(made, name)(5)
+
+    def test_equal_to_python_sets(self):
+        for ends in ([], [0, 1], [0, 0x110000], [0x10FFFF, 0x110000], *ENDS):
+            for made in both_kinds(ends):
+                self.assertIsInstance(made, collections.abc.Set)
+                self.assertEqual((made, hash(made)), (frozenset(made), hash(frozenset(made))))
+                self.assertEqual(len({made, frozenset(made)}), 1)
 
     def test_equal_sets_hash_alike(self):
         same = CodePointSet([0x41, 0x5B]) | CodePointSet([0x61, 0x7B])
@@ -108,9 +165,85 @@ class Sets(unittest.TestCase):
         self.assertEqual(CodePointSet([0xD800, 0xE000]).span("\udfff\ud800x"), 2)
         self.assertEqual(CodePointSet([0xD800, 0xE000]).span("\U0001f600"), 0)
 
+    def test_spans(self):
+        tables = ([0x370, 0x400], [], [0, 0x110000], [it for first in range(0x370, 0x3000, 7) for it in (first, first + 5)])
+        texts = ("", "a", "\u03b1", "ab\u03b1\u03b2c", "\u03b1\ud800\U0001f600\u03b2", 700 * "\u03b1b" + 600 * "\u03b1", 70000 * "x" + 70000 * "\u03b1")
+        for made, text in itertools.product(map(CodePointSet, tables), texts):
+            for one in (made, made.freeze()):
+                for start in (0, 1, 3, -2, len(text), len(text) + 5):
+                    at = slice(start, None).indices(len(text))[0]
+                    wanted = []
+                    for held, part in itertools.groupby(text[at:], one.__contains__):
+                        wanted.append((at, at + sum(1 for _ in part), held))
+                        at = wanted[-1][1]
+                    self.assertEqual(list(one.spans(text, start)), wanted)
+        spans = self.letters.spans("a b")
+        self.assertIs(iter(spans), spans)
+        self.assertEqual([next(spans), *spans, next(spans, None)], [(0, 1, True), (1, 2, False), (2, 3, True), None])
+        for wrong in (b"abc", 5, None):
+            with self.assertRaisesRegex(TypeError, "^text: expected a str, found "):
+                self.letters.spans(wrong)
+        with self.assertRaisesRegex(TypeError, "^start: expected an int, found float$"):
+            self.letters.spans("abc", 1.5)
+
+    def test_span_back(self):
+        for made in both_kinds(ENDS[0]):
+            self.assertEqual((made.span_back("12ab"), made.span_back("12ab", False), made.span_back("")), (2, 0, 0))
+            for count in (0, 1, 511, 512, 513, 65535 + 512, 65536 + 512, 65537 + 512, 200000):
+                for more in ("", "1", "\U0001f600", "A1"):
+                    self.assertEqual(made.span_back(more + count * "A"), count)
+                    self.assertEqual(made.span_back(more + "A" + count * "1" + "xx", False, -2), count)
+            text = "ab1\u03b1c"
+            for end in (*range(-7, 8), None):
+                for held in (True, False):
+                    reversed_text = text[:end][::-1]
+                    self.assertEqual(made.span_back(text, held, end), made.span(reversed_text, held))
+        for wrong in (b"abc", 5, None):
+            with self.assertRaisesRegex(TypeError, "^text: expected a str, found "):
+                self.letters.span_back(wrong)
+        with self.assertRaisesRegex(TypeError, "^end: expected an int, found float$"):
+            self.letters.span_back("abc", end=1.5)
+
+    def test_frozen(self):
+        for ends in ([], [0, 0x110000], *ENDS):
+            made = CodePointSet(ends)
+            frozen = made.freeze()
+            self.assertIs(type(frozen), FrozenCodePointSet)
+            self.assertIs(frozen.freeze(), frozen)
+            self.assertEqual((frozen, hash(frozen), frozen.ends), (made, hash(made), made.ends))
+            self.assertEqual(FrozenCodePointSet(ends), frozen)
+            self.assertEqual(repr(frozen), "Frozen" + repr(made))
+            members = set(made)
+            for c in [*range(0, 0x110000, 97), *ends, *(it - 1 for it in ends if it)]:
+                self.assertEqual(c in frozen, c in members)
+            for it in copies(frozen):
+                self.assertEqual((it, hash(it), type(it)), (frozen, hash(frozen), FrozenCodePointSet))
+            for it in (frozen | made, ~frozen, FrozenCodePointSet.from_chars("ab"), FrozenCodePointSet.from_ranges([(1, 2)])):
+                self.assertIs(type(it), FrozenCodePointSet)
+                self.assertGreater(it.__sizeof__(), 8000)
+            self.assertIs(type(made | frozen), CodePointSet)
+
+    def test_words_of_a_frozen_set(self):
+        # The layout that bekstaudi.h describes.
+        for ends in ([], [0, 0x110000], *ENDS):
+            frozen, members = FrozenCodePointSet(ends), set(CodePointSet(ends))
+            words = frozen.words
+            self.assertEqual((words.format, words.itemsize, words.readonly), ("Q", 8, True))
+            offsets = memoryview(words.cast("B")).cast("H")
+            for c in [*range(0, 0x110000, 97), *range(0x300)]:
+                word = words[1088 + offsets[c >> 8] + (c >> 6 & 3)]
+                self.assertEqual(word >> (c & 63) & 1, c in members)
+            self.assertEqual(array.array("Q", words).tobytes(), bytes(words))
+            del frozen
+            self.assertEqual(len(words[1088:]) % 4, 0)
+        with self.assertRaises(TypeError):
+            words[0] = 5
+        with self.assertRaises(AttributeError):
+            self.letters.words
+
     def test_frozen_sets_answer_alike(self):
         # A set of many ranges is frozen once it was asked for 512 code points.
-        ends = [it for first in range(0, 0x110000, 4999) for it in (first, first + 700 + first % 1999)]
+        ends = ENDS[1]
         small, large = CodePointSet(ends[:16]), CodePointSet(ends)
         for made in (small, large):
             size = made.__sizeof__()
@@ -152,10 +285,11 @@ class Sets(unittest.TestCase):
         with self.assertRaises(TypeError):
             CodePointSet("AZ")
         for operation in (operator.or_, operator.and_, operator.sub, operator.xor):
-            with self.assertRaises(TypeError):
-                operation(self.letters, {0x41})
-            with self.assertRaises(TypeError):
-                operation(5, self.letters)
+            for wrong in (5, None, [0x41], "A"):
+                with self.assertRaises(TypeError):
+                    operation(self.letters, wrong)
+                with self.assertRaises(TypeError):
+                    operation(wrong, self.letters)
 
 if __name__ == "__main__":
     unittest.main()

@@ -74,13 +74,29 @@ class Tries(unittest.TestCase):
         self.assertRegex(repr(Trie.build([], small=True)), r"^<Trie: small, values of 8 bits, \d+ bytes>$")
 
     def test_no_numbers(self):
-        for wrong in ({"default": 1.0}, {"error": "1"}, {"width": 1.0}):
-            with self.assertRaises(TypeError):
+        for wrong, name in (({"default": 1.0}, "default"), ({"error": 1.5}, "error"), ({"width": 1.0}, "width")):
+            with self.assertRaisesRegex(TypeError, f"^{name}: expected an int, found float$"):
                 Trie.build([(0, 1, 2)], **wrong)
-        with self.assertRaises(TypeError):
+        with self.assertRaisesRegex(TypeError, "^the value of a row: expected an int, found float$"):
             Trie.build([(0, 1, 2.0)])
-        with self.assertRaises(TypeError):
+        with self.assertRaisesRegex(TypeError, "^value: expected an int, found float$"):
             Trie(read(NAMES[0])).set_of(1.0)
+
+    def test_arguments_by_name(self):
+        trie = Trie(read(NAMES[0]))
+        self.assertEqual(trie.values(code_points="ab"), trie.values("ab", None))
+        for wrong, said in (
+            (lambda: trie.values(), r"^values\(\) lacks the argument code_points$"),
+            (lambda: trie.values("a", None, 5), r"^values\(\) takes at most 2 arguments, found 3$"),
+            (lambda: trie.values("a", code_points="b"), r"^values\(\) has two arguments code_points$"),
+            (lambda: trie.values("a", points="b"), r"^values\(\) has no argument 'points'$"),
+            (lambda: trie.values(5), "^code_points: expected a str, integers in a buffer or an iterable, found int$"),
+            (lambda: trie.values([1.0]), "^code point: expected an int or a str, found float$"),
+            (lambda: trie[1.0], "^code point: expected an int or a str, found float$"),
+            (lambda: trie["ab"], "^code point: expected one character, found a str of length 2$"),
+        ):
+            with self.assertRaisesRegex(TypeError, said):
+                wrong()
 
     def test_no_bytes(self):
         for wrong in (5, True, "abc", None, [1, 2], object()):

@@ -93,6 +93,57 @@ class UnitTries(unittest.TestCase):
             with self.assertRaisesRegex(NoTrie, "units are not a trie"):
                 asks(UnitTrie(b"\x30\0"))
 
+    def test_equal_to_mappings(self):
+        words = {"car": 2, "cat": 3, "\ud83d": 5, "\U0001f600": 6}
+        trie = UnitTrie.build(words)
+        for same in (words, collections.OrderedDict(words), UnitTrie.build(words)):
+            self.assertTrue(trie == same and same == trie and not trie != same)
+        self.assertEqual(collections.ChainMap({"car": 2}), UnitTrie.build({"car": 2}))
+        more, less = {**words, "x": 1}, {it: words[it] for it in ("car", "cat")}
+        for other in (more, less, {**words, "cat": 4}, {**less, "x": 5, "y": 6}, {**less, 5: 5, 6: 6}, {}, [*words], 5, None):
+            self.assertTrue(trie != other and other != trie and not trie == other)
+        # Two keys of a dict that are one key of a trie.
+        self.assertNotEqual(UnitTrie.build({"\U0001f600": 2, "x": 2}), {"\U0001f600": 2, "\ud83d\ude00": 2})
+        self.assertEqual(UnitTrie(b""), {})
+        self.assertNotEqual(UnitTrie(b"\x30\0"), {})
+
+    def test_below_a_prefix(self):
+        words = ["", "a", "ab", "abc", "abd", "abcdefghijklmnopqrstuvwxyz", "b" * 40, "b" * 40 + "c", "\u00e9", "\U0001f600"]
+        words += [f"p{it:x}" for it in range(300)] + [f"s{chr(0x1F600 + it)}" for it in range(5)] + ["s\U0001f600\U0001f601x"]
+        words += ["t\U0001f600", "u\U0001f600\U0001f601", "u\U0001f600\U0001f602", "uu\U00010000", "uu\uffff"]
+        trie = UnitTrie.build({it: place for place, it in enumerate(words)})
+        everything = trie.items()
+        self.assertEqual(sorted(key for key, _ in everything), sorted(words))
+        for word in words:
+            for prefix in {word[:it] for it in range(len(word) + 1)} | {word + "x", word + "\U0001f600", "x" + word}:
+                wanted = [it for it in everything if it[0].startswith(prefix)]
+                self.assertEqual(trie.items(prefix), wanted, prefix)
+                self.assertEqual(trie.items(prefix=[*memoryview(prefix.encode("utf-16-le")).cast("H")]), wanted)
+                self.assertEqual(trie.keys(prefix), [key for key, _ in wanted])
+                self.assertEqual(trie.values(prefix=prefix), [value for _, value in wanted])
+        self.assertEqual(len(trie.items("s\ud83d")), 6)
+        self.assertEqual(trie.items("s\ud83d")[:2], trie.items("s")[:2])
+        for wrong in (5, None, b"a"):
+            with self.assertRaisesRegex(TypeError, "^key: expected a str or a list of 16-bit units, found "):
+                trie.items(wrong)
+
+    def test_below_a_prefix_of_icu_and_damaged(self):
+        tries = [UnitTrie(b""), UnitTrie(b"\x30"), UnitTrie(b"\x30\0")]
+        if os.path.exists(f"{FOLDER}/names.units"):
+            with open(f"{FOLDER}/names.units", "rb") as file:
+                units = file.read()
+            tries += [UnitTrie(units)]
+            everything = tries[-1].items()
+            for prefix in ("LATIN", "LATIN SMALL LETTER A", "G", "GREEK SMALL LETTER OMEG", "ZZZ", "CJK"):
+                self.assertEqual(tries[-1].items(prefix), [it for it in everything if it[0].startswith(prefix)])
+        words = {f"{it:x}\U0001f600": it for it in range(500)}
+        units = UnitTrie.build(words).data
+        tries += [UnitTrie(bytes(it ^ (place % 97 == 5) for place, it in enumerate(units))), UnitTrie(units[:99])]
+        for trie in tries[:3] + tries[-2:]:
+            for prefix in (*words, *"0123456789abcdef", "1\ud83d"):
+                if trie.items(prefix):
+                    self.assertTrue(all(key.startswith(prefix[:1]) for key in trie.keys(prefix)))
+
     def test_shown_keys_that_are_none(self):
         trie = UnitTrie.build({"\ud83d": 6, "\ufffd": 9})
         self.assertEqual((len(trie), trie.items()), (2, [("\ufffd", 6), ("\ufffd", 9)]))
@@ -114,10 +165,18 @@ class UnitTries(unittest.TestCase):
                 UnitTrie(wrong)
 
     def test_no_keys(self):
-        for wrong in (5, None, {0x61}, ["a"], [1.0]):
+        for wrong in (5, None, {0x61}, ["a"], [1.0], b"a", bytearray(b"a")):
             for asks in (self.worked.__getitem__, self.worked.__contains__, self.worked.get):
-                with self.assertRaises(TypeError):
+                with self.assertRaisesRegex(TypeError, "^key: expected a str or a list of "):
                     asks(wrong)
+        for wrong in (b"a", bytearray(b"ab")):
+            with self.assertRaisesRegex(TypeError, "^key: expected a str or a list of "):
+                UnitTrie.build([(wrong, 1)])
+        for asks in (self.worked.longest, self.worked.prefixes):
+            with self.assertRaisesRegex(TypeError, "^text: expected a str, found bytes$"):
+                asks(b"a")
+            with self.assertRaisesRegex(TypeError, "^start: expected an int, found float$"):
+                asks("a", start=1.0)
         for wrong in ([-1], [0x10000], [1 << 70]):
             with self.assertRaises(OverflowError):
                 self.worked.get(wrong)

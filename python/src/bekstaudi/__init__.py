@@ -15,11 +15,15 @@ change. They read bytes-like objects in place if these are read-only, such as by
 file must not change while an object uses them: results are then unspecified, but memory-safe.
 """
 import collections.abc
+import functools
 import itertools
 import operator
 from array import array
 
-from . import _native
+try:
+    from . import _native
+except ImportError as fault:
+    raise ImportError(f"bekstaudi: no extension module for this Python ({fault}): pip install ./python") from fault
 from ._errors import (
     BekstaudiError,
     LongKey,
@@ -33,14 +37,24 @@ from ._errors import (
     WideValue,
 )
 
-__all__ = ["BekstaudiError", "CodePointSet", "LongKey", "NoForm", "NoMemory", "NoSet", "NoTrie"]
-__all__ += ["SameKey", "TooLarge", "Trie", "TrieRefused", "UnitTrie", "WideValue"]
+__all__ = ["BekstaudiError", "CodePointSet", "FrozenCodePointSet", "LongKey", "NoForm", "NoMemory"]
+__all__ += ["NoSet", "NoTrie", "SameKey", "TooLarge", "Trie", "TrieRefused", "UnitTrie", "WideValue"]
 __version__ = _native.version
+
+
+def _int(name, given):
+    """Return an int. Raises a TypeError that names the argument."""
+    try:
+        return operator.index(given)
+    except TypeError:
+        raise TypeError(f"{name}: expected an int, found {type(given).__name__}") from None
 
 
 def _as_int(code_point):
     """Return a code point as an int of any size."""
-    return ord(code_point) if isinstance(code_point, str) else operator.index(code_point)
+    if isinstance(code_point, str) and len(code_point) == 1:
+        return ord(code_point)
+    return _int("code point", code_point) if not isinstance(code_point, str) else _native.point(code_point)
 
 
 def _wide_value(rows, default, error, bits):
@@ -59,6 +73,8 @@ def _units(key):
     """Return the units of a key, two bytes each: a str in UTF-16, or the items of a list."""
     if isinstance(key, str):
         return key.encode("utf-16-le", "surrogatepass")
+    if isinstance(key, (bytes, bytearray)):
+        raise TypeError(f"key: expected a str or a list of 16-bit units, found {type(key).__name__}")
     return array("H", key).tobytes()
 
 
@@ -99,12 +115,13 @@ class Trie(_native.Trie):
         trie would be too large, and NoMemory.
         """
         rows = [(_native.point(it), _native.point(last), value) for it, last, value in rows]
-        numbers = [operator.index(it) for it in (default, error, *(row[2] for row in rows))]
+        numbers = [_int("default", default), _int("error", error)]
+        numbers += [_int("the value of a row", row[2]) for row in rows]
         if min(numbers) < 0 or max(numbers) >= 1 << 32:
             raise _wide_value(rows, default, error, 32)
         if width is None:
             width = next(it for it in (1, 2, 4) if max(numbers) >> 8 * it == 0)
-        if operator.index(width) not in (1, 2, 4):
+        if _int("width", width) not in (1, 2, 4):
             raise NoForm(f"width: expected 1, 2 or 4 bytes, found {width!r}")
         packed = array("I", itertools.chain.from_iterable(rows)).tobytes()
         try:
@@ -121,7 +138,7 @@ class Trie(_native.Trie):
 
     def set_of(self, value):
         """Return the set of the code points with this value."""
-        if not 0 <= operator.index(value) < 1 << 32:
+        if not 0 <= _int("value", value) < 1 << 32:
             return CodePointSet()
         return CodePointSet._from_bytes(self._set_of(operator.index(value)))
 
@@ -141,8 +158,9 @@ class CodePointSet(_native.CodePointSet):
     ranges and of characters. Raises NoSet if the numbers are not the boundaries of a set.
 
     `in` asks for a code point: no other number is in a set. `len` counts the code points, and
-    iteration yields them as ints. `|`, `&`, `-`, `^` and `~` make new sets; `<=`, `<`, `>=` and `>`
-    compare as those of Python's sets do. Two sets are equal if they have the same code points.
+    iteration yields them as ints. `|`, `&`, `-`, `^` and `~` make new sets of the left operand's class;
+    `<=`, `<`, `>=` and `>` compare as those of Python's sets do. The other operand may be any
+    `collections.abc.Set` of code points. A set equals every one that has the same ints.
     """
 
     __slots__ = ("__weakref__",)
@@ -169,6 +187,45 @@ class CodePointSet(_native.CodePointSet):
         """Make the set of the characters of a text, or of any iterable of code points."""
         return cls.from_ranges((it, it) for it in set(text))
 
+    def freeze(self):
+        """Return the same set as a FrozenCodePointSet, for many look-ups."""
+        return FrozenCodePointSet._frozen(self)
+
+    def spans(self, text, start=0):
+        """Return an iterator of the spans of `text[start:]`: start, end, and whether they are in the set.
+
+        In turns all characters of a span are in the set, and none is. `text[start:end]` is a span.
+        """
+        return _native.Spans(self, text, start)
+
+    def issubset(self, other):
+        """Return whether another set or iterable has all code points of this set."""
+        return self <= self._as_set(other)
+
+    def issuperset(self, other):
+        """Return whether this set has all code points of another set or iterable."""
+        return self >= self._as_set(other)
+
+    def union(self, *others):
+        """Return the set of the code points in this set or in another set or iterable."""
+        return functools.reduce(operator.or_, map(self._as_set, others), self)
+
+    def intersection(self, *others):
+        """Return the set of the code points in this set and in all other sets or iterables."""
+        return functools.reduce(operator.and_, map(self._as_set, others), self)
+
+    def difference(self, *others):
+        """Return the set of the code points in this set and in no other set or iterable."""
+        return functools.reduce(operator.sub, map(self._as_set, others), self)
+
+    def symmetric_difference(self, other):
+        """Return the set of the code points in either this set or another set or iterable."""
+        return self ^ self._as_set(other)
+
+    @classmethod
+    def _as_set(cls, other):
+        return other if isinstance(other, CodePointSet) else cls.from_chars(other)
+
     def ranges(self):
         """Return the ranges of code points in order: a list of first and last ones, inclusive."""
         ends = self.ends
@@ -185,6 +242,28 @@ class CodePointSet(_native.CodePointSet):
         return f"{type(self).__name__}([{', '.join(map(hex, self.ends))}])"
 
 
+class FrozenCodePointSet(CodePointSet):
+    """A CodePointSet with a table of 9 to 148 kB, by which each look-up takes two reads.
+
+    `CodePointSet.freeze` makes it; `FrozenCodePointSet(ends)` does so from boundaries. It equals, and
+    has the hash of, the set that it was made of.
+    """
+
+    __slots__ = ()
+
+    def __new__(cls, ends=()):
+        return cls._frozen(CodePointSet(ends))
+
+    def freeze(self):
+        """Return the set itself."""
+        return self
+
+    @property
+    def words(self):
+        """The table: a read-only memoryview of 64-bit words, as `bks_set_freeze` of the library writes it."""
+        return memoryview(self._words).cast("Q")
+
+
 class UnitTrie(_native.UnitTrie):
     """A map from words to signed numbers, in the units that ICU's `UCharsTrieBuilder` writes.
 
@@ -196,7 +275,7 @@ class UnitTrie(_native.UnitTrie):
     Iteration yields the keys as str, in the order of their units, with U+FFFD for a lone surrogate:
     such a str is not a key, or is another one. `len` is the number of entries; it raises NoTrie if
     the units are not a trie, as `bool` and `list` do. Two tries are equal if their units are the
-    same.
+    same, and a trie equals any other mapping with the same entries.
     """
 
     __slots__ = ("__weakref__",)
@@ -227,13 +306,21 @@ class UnitTrie(_native.UnitTrie):
             units = next(units for units, count in counts.items() if count > 1)
             raise SameKey(f"key {_shown(units)}: {counts[units]} entries have it") from None
 
-    def keys(self):
-        """Return the keys as `items` shows them, in the order of their units: a list."""
-        return [key for key, _ in self.items()]
+    def keys(self, prefix=""):
+        """Return the keys that start with `prefix`, as `items` shows them: a list."""
+        return [key for key, _ in self.items(prefix)]
 
-    def values(self):
-        """Return the values in the order of the keys' units: a list."""
-        return [value for _, value in self.items()]
+    def values(self, prefix=""):
+        """Return the values of the keys that start with `prefix`, in the order of `items`: a list."""
+        return [value for _, value in self.items(prefix)]
+
+    def _compared(self, other, is_equal):
+        """Return whether a mapping has the same entries, or not; NotImplemented for anything else."""
+        if not isinstance(other, collections.abc.Mapping):
+            return NotImplemented
+        entries = {_units(key): value for key, value in other.items() if isinstance(key, str)}
+        same = len(entries) == len(other) == self.count() and all(self.get(it) == other[it] for it in other)
+        return same is bool(is_equal)
 
     def __iter__(self):
         return iter(self.keys())
@@ -245,4 +332,5 @@ class UnitTrie(_native.UnitTrie):
         return f"<{type(self).__name__}: {len(self.data) // 2} units>"
 
 
+collections.abc.Set.register(CodePointSet)
 collections.abc.Mapping.register(UnitTrie)
