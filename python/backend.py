@@ -1,6 +1,9 @@
 """Builds the wheel of this folder, for pip (PEP 517): the module in C is compiled over the static
 library that c/build makes, and is packed with the Python files.
 
+The wheel has the module twice: once for every CPython from 3.9 on, and once for the version that runs
+this, which prefers it (native/shared.h says what it gains).
+
 It needs only the standard library, a C compiler (CC, or cc) and Python's headers: with setuptools,
 pip could not install this folder without a network on a Python that lacks setuptools or wheel. The
 same sources make the same wheel, byte for byte. SOURCE_DATE_EPOCH is the time of its files.
@@ -33,21 +36,22 @@ def _version():
 
 
 def _compiled(folder):
-    """Compile the module into a folder. Return its path."""
+    """Compile the modules into a folder. Return their paths."""
     if not LIBRARY.exists():
         subprocess.run([C / "build"], check=True, stdout=subprocess.DEVNULL)
     headers = sysconfig.get_path("include")
     if not os.path.exists(f"{headers}/Python.h"):
         raise SystemExit(f"bekstaudi: no Python.h in {headers}: install Python's headers (python3-dev)")
-    module = folder / "_native.abi3.so"
-    words = [*shlex.split(os.environ.get("CC", "cc")), "-std=c11", "-O2", "-fPIC", "-Wall", "-Wextra", "-fvisibility=hidden"]
-    words += [f'-DBEKSTAUDI_VERSION="{_version()}"', f"-I{headers}", f"-I{C}", "-I.", "-shared", "-s"]
+    words = [*shlex.split(os.environ.get("CC", "cc")), "-std=c11", "-O2", "-fPIC", "-Wall", "-Wextra"]
+    words += ["-fvisibility=hidden", f'-DBEKSTAUDI_VERSION="{_version()}"', f"-I{headers}", f"-I{C}", "-I.", "-shared", "-s"]
     # The proved library is built for x86-64-v2, cargo's for every x86-64.
     words += ["-DBEKSTAUDI_NEEDS_SSE4_2"] if MADE_BY.read_text().startswith("proved") else []
-    words += ["-Wl,--exclude-libs,ALL", "-Wl,--gc-sections", "-o", module]
-    words += sorted(it.name for it in (HERE / "native").glob("*.c"))
-    subprocess.run([*words, LIBRARY], check=True, cwd=HERE / "native")
-    return module
+    words += ["-Wl,--exclude-libs,ALL", "-Wl,--gc-sections"]
+    sources = sorted(it.name for it in (HERE / "native").glob("*.c"))
+    every, own = folder / "_native.abi3.so", folder / f"_native{sysconfig.get_config_var('EXT_SUFFIX')}"
+    for module, more in ((every, []), (own, ["-DBEKSTAUDI_ONE_VERSION"])):
+        subprocess.run([*words, *more, "-o", module, *sources, LIBRARY], check=True, cwd=HERE / "native")
+    return [every, own]
 
 
 def _metadata():
@@ -65,10 +69,10 @@ def _metadata():
     return f"{head}\n{(HERE / 'README.md').read_text(encoding='utf-8')}"
 
 
-def _files(module):
+def _files(modules):
     """Return the content of each file of the wheel, by its name."""
     info = f"bekstaudi-{_version()}.dist-info"
-    files = {f"bekstaudi/{module.name}": module.read_bytes()}
+    files = {f"bekstaudi/{it.name}": it.read_bytes() for it in modules}
     for path in sorted((HERE / "src/bekstaudi").glob("*.py*")):
         if path.is_file():
             files[f"bekstaudi/{path.name}"] = path.read_bytes()
