@@ -160,7 +160,7 @@ void *raise_outside(const numbers *given, Py_ssize_t index) {
 }
 
 PyObject *output_view(PyObject *out, Py_ssize_t count, Py_ssize_t width, void **address) {
-    PyObject *view = PyMemoryView_FromObject(out), *part = NULL;
+    PyObject *view = view_of("out", "a writable buffer", out), *part = NULL;
     int kind = view ? view_kind(view) : 0;
     Py_ssize_t size, item_size = kind ? view_number(view, "itemsize") : -1;
     Py_ssize_t contiguous = item_size < 0 ? -1 : view_number(view, "c_contiguous");
@@ -170,7 +170,11 @@ PyObject *output_view(PyObject *out, Py_ssize_t count, Py_ssize_t width, void **
                      8 * (int)width);
         goto done;
     }
-    if (writable_bytes_of(view, address, &size)) goto done;
+    if (writable_bytes_of(view, address, &size)) {
+        if (PyErr_ExceptionMatches(PyExc_TypeError) || PyErr_ExceptionMatches(PyExc_BufferError))
+            PyErr_SetString(PyExc_TypeError, "out: expected a writable buffer, found a read-only one");
+        goto done;
+    }
     if (size / width < count) {
         PyErr_Format(PyExc_ValueError, "out: expected room for %zd values, found %zd", count, size / width);
         goto done;

@@ -72,7 +72,11 @@ static PyObject *set_new(PyTypeObject *type, PyObject *args, PyObject *keywords)
     static char *names[] = {"ends", NULL};
     PyObject *given = NULL;
     if (!PyArg_ParseTupleAndKeywords(args, keywords, "|O", names, &given)) return NULL;
-    PyObject *all = given ? PySequence_Tuple(given) : PyTuple_New(0);
+    PyObject *iterator = given ? PyObject_GetIter(given) : NULL;
+    if (given && !iterator)
+        return PyErr_ExceptionMatches(PyExc_TypeError) ? raise_type("ends", "an iterable of ints", given) : NULL;
+    PyObject *all = given ? PySequence_Tuple(iterator) : PyTuple_New(0);
+    Py_XDECREF(iterator);
     if (!all) return NULL;
     Py_ssize_t count = PyTuple_Size(all), read = 0;
     uint32_t *ends = PyMem_Malloc(((size_t)count + 1) * sizeof *ends);

@@ -164,6 +164,12 @@ Py_ssize_t slice_index(const char *name, PyObject *given, Py_ssize_t length, Py_
     return index < 0 ? 0 : index > length ? length : index;
 }
 
+PyObject *view_of(const char *name, const char *expected, PyObject *given) {
+    PyObject *view = PyMemoryView_FromObject(given);
+    if (!view && PyErr_ExceptionMatches(PyExc_TypeError)) raise_type(name, expected, given);
+    return view;
+}
+
 /* Whether an attribute of a memoryview is true; -1 with an exception set. */
 static int view_flag(PyObject *view, const char *name) {
     PyObject *value = PyObject_GetAttrString(view, name);
@@ -175,9 +181,9 @@ static int view_flag(PyObject *view, const char *name) {
 /* Returns the object to read: `data` itself if it is bytes, else a memoryview of it if its bytes are
  * read-only, else a copy as bytes. A memoryview locks its buffer: a mapped file cannot be closed and
  * an array cannot be resized while it exists. */
-static PyObject *readable(PyObject *data) {
+static PyObject *readable(const char *name, PyObject *data) {
     if (PyBytes_CheckExact(data)) return Py_INCREF(data), data;
-    PyObject *view = PyMemoryView_FromObject(data);
+    PyObject *view = view_of(name, "a bytes-like object", data);
     int read_only = view ? view_flag(view, "readonly") : -1;
     int contiguous = read_only > 0 ? view_flag(view, "c_contiguous") : read_only;
     if (contiguous > 0) return view;
@@ -186,8 +192,8 @@ static PyObject *readable(PyObject *data) {
     return copy;
 }
 
-over_bytes *over_bytes_new(PyTypeObject *type, PyObject *data) {
-    PyObject *owner = readable(data);
+over_bytes *over_bytes_new(PyTypeObject *type, const char *name, PyObject *data) {
+    PyObject *owner = readable(name, data);
     const void *bytes;
     Py_ssize_t size;
     if (!owner || bytes_of(owner, &bytes, &size)) {

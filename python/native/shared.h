@@ -107,6 +107,9 @@ Py_ssize_t slice_index(const char *name, PyObject *index, Py_ssize_t length, Py_
 int bytes_of(PyObject *owner, const void **bytes, Py_ssize_t *size);
 int writable_bytes_of(PyObject *view, void **bytes, Py_ssize_t *size);
 
+/* Returns a memoryview of an argument, or NULL with an exception set: TypeError if it has no buffer. */
+PyObject *view_of(const char *name, const char *expected, PyObject *given);
+
 /* An object over bytes: a Trie, or a UnitTrie, which leaves `trie` unused. */
 typedef struct {
     PyObject_HEAD
@@ -118,8 +121,9 @@ typedef struct {
     bks_trie trie;
 } over_bytes;
 
-/* Returns a new object of `type` over the bytes of `data`, without a copy if they are read-only. */
-over_bytes *over_bytes_new(PyTypeObject *type, PyObject *data);
+/* Returns a new object of `type` over the bytes of the argument `data`, without a copy if they are
+ * read-only. */
+over_bytes *over_bytes_new(PyTypeObject *type, const char *name, PyObject *data);
 void over_bytes_free(over_bytes *self);
 
 /* Returns the first `size` bytes as a bytes object. */

@@ -12,7 +12,7 @@ static PyObject *trie_new(PyTypeObject *type, PyObject *args, PyObject *keywords
     static char *names[] = {"data", NULL};
     PyObject *data;
     if (!PyArg_ParseTupleAndKeywords(args, keywords, "O", names, &data)) return NULL;
-    over_bytes *self = over_bytes_new(type, data);
+    over_bytes *self = over_bytes_new(type, "data", data);
     if (!self) return NULL;
     uint32_t status = bks_open(&self->trie, self->bytes, self->size);
     if (status == BKS_OK) return (PyObject *)self;

@@ -6,7 +6,7 @@ static PyObject *units_new(PyTypeObject *type, PyObject *args, PyObject *keyword
     static char *names[] = {"units", NULL};
     PyObject *data;
     if (!PyArg_ParseTupleAndKeywords(args, keywords, "O", names, &data)) return NULL;
-    over_bytes *self = over_bytes_new(type, data);
+    over_bytes *self = over_bytes_new(type, "units", data);
     if (self) self->size = self->size / 2 * 2;
     return (PyObject *)self;
 }

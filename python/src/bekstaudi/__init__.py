@@ -50,6 +50,14 @@ def _int(name, given):
         raise TypeError(f"{name}: expected an int, found {type(given).__name__}") from None
 
 
+def _iter(name, expected, given):
+    """Return an iterator. Raises a TypeError that names the argument."""
+    try:
+        return iter(given)
+    except TypeError:
+        raise TypeError(f"{name}: expected {expected}, found {type(given).__name__}") from None
+
+
 def _as_int(code_point):
     """Return a code point as an int of any size."""
     if isinstance(code_point, str) and len(code_point) == 1:
@@ -73,9 +81,11 @@ def _units(key):
     """Return the units of a key, two bytes each: a str in UTF-16, or the items of a list."""
     if isinstance(key, str):
         return key.encode("utf-16-le", "surrogatepass")
-    if isinstance(key, (bytes, bytearray)):
-        raise TypeError(f"key: expected a str or a list of 16-bit units, found {type(key).__name__}")
-    return array("H", key).tobytes()
+    try:
+        # An array takes bytes for items of two bytes each.
+        return array("H", None if isinstance(key, (bytes, bytearray)) else key).tobytes()
+    except TypeError:
+        raise TypeError(f"key: expected a str or a list of 16-bit units, found {type(key).__name__}") from None
 
 
 def _shown(units):
@@ -114,6 +124,7 @@ class Trie(_native.Trie):
         Raises WideValue if a value does not fit, NoForm if there is no such width, TooLarge if the
         trie would be too large, and NoMemory.
         """
+        rows = _iter("rows", "an iterable of rows", rows)
         rows = [(_native.point(it), _native.point(last), value) for it, last, value in rows]
         numbers = [_int("default", default), _int("error", error)]
         numbers += [_int("the value of a row", row[2]) for row in rows]
@@ -172,7 +183,7 @@ class CodePointSet(_native.CodePointSet):
         They may be in any order and may overlap. Raises NoSet if a first code point is above its
         last one, or if one is above 0x10FFFF.
         """
-        ends = []
+        ends, pairs = [], _iter("pairs", "an iterable of pairs", pairs)
         for first, last in sorted((_as_int(first), _as_int(last)) for first, last in pairs):
             if first > last:
                 raise NoSet(f"the range {first:#x}..={last:#x} ends before it starts")
@@ -185,7 +196,7 @@ class CodePointSet(_native.CodePointSet):
     @classmethod
     def from_chars(cls, text):
         """Make the set of the characters of a text, or of any iterable of code points."""
-        return cls.from_ranges((it, it) for it in set(text))
+        return cls.from_ranges((it, it) for it in set(_iter("text", "a str or code points", text)))
 
     def freeze(self):
         """Return the same set as a FrozenCodePointSet, for many look-ups."""
@@ -289,7 +300,8 @@ class UnitTrie(_native.UnitTrie):
         be too large, and NoMemory.
         """
         pairs = entries.items() if hasattr(entries, "items") else entries
-        pairs = [(_units(key), operator.index(value)) for key, value in pairs]
+        pairs = _iter("entries", "a mapping or an iterable of pairs", pairs)
+        pairs = [(_units(key), _int("the value of a key", value)) for key, value in pairs]
         for units, value in pairs:
             if not -(1 << 31) <= value < 1 << 31:
                 raise WideValue(f"key {_shown(units)}: {value} is not a signed number of 32 bits")
