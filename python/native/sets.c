@@ -292,13 +292,23 @@ static PyObject *set_class_of(PyObject *object) {
     return is_one < 0 ? NULL : (Py_INCREF(Py_None), Py_None);
 }
 
-/* Returns an operand as a set of this module: a new one of the class of `like` if it is a set of another
- * kind. NotImplemented if it is no set. */
+/* Returns an iterable of code points as a set of this module, a new one of the class of `like` unless it
+ * is one. */
+static PyObject *set_of(PyObject *given, PyObject *like) {
+    if (is_set(given)) return Py_INCREF(given), given;
+    PyObject *made = PyObject_CallMethod(like, "from_chars", "O", given);
+    if (!made || is_set(made)) return made;
+    /* A subclass may have a from_chars of its own. */
+    raise_type("from_chars", "a CodePointSet", made);
+    Py_DECREF(made);
+    return NULL;
+}
+
+/* Returns an operand as a set of this module, and NotImplemented if it is no collections.abc.Set. */
 static PyObject *as_set(PyObject *operand, PyObject *like) {
     if (is_set(operand)) return Py_INCREF(operand), operand;
-    PyObject *class = set_class_of(operand), *made = NULL;
-    if (class == Py_None) made = not_implemented();
-    else if (class) made = PyObject_CallMethod(like, "from_chars", "O", operand);
+    PyObject *class = set_class_of(operand);
+    PyObject *made = class == Py_None ? not_implemented() : class ? set_of(operand, like) : NULL;
     Py_XDECREF(class);
     return made;
 }
@@ -365,8 +375,7 @@ static int64_t count_of(operation *call, const code_point_set *a, const code_poi
 }
 
 static PyObject *set_is_disjoint(code_point_set *self, PyObject *other) {
-    PyObject *like = (PyObject *)self;
-    PyObject *set = is_set(other) ? (Py_INCREF(other), other) : PyObject_CallMethod(like, "from_chars", "O", other);
+    PyObject *set = set_of(other, (PyObject *)self);
     int64_t count = set ? count_of(bks_set_intersection, self, (code_point_set *)set) : -1;
     Py_XDECREF(set);
     return count < 0 ? NULL : PyBool_FromLong(count == 0);
