@@ -4,7 +4,7 @@ ghost use Rattle.std.specs.Str.{IsUtf8, chars};
 ghost use Rattle.icu_zerovec.specs.Cells.{values_of};
 ghost use Rattle.icu_trie_core.specs.FastIndex.{fast_index_len};
 ghost use Rattle.icu_trie.specs.Parts.{trie_value};
-ghost use Rattle.icu_trie_text.specs.Inside.Ascii.{HasAsciiInPlace};
+ghost use Rattle.icu_trie_text.specs.InPlace.{HasAsciiInPlace};
 ghost use Rattle.icu_trie_text.specs.Utf16.{code_points_of};
 ghost use Rattle.icu_collections_c.specs.Answers.{AnswersText};
 ghost use Rattle.icu_collections_c.specs.Buffers.{written};

@@ -2,6 +2,7 @@ pub mod Copied
 pub mod CopiedParts
 pub mod FirstCharacter
 pub mod Found
+pub mod InPlace
 pub mod Indices
 pub mod Inside
 pub mod Utf16

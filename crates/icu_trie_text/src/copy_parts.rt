@@ -96,7 +96,7 @@ fn ascii_count(bytes: &[u8]) -> usize
     high.trailing_zeros() as usize / 8
 }
 
-/// Writes eight values from index `j` on: those of the first eight bytes, where these are ASCII.
+/// Writes eight values from index `j` on: those of the first eight bytes that are ASCII.
 #[inline(always)]
 fn put_eight<T: Copy, V: PartValues<T>>(trie: &V, bytes: &[u8], values: &mut [T], j: usize)
     requires ascii { V.end_of_ascii trie.now ≡ 0x80 }
