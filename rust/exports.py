@@ -207,7 +207,8 @@ def module_list(edition):
         forbid = "forbid(unsafe_code)"
         if name == "support":
             forbid = f'cfg_attr(not(feature = "proved-reads"), {forbid})'
-        if name != "lib":
+        # The C library does not have the feature serde.
+        if name not in ("lib", "serde_forms"):
             text += f'#[{forbid}]\n#[path = "../../bekstaudi/src/{name}{suffix or "/mod.rs"}"]\nmod {name};\n'
     return text
 

@@ -9,6 +9,11 @@ FEATURES = {
     "icu_trie_formats/json": "json",
     "icu_trie_formats/trie_toml": "toml serde",
 }
+# Crates of which nothing works without the feature `alloc`.
+ALLOCATING = (
+    "icu_text_sets icu_frozen_sets icu_char16trie_builder icu_trie_map icu_trie_compaction"
+    " icu_trie_builder"
+).split()
 # Modules that are left out.
 LEFT_OUT = []
 # Functions that allocate. rust/face has functions with these names that panic if that fails.
@@ -253,7 +258,7 @@ EDITS = {
         (
             r"match ZeroVec::parse_bytes\((&\[[^]]*\])\) \{(?:.*\n){3} +\}",
             r"CodePointInversionList {\n            ends: ZeroVec::from_packed(\1),\n        }",
-            2,
+            3,
         ),
         (r"(?m)^    (?=ends: ZeroVec<'data)", "    pub(crate) ", 1),
     ],
@@ -262,13 +267,8 @@ EDITS = {
         (r"\n +\x01\d+\x03\n +pub\(crate\) error_value: T,", "", 1),
         (r"let Some\(error_value\) = data", "let Some(_) = data", 1),
         (r"\n +error_value(?:: self\.error_value)?,(?=\n +\})", "", 2),
-        (r"self\.error_value(?=\n)", "self.without_answer()", 1),
+        (r"self\.error_value(?=\n)", "match self.data.last() {\n            Some(value) => value,\n            None => unreachable!(),\n        }", 1),
     ],
-    "icu_trie/convert": [
-        (r"\n +error_value(?:: _)?,(?=\n +\})", "", 2),
-        (r"let Some\(error_value\) = data\.last\(\) else \{\s*unreachable!\(\);?\s*\};\s*", "", 1),
-    ],
-    "icu_trie/typed": [(r"\n +error_value: self\.error_value,", "", 1)],
     # rust/face has a TryFrom whose error is no failed allocation.
     "icu_invlist/codepointinvlist/conversions": [(r"fn try_from(?=<R)", "fn try_from_range", 1)],
     # A cursor of a view or of a reference to one, as in the Rust crate.
@@ -284,8 +284,13 @@ EDITS = {
         (r"type TryFromU32Error;", "type TryFromU32Error: core::fmt::Display;", 1),
     ],
     # rust/face has one with the error of the Rust crate.
-    "icu_trie/convert": [(r"fn try_into_converted", "fn try_into_converted_explained", 1)],
+    "icu_trie/convert": [
+        (r"fn try_into_converted", "fn try_into_converted_explained", 1),
+        (r"\n +error_value(?:: _)?,(?=\n +\})", "", 2),
+        (r"let Some\(error_value\) = data\.last\(\) else \{\s*unreachable!\(\);?\s*\};\s*", "", 1),
+    ],
     "icu_trie/typed": [
+        (r"\n +error_value: self\.error_value,", "", 1),
         (r"(const TRIE_TYPE: TrieType;\n)", rf"\1{UNTYPED}", 1),
         (r"(const TRIE_TYPE: TrieType = TrieType::\w+;\n)", rf"\1{UNTYPED_BODIES}", 2),
     ],

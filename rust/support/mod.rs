@@ -2,9 +2,14 @@
 //! allocations.
 
 pub(crate) mod cells;
+#[cfg(not(feature = "alloc"))]
+mod empty;
+#[cfg(feature = "alloc")]
 mod maps;
+#[cfg_attr(not(feature = "alloc"), allow(dead_code))]
 pub(crate) mod memory;
 
+#[cfg(feature = "alloc")]
 pub use maps::{BTreeMap, HashMap};
 pub use memory::{AllocError, AllocFailed};
 
@@ -19,6 +24,10 @@ pub(crate) use try_json;
 /// What each module of the proved source imports.
 pub(crate) mod prelude {
     pub(crate) use super::memory::{TryString, TryVec, try_vec};
+    #[cfg(not(feature = "alloc"))]
+    pub(crate) use super::empty::{String, Vec};
+    #[cfg(feature = "alloc")]
     pub(crate) use alloc::string::String;
+    #[cfg(feature = "alloc")]
     pub(crate) use alloc::vec::Vec;
 }

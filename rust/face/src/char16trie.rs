@@ -34,14 +34,22 @@ pub use crate::icu_char16trie::char16trie::{
     Char16Trie, Char16TrieCursor, Char16TrieIterator, CursorPlace, Entries, Iter2, Matches,
     TrieResult,
 };
+#[cfg(feature = "alloc")]
 pub use crate::icu_char16trie_builder::builder::Char16TrieBuilder;
+#[cfg(feature = "alloc")]
 pub use crate::icu_char16trie_builder::error::{AddError, BuildError, SortedError};
 
-use crate::plain::{fused, plain, plain_clone};
+use crate::plain::fused;
+use crate::plain::plain_clone;
+#[cfg(feature = "alloc")]
+use crate::plain::plain;
 use crate::zerovec::ZeroVec;
+#[cfg(feature = "alloc")]
 use alloc::string::String;
+#[cfg(feature = "alloc")]
 use alloc::vec::Vec;
 use core::hash::{Hash, Hasher};
+#[cfg(feature = "alloc")]
 use core::iter::FusedIterator;
 
 plain_clone! {
@@ -67,6 +75,7 @@ impl Default for Char16Trie<'_> {
     }
 }
 
+#[cfg(feature = "alloc")]
 impl Char16Trie<'_> {
     /// Returns an iterator over the entries, in unit order: each key as text, with its value.
     /// Unpaired surrogates in a key become U+FFFD.
@@ -112,6 +121,7 @@ impl Char16Trie<'_> {
     }
 }
 
+#[cfg(feature = "alloc")]
 impl Char16TrieCursor<'_> {
     /// {try_next_units}
     ///
@@ -134,6 +144,7 @@ impl Char16TrieCursor<'_> {
     }
 }
 
+#[cfg(feature = "alloc")]
 impl Entries<'_> {
     /// {try_advance}
     ///
@@ -145,6 +156,7 @@ impl Entries<'_> {
     }
 }
 
+#[cfg(feature = "alloc")]
 impl Default for Char16TrieBuilder {
     fn default() -> Self {
         Char16TrieBuilder::new()

@@ -22,30 +22,46 @@
 //! ```
 
 pub use crate::constant::InvalidStaticSet;
+#[cfg(feature = "alloc")]
 pub use crate::icu_frozen_sets::frozen::{FrozenCodePointSet, FrozenTables};
+#[cfg(feature = "alloc")]
 pub use crate::icu_frozen_sets::spans::{Span, Spans};
+#[cfg(feature = "alloc")]
 pub use crate::icu_frozen_sets::text_sets::FrozenCodePointSetAndStrings;
 #[cfg(feature = "json")]
 pub use crate::icu_invlist::codepointinvlist::SetJsonError;
 pub use crate::icu_invlist::codepointinvlist::{
-    CodePointInversionList, CodePointInversionListBuilder, InvalidSetError, IterChars, IterRanges,
+    CodePointInversionList, InvalidSetError, IterChars, IterRanges,
     IterRangesComplemented, RangeError, RangeOf, RangePoint, SetError, TryRangeError,
     deconstruct_range, is_valid_zv, utils,
 };
+#[cfg(feature = "alloc")]
+pub use crate::icu_invlist::codepointinvlist::CodePointInversionListBuilder;
 pub use crate::icu_invlist_binary::serialized;
 
+#[cfg(feature = "alloc")]
 use crate::codepointinvliststringlist::CodePointInversionListAndStringList;
 use crate::icu_zerovec::CODE_POINT_LIMIT;
-use crate::plain::{fused, plain, plain_calls, plain_clone};
+use crate::plain::fused;
+use crate::plain::plain_clone;
+#[cfg(feature = "alloc")]
+use crate::plain::{plain, plain_calls};
+#[cfg(feature = "alloc")]
 use crate::zerovec::{PotentialCodePoint, ZeroVec};
+#[cfg(feature = "alloc")]
 use alloc::vec::Vec;
+#[cfg(feature = "alloc")]
 use core::hash::{Hash, Hasher};
-use core::ops::{
-    Bound, Range, RangeBounds, RangeFrom, RangeFull, RangeInclusive, RangeTo, RangeToInclusive,
-};
+use core::ops::{Bound, RangeBounds, RangeInclusive};
+#[cfg(feature = "alloc")]
+use core::ops::{Range, RangeFrom, RangeFull, RangeTo, RangeToInclusive};
 
 plain_clone! {
     impl<'data> Clone for CodePointInversionList<'data>;
+}
+
+#[cfg(feature = "alloc")]
+plain_clone! {
     impl<> Clone for CodePointInversionListBuilder;
     impl<> Clone for FrozenCodePointSet;
     impl<> Clone for FrozenCodePointSetAndStrings;
@@ -55,9 +71,14 @@ fused! {
     <'a> IterRanges<'a>;
     <'a> IterRangesComplemented<'a>;
     <'a> IterChars<'a>;
+}
+
+#[cfg(feature = "alloc")]
+fused! {
     <'s, 't> Spans<'s, 't>;
 }
 
+#[cfg(feature = "alloc")]
 impl CodePointInversionListBuilder {
     plain_calls! {
         /// {try_add_char}
@@ -113,12 +134,14 @@ impl CodePointInversionListBuilder {
     }
 }
 
+#[cfg(feature = "alloc")]
 impl Default for CodePointInversionListBuilder {
     fn default() -> Self {
         CodePointInversionListBuilder::new()
     }
 }
 
+#[cfg(feature = "alloc")]
 impl<'data> CodePointInversionList<'data> {
     /// Returns the set with this list of boundaries, and takes over the list without copying it.
     ///
@@ -149,6 +172,7 @@ impl<'data> CodePointInversionList<'data> {
     }
 }
 
+#[cfg(feature = "alloc")]
 /// Returns the result with the error of the Rust crate. Panics if an allocation failed.
 fn without_memory<T>(answer: Result<T, SetError>) -> Result<T, InvalidSetError> {
     match answer {
@@ -157,6 +181,7 @@ fn without_memory<T>(answer: Result<T, SetError>) -> Result<T, InvalidSetError> 
     }
 }
 
+#[cfg(feature = "alloc")]
 impl CodePointInversionList<'_> {
     /// {try_get_inversion_list_vec}
     ///
@@ -182,10 +207,13 @@ impl CodePointInversionList<'_> {
 /// Returns the empty set. Does not allocate.
 impl Default for CodePointInversionList<'_> {
     fn default() -> Self {
-        plain(CodePointInversionList::from_valid_slice(&[]))
+        CodePointInversionList {
+            ends: Default::default(),
+        }
     }
 }
 
+#[cfg(feature = "alloc")]
 /// Returns the boundaries of the union of ranges. Like
 /// [`add_range32`](CodePointInversionListBuilder::add_range32) it ignores a range that is empty, or
 /// whose last number is above 0x10FFFF.
@@ -202,6 +230,7 @@ fn ends_of(mut ranges: Vec<(u32, u32)>) -> Vec<u32> {
     ends
 }
 
+#[cfg(feature = "alloc")]
 /// Returns the union of the ranges, which may be in any order and overlap. A range whose last number
 /// is above 0x10FFFF is ignored.
 ///
@@ -220,6 +249,7 @@ impl FromIterator<RangeInclusive<u32>> for CodePointInversionList<'_> {
     }
 }
 
+#[cfg(feature = "alloc")]
 /// Returns the set of the characters, which may be in any order and repeat.
 ///
 /// # Panics
@@ -232,6 +262,7 @@ impl FromIterator<char> for CodePointInversionList<'_> {
     }
 }
 
+#[cfg(feature = "alloc")]
 macro_rules! collected {
     ($($item:ty)*) => {
         $(
@@ -258,6 +289,7 @@ macro_rules! collected {
     };
 }
 
+#[cfg(feature = "alloc")]
 collected! { char RangeInclusive<u32> }
 
 impl<'a> IntoIterator for &'a CodePointInversionList<'_> {
@@ -269,6 +301,7 @@ impl<'a> IntoIterator for &'a CodePointInversionList<'_> {
     }
 }
 
+#[cfg(feature = "alloc")]
 macro_rules! from_ranges {
     ($($range:ty)*) => {
         $(
@@ -289,10 +322,12 @@ macro_rules! from_ranges {
     };
 }
 
+#[cfg(feature = "alloc")]
 from_ranges! {
     Range<char> RangeFrom<char> RangeFull RangeInclusive<char> RangeTo<char> RangeToInclusive<char>
 }
 
+#[cfg(feature = "alloc")]
 impl From<CodePointInversionList<'_>> for CodePointInversionListBuilder {
     /// Returns a builder that holds the set, to be changed.
     ///
@@ -305,6 +340,7 @@ impl From<CodePointInversionList<'_>> for CodePointInversionListBuilder {
     }
 }
 
+#[cfg(feature = "alloc")]
 /// Hashes the set that was frozen, which `==` compares.
 impl Hash for FrozenCodePointSet {
     fn hash<H: Hasher>(&self, state: &mut H) {
@@ -312,6 +348,7 @@ impl Hash for FrozenCodePointSet {
     }
 }
 
+#[cfg(feature = "alloc")]
 /// Hashes the set that was frozen, which `==` compares.
 impl Hash for FrozenCodePointSetAndStrings {
     fn hash<H: Hasher>(&self, state: &mut H) {
@@ -319,6 +356,7 @@ impl Hash for FrozenCodePointSetAndStrings {
     }
 }
 
+#[cfg(feature = "alloc")]
 impl FrozenCodePointSet {
     /// {try_freeze}
     ///
@@ -330,6 +368,7 @@ impl FrozenCodePointSet {
     }
 }
 
+#[cfg(feature = "alloc")]
 impl FrozenCodePointSetAndStrings {
     /// {try_freeze}
     ///

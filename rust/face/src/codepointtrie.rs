@@ -51,9 +51,13 @@ pub use crate::icu_trie::typed::{
 };
 pub use crate::icu_trie::value::{NotAValue, TrieValue};
 pub use crate::icu_trie_binary::binary;
+#[cfg(feature = "alloc")]
 pub use crate::icu_trie_builder::builder::CodePointTrieBuilder;
+#[cfg(feature = "alloc")]
 pub use crate::icu_trie_builder::error::BuildError;
+#[cfg(feature = "alloc")]
 pub use crate::icu_trie_builder::try_build_from_writes;
+#[cfg(feature = "alloc")]
 pub use crate::icu_trie_builder::writes::{ApplyRefused, Write};
 #[cfg(feature = "json")]
 pub use crate::icu_trie_formats::json;
@@ -65,14 +69,21 @@ pub use crate::icu_trie_formats::trie_toml;
 pub use crate::icu_trie_formats::trie_toml as toml;
 pub use crate::icu_trie_text::text;
 
+#[cfg(feature = "alloc")]
 use crate::codepointinvlist::CodePointInversionList;
 use crate::icu_trie::mapped_ranges::MappedRanges;
 use crate::icu_trie::iterator_utils::RangeListIteratorCoalescer;
-use crate::plain::{fused, plain, plain_clone};
+use crate::plain::fused;
+use crate::plain::plain_clone;
+#[cfg(feature = "alloc")]
+use crate::plain::plain;
+#[cfg(feature = "alloc")]
 use crate::zerovec::MemoryError;
+#[cfg(feature = "alloc")]
 use crate::zerovec::ule::UleError;
 use core::hash::{Hash, Hasher};
 use core::iter::FusedIterator;
+#[cfg(feature = "alloc")]
 use core::ops::RangeInclusive;
 
 plain_clone! {
@@ -116,6 +127,7 @@ impl<T: TrieValue> Hash for SmallCodePointTrie<'_, T> {
     }
 }
 
+#[cfg(feature = "alloc")]
 /// Sets the value of each range, in order, as
 /// [`set_range_value`](CodePointTrieBuilder::set_range_value) does.
 ///
@@ -129,6 +141,7 @@ impl<T: TrieValue> Extend<(RangeInclusive<u32>, T)> for CodePointTrieBuilder<T> 
     }
 }
 
+#[cfg(feature = "alloc")]
 /// Sets the value of each range, in order, as
 /// [`set_range_value`](CodePointTrieBuilder::set_range_value) does.
 ///
@@ -140,6 +153,7 @@ impl<T: TrieValue> Extend<CodePointMapRange<T>> for CodePointTrieBuilder<T> {
     }
 }
 
+#[cfg(feature = "alloc")]
 impl<T: TrieValue> CodePointTrie<'_, T> {
     /// {try_get_set_for_value}
     ///
@@ -152,6 +166,7 @@ impl<T: TrieValue> CodePointTrie<'_, T> {
     }
 }
 
+#[cfg(feature = "alloc")]
 impl<'trie, T: TrieValue> CodePointTrie<'trie, T> {
     /// Returns a trie whose values are the results of `f` for the values of this one. Its index and
     /// trie type are the same.
@@ -211,6 +226,7 @@ impl<'trie, T: TrieValue> CodePointTrie<'trie, T> {
     }
 }
 
+#[cfg(feature = "alloc")]
 impl<T: TrieValue> CodePointTrieBuilder<T> {
     /// {try_from_trie}
     ///
@@ -249,6 +265,7 @@ impl<T: TrieValue> CodePointTrieBuilder<T> {
     }
 }
 
+#[cfg(feature = "alloc")]
 /// {try_build_from_writes}
 ///
 /// # Panics

@@ -1,6 +1,8 @@
 //! Tables in constants. The compiler runs the tests of these functions, so a bad table does not
 //! compile.
 
+#![expect(clippy::panic)] // In a constant, a panic is an error of the compiler.
+
 use crate::char16trie::Char16Trie;
 use crate::codepointinvlist::CodePointInversionList;
 use crate::codepointtrie::{CodePointTrie, CodePointTrieError, CodePointTrieHeader, TrieValue};

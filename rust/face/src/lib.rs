@@ -71,8 +71,9 @@
 //!
 //! # Features
 //!
-//! All are off by default.
+//! All but `alloc` are off by default.
 //!
+//! - `alloc`: what is built, or owns its data. Without it, static and borrowed data can be looked up
 //! - `serde`: sets, tries and unit tries to and from any format of serde, in the forms of
 //!   `icu_collections`: numbers and texts in formats that people read, such as JSON, and packed
 //!   bytes, which are borrowed, in others
@@ -82,8 +83,11 @@
 //! - `toml`: tries from the tables of `toml`; it needs `std`
 //! - `proved-reads`: reads whose index is proved to be in bounds are not checked again
 #![no_std]
+// Docs name what allocates.
+#![cfg_attr(not(feature = "alloc"), allow(rustdoc::broken_intra_doc_links))]
 #![cfg_attr(not(feature = "proved-reads"), forbid(unsafe_code))]
 
+#[cfg(feature = "alloc")]
 extern crate alloc;
 
 #[cfg(all(feature = "proved-reads", not(target_pointer_width = "64")))]
@@ -93,22 +97,25 @@ mod constant;
 mod plain;
 #[cfg(feature = "serde")]
 mod serde_forms;
+#[cfg(feature = "alloc")]
 mod strings;
 mod support;
 
 pub mod char16trie;
 pub mod codepointinvlist;
+#[cfg(feature = "alloc")]
 pub mod codepointinvliststringlist;
 pub mod codepointtrie;
 pub mod zerovec;
 
 pub use plain::iterator_utils;
 
-// rust/make writes the list. Names may be unused: some are used by proofs only, and some are public
+// rust/make writes the lists. Names may be unused: some are used by proofs only, and some are public
 // in their crate but not here. The sources count in loops over indices, which proofs are about.
 macro_rules! generated {
-    ($($name:ident)*) => {
-        $(#[allow(dead_code, unused_imports, unused_variables)]
+    ($($(#[$needs:meta])? $name:ident)*) => {
+        $($(#[$needs])?
+        #[allow(dead_code, unused_imports, unused_variables)]
         #[allow(
             clippy::collapsible_if,
             clippy::explicit_auto_deref,
@@ -124,5 +131,11 @@ macro_rules! generated {
         mod $name;)*
     };
 }
+macro_rules! generated_with_alloc {
+    ($($name:ident)*) => {
+        generated! { $(#[cfg(feature = "alloc")] $name)* }
+    };
+}
 
 generated! {}
+generated_with_alloc! {}

@@ -17,6 +17,7 @@ fn refused(error: &dyn core::fmt::Display) -> ! {
     panic!("bekstaudi: {error}")
 }
 
+#[cfg(feature = "alloc")]
 /// Methods that return nothing, each over its `try_` form.
 macro_rules! plain_calls {
     ($($(#[$docs:meta])* $name:ident = $tried:ident($argument:ident: $of:ty);)*) => {
@@ -33,6 +34,7 @@ macro_rules! plain_calls {
         )*
     };
 }
+#[cfg(feature = "alloc")]
 pub(crate) use plain_calls;
 
 /// A clone over `try_clone`, which panics if an allocation fails.

@@ -17,15 +17,19 @@ pub use crate::icu_zerovec::memory::{ApplyRefused, MemoryError};
 pub use crate::icu_zerovec::slice::ZeroSlice;
 pub use crate::icu_zerovec::vec::ZeroVec;
 pub use crate::icu_zerovec::{iter, ule};
+#[cfg(feature = "alloc")]
 pub use crate::strings::VarZeroVec;
 
-use crate::plain::{plain, plain_clone};
+use crate::plain::plain_clone;
+#[cfg(feature = "alloc")]
+use crate::plain::plain;
 use ule::AsULE;
 
 plain_clone! {
     impl<'a, T: AsULE> Clone for ZeroVec<'a, T>;
 }
 
+#[cfg(feature = "alloc")]
 impl<T: AsULE> ZeroVec<'_, T> {
     /// Returns a vector with these values that owns its bytes.
     ///
@@ -57,6 +61,7 @@ impl<T: AsULE> Default for ZeroVec<'_, T> {
     }
 }
 
+#[cfg(feature = "alloc")]
 /// # Panics
 /// Panics if an allocation fails; [`ZeroVec::alloc_from_iter`] returns an error then.
 impl<T: AsULE> FromIterator<T> for ZeroVec<'_, T> {
