@@ -83,6 +83,11 @@
 //! - `toml`: tries from the tables of `toml`; it needs `std`
 //! - `proved-reads`: reads whose index is proved to be in bounds are not checked again
 #![no_std]
+// The Rust crate denies these too. Indices are proved to be in bounds, and allowed.
+#![cfg_attr(not(test), deny(clippy::expect_used, clippy::panic, clippy::unwrap_used))]
+#![warn(missing_docs)]
+// docs.rs shows which feature an item needs.
+#![cfg_attr(docsrs, feature(doc_cfg))]
 // Docs name what allocates.
 #![cfg_attr(not(feature = "alloc"), allow(rustdoc::broken_intra_doc_links))]
 #![cfg_attr(not(feature = "proved-reads"), forbid(unsafe_code))]
@@ -92,6 +97,10 @@ extern crate alloc;
 
 #[cfg(all(feature = "proved-reads", not(target_pointer_width = "64")))]
 compile_error!("`proved-reads` needs a target with pointers of 64 bits: the proofs assume them");
+
+#[cfg(all(doctest, feature = "alloc"))]
+#[doc = include_str!("../README.md")]
+struct Readme;
 
 mod constant;
 mod plain;
