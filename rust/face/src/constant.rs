@@ -311,6 +311,66 @@ impl<'trie, T: ConstValue> CodePointTrie<'trie, T> {
     }
 }
 
+/// Makes a trie of the module that `ucptrie --as rust` writes, in a constant.
+///
+/// `trie_of!(table)` has the module's numbers as values, and `trie_of!(table as Kind)` the values of a
+/// type with these numbers, such as an enum of [`trie_values!`](crate::trie_values). A number that is
+/// not a value of the type does not compile.
+///
+/// ```
+/// use bekstaudi::codepointtrie::CodePointTrie;
+///
+/// # /*
+/// include!("table.rs");
+/// # */
+/// # mod table {
+/// #     pub type Value = u8;
+/// #     pub const TRIE_TYPE: u8 = 1;
+/// #     pub const HIGH_START: u32 = 0x1000;
+/// #     pub const SHIFTED12_HIGH_START: u16 = 0x1;
+/// #     pub const INDEX3_NULL_OFFSET: u16 = 0x7fff;
+/// #     pub const DATA_NULL_OFFSET: u32 = 0xfffff;
+/// #     pub const NULL_VALUE: u32 = 0x1;
+/// #     pub static INDEX: [u16; 64] = [0; 64];
+/// #     pub static DATA: [Value; 64] = [1; 64];
+/// # }
+///
+/// bekstaudi::trie_values! {
+///     enum Kind: u8 {
+///         Letter = 1,
+///         Digit = 2,
+///     }
+/// }
+///
+/// static KINDS: CodePointTrie<'static, Kind> = bekstaudi::trie_of!(table as Kind);
+/// assert_eq!(KINDS.get('A'), Kind::Letter);
+/// ```
+#[macro_export]
+macro_rules! trie_of {
+    ($($table:ident)::+) => {
+        $crate::trie_of!($($table)::+ as $($table)::+::Value)
+    };
+    ($($table:ident)::+ as $value:ty) => {{
+        const TRIE: $crate::codepointtrie::CodePointTrie<'static, $value> =
+            $crate::codepointtrie::CodePointTrie::from_static(
+                $crate::codepointtrie::CodePointTrieHeader {
+                    high_start: $($table)::+::HIGH_START,
+                    shifted12_high_start: $($table)::+::SHIFTED12_HIGH_START,
+                    index3_null_offset: $($table)::+::INDEX3_NULL_OFFSET,
+                    data_null_offset: $($table)::+::DATA_NULL_OFFSET,
+                    null_value: $($table)::+::NULL_VALUE,
+                    trie_type: match $($table)::+::TRIE_TYPE {
+                        0 => $crate::codepointtrie::TrieType::Fast,
+                        _ => $crate::codepointtrie::TrieType::Small,
+                    },
+                },
+                $crate::zeroslice!(u16; $($table)::+::INDEX),
+                $crate::zeroslice!($value as $($table)::+::Value; $($table)::+::DATA),
+            );
+        TRIE
+    }};
+}
+
 /// The error of [`CodePointInversionList::try_from_static`]: the boundaries are not an inversion
 /// list.
 #[derive(Clone, Copy, Debug, PartialEq, Eq)]

@@ -1,0 +1,154 @@
+//! Stand-ins for traits of zerofrom, yoke and databake, over the public functions: docs/ICU4X.md says
+//! which a feature would implement.
+
+use bekstaudi::char16trie::Char16Trie;
+use bekstaudi::codepointinvlist::CodePointInversionList;
+use bekstaudi::codepointtrie::planes::get_planes_trie;
+use bekstaudi::codepointtrie::{CodePointTrie, CodePointTrieHeader, ConstValue, TrieType, TrieValue};
+use bekstaudi::zerovec::{ZeroSlice, ZeroVec, ule::AsULE};
+use std::borrow::Cow;
+use std::fmt::Write;
+
+/// zerofrom's trait: a value that borrows from another one.
+trait ZeroFrom<'zf, C: ?Sized> {
+    fn zero_from(other: &'zf C) -> Self;
+}
+
+impl<'zf, T: AsULE> ZeroFrom<'zf, ZeroVec<'_, T>> for ZeroVec<'zf, T> {
+    fn zero_from(other: &'zf ZeroVec<'_, T>) -> Self {
+        other.as_slice().as_zerovec()
+    }
+}
+
+impl<'zf, T: TrieValue> ZeroFrom<'zf, CodePointTrie<'_, T>> for CodePointTrie<'zf, T> {
+    fn zero_from(other: &'zf CodePointTrie<'_, T>) -> Self {
+        let (header, index, data) = other.parts();
+        CodePointTrie::try_new(header, index.as_zerovec(), data.as_zerovec()).expect("a trie")
+    }
+}
+
+impl<'zf> ZeroFrom<'zf, CodePointInversionList<'_>> for CodePointInversionList<'zf> {
+    fn zero_from(other: &'zf CodePointInversionList<'_>) -> Self {
+        CodePointInversionList::try_from_static(other.as_inversion_list()).expect("a set")
+    }
+}
+
+impl<'zf> ZeroFrom<'zf, Char16Trie<'_>> for Char16Trie<'zf> {
+    fn zero_from(other: &'zf Char16Trie<'_>) -> Self {
+        Char16Trie::new(ZeroFrom::zero_from(&other.data))
+    }
+}
+
+/// The safe half of yoke's trait: the compiler shortens the lifetime. The other half, `make` and
+/// `transform_mut`, is unsafe code in yoke's own derive too.
+trait Yokeable<'a> {
+    type Output: 'a;
+    fn transform(&'a self) -> &'a Self::Output;
+    fn transform_owned(self) -> Self::Output;
+}
+
+macro_rules! yokeable {
+    ($([$($of:tt)*] $value:ty, $output:ty;)*) => {
+        $(
+            impl<'a, $($of)*> Yokeable<'a> for $value {
+                type Output = $output;
+
+                fn transform(&'a self) -> &'a Self::Output {
+                    self
+                }
+
+                fn transform_owned(self) -> Self::Output {
+                    self
+                }
+            }
+        )*
+    };
+}
+
+yokeable! {
+    [T: AsULE + 'static] ZeroVec<'static, T>, ZeroVec<'a, T>;
+    [T: TrieValue + 'static] CodePointTrie<'static, T>, CodePointTrie<'a, T>;
+    [] CodePointInversionList<'static>, CodePointInversionList<'a>;
+    [] Char16Trie<'static>, Char16Trie<'a>;
+    [] CodePointTrieHeader, CodePointTrieHeader;
+    [] TrieType, TrieType;
+}
+
+/// The pointers of what is borrowed.
+fn first<T: AsULE>(slice: ZeroSlice<'_, T>) -> *const u8 {
+    slice.as_bytes().as_ptr()
+}
+
+#[test]
+fn values_are_borrowed_from_others() {
+    let trie = get_planes_trie();
+    let lent: CodePointTrie<u8> = ZeroFrom::zero_from(&trie);
+    assert_eq!((first(lent.parts().1), &lent), (first(trie.parts().1), &trie));
+    let set = CodePointInversionList::try_from_u32_inversion_list_slice(&[1, 5]).unwrap();
+    let lent: CodePointInversionList = ZeroFrom::zero_from(&set);
+    assert_eq!(first(lent.as_inversion_list()), first(set.as_inversion_list()));
+    let words = Char16Trie::new(ZeroVec::alloc_from_slice(&[0x30, 0x61, 0x8001]).unwrap());
+    let lent: Char16Trie = ZeroFrom::zero_from(&words);
+    assert_eq!(first(lent.data.as_slice()), first(words.data.as_slice()));
+}
+
+#[test]
+fn lifetimes_are_shortened() {
+    let trie = get_planes_trie();
+    assert_eq!(trie.transform().get('\u{1F600}'), 1);
+    assert_eq!(trie.clone().transform_owned().get('\u{1F600}'), 1);
+    assert_eq!(CodePointInversionList::all().transform().size(), 0x11_0000);
+    assert_eq!(Char16Trie::new(ZeroVec::new()).transform().count_entries(), Some(0));
+}
+
+/// databake's trait, with text for tokens.
+trait Bake {
+    fn bake(&self) -> Cow<'static, str>;
+}
+
+/// Returns the numbers of packed values, in brackets.
+fn numbers<T: AsULE>(slice: ZeroSlice<'_, T>, number: impl Fn(T) -> u32) -> String {
+    let mut text = String::from("[");
+    slice.iter().for_each(|it| write!(text, "{},", number(it)).unwrap());
+    text + "]"
+}
+
+impl Bake for CodePointTrieHeader {
+    fn bake(&self) -> Cow<'static, str> {
+        format!("{self:?}").replace("CodePointTrieHeader", "bekstaudi::codepointtrie::CodePointTrieHeader")
+            .replace(": Small", ": bekstaudi::codepointtrie::TrieType::Small").into()
+    }
+}
+
+impl<T: TrieValue + ConstValue> Bake for CodePointTrie<'_, T> {
+    fn bake(&self) -> Cow<'static, str> {
+        let (header, index, data) = self.parts();
+        let (index, data) = (numbers(index, u32::from), numbers(data, T::to_u32));
+        format!(
+            "bekstaudi::codepointtrie::CodePointTrie::from_static({}, bekstaudi::zeroslice!(u16; {index}), bekstaudi::zeroslice!(u8; {data}))",
+            header.bake()
+        )
+        .into()
+    }
+}
+
+impl Bake for CodePointInversionList<'_> {
+    fn bake(&self) -> Cow<'static, str> {
+        let ends = numbers(self.as_inversion_list(), u32::from);
+        format!("bekstaudi::codepointinvlist::CodePointInversionList::from_static(bekstaudi::zeroslice!(bekstaudi::zerovec::PotentialCodePoint as u32; {ends}))").into()
+    }
+}
+
+// The text of the expression is what the compiler reads below.
+static SET: CodePointInversionList<'static> =
+    bekstaudi::codepointinvlist::CodePointInversionList::from_static(bekstaudi::zeroslice!(bekstaudi::zerovec::PotentialCodePoint as u32; [65,91,]));
+
+#[test]
+fn a_baked_set_is_the_set() {
+    let text = "bekstaudi::codepointinvlist::CodePointInversionList::from_static(bekstaudi::zeroslice!(bekstaudi::zerovec::PotentialCodePoint as u32; [65,91,]))";
+    assert_eq!(SET.bake(), text);
+    assert!(SET.contains('Z') && !SET.contains('['));
+    let text = get_planes_trie().bake();
+    let head = "bekstaudi::codepointtrie::CodePointTrie::from_static(bekstaudi::codepointtrie::CodePointTrieHeader { high_start: 1048576, shifted12_high_start: 256, index3_null_offset: 2, data_null_offset: 0, null_value: 0, trie_type: bekstaudi::codepointtrie::TrieType::Small }, bekstaudi::zeroslice!(u16; [0,";
+    assert!(text.starts_with(head), "{text}");
+}

@@ -1,0 +1,71 @@
+//! Prints the ranges of a table that `ucptrie --as rust` wrote, read from a constant.
+
+use bekstaudi::codepointtrie::{CodePointTrie, TrieValue};
+use bekstaudi::{trie_of, trie_values};
+
+include!("categories.rs");
+include!("categories_small.rs");
+include!("upper.rs");
+
+trie_values! {
+    /// General categories by the numbers of tests/data, and the error value.
+    enum Category: u8 {
+        Cc = 1,
+        Cf = 2,
+        Cn = 3,
+        Co = 4,
+        Cs = 5,
+        Ll = 6,
+        Lm = 7,
+        Lo = 8,
+        Lt = 9,
+        Lu = 10,
+        Mc = 11,
+        Me = 12,
+        Mn = 13,
+        Nd = 14,
+        Nl = 15,
+        No = 16,
+        Pc = 17,
+        Pd = 18,
+        Pe = 19,
+        Pf = 20,
+        Pi = 21,
+        Po = 22,
+        Ps = 23,
+        Sc = 24,
+        Sk = 25,
+        Sm = 26,
+        So = 27,
+        Zl = 28,
+        Zp = 29,
+        Zs = 30,
+        Error = 255,
+    }
+}
+
+static CATEGORIES: CodePointTrie<'static, Category> = trie_of!(categories as Category);
+static CATEGORIES_SMALL: CodePointTrie<'static, u16> = trie_of!(categories_small);
+static UPPER: CodePointTrie<'static, u32> = trie_of!(crate::upper);
+
+/// Prints the ranges, and compares each value with what the module's own look-up returns.
+fn print<T: TrieValue>(trie: &CodePointTrie<'_, T>, get: impl Fn(u32) -> u32) {
+    for range in trie.iter_ranges() {
+        let (start, end) = range.range.into_inner();
+        if start < end {
+            print!("{start:04X}..");
+        }
+        println!("{end:04X};{}", range.value.to_u32());
+    }
+    assert!((0..=0x11_0000).all(|c| trie.get32_u32(c) == get(c)));
+    assert_eq!(trie.get32_u32(0x11_0000), 255);
+}
+
+fn main() {
+    match std::env::args().nth(1).as_deref() {
+        Some("categories") => print(&CATEGORIES, |c| categories::get(c).into()),
+        Some("categories_small") => print(&CATEGORIES_SMALL, |c| categories_small::get(c).into()),
+        _ => print(&UPPER, upper::get),
+    }
+    assert_eq!(CATEGORIES.get('A'), Category::Lu);
+}
