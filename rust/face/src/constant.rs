@@ -320,10 +320,12 @@ impl<'trie, T: ConstValue> CodePointTrie<'trie, T> {
 /// ```
 /// use bekstaudi::codepointtrie::CodePointTrie;
 ///
+/// #[allow(dead_code)] // The module has a look-up of its own.
+/// mod made {
 /// # /*
-/// include!("table.rs");
+///     include!("table.rs");
 /// # */
-/// # mod table {
+/// #   pub mod table {
 /// #     pub type Value = u8;
 /// #     pub const TRIE_TYPE: u8 = 1;
 /// #     pub const HIGH_START: u32 = 0x1000;
@@ -333,7 +335,8 @@ impl<'trie, T: ConstValue> CodePointTrie<'trie, T> {
 /// #     pub const NULL_VALUE: u32 = 0x1;
 /// #     pub static INDEX: [u16; 64] = [0; 64];
 /// #     pub static DATA: [Value; 64] = [1; 64];
-/// # }
+/// #   }
+/// }
 ///
 /// bekstaudi::trie_values! {
 ///     enum Kind: u8 {
@@ -342,7 +345,7 @@ impl<'trie, T: ConstValue> CodePointTrie<'trie, T> {
 ///     }
 /// }
 ///
-/// static KINDS: CodePointTrie<'static, Kind> = bekstaudi::trie_of!(table as Kind);
+/// static KINDS: CodePointTrie<'static, Kind> = bekstaudi::trie_of!(made::table as Kind);
 /// assert_eq!(KINDS.get('A'), Kind::Letter);
 /// ```
 #[macro_export]
