@@ -13,6 +13,7 @@ pub(crate) fn plain<T, E: core::fmt::Display>(answer: Result<T, E>) -> T {
 }
 
 #[cold]
+#[expect(clippy::panic)] // As Rust's own collections.
 fn refused(error: &dyn core::fmt::Display) -> ! {
     panic!("bekstaudi: {error}")
 }
