@@ -147,7 +147,7 @@ NOT_IN_RUST = (
 )
 # Functions that constants can call.
 CONST = {
-    "icu_zerovec/vec": "from_packed",
+    "icu_zerovec/vec": "from_packed bytes as_bytes",
     "icu_zerovec/slice": "from_packed as_bytes as_zerovec",
     "icu_trie_core/header": "fast_limit fast_index_len",
     "icu_char16trie/trie": "new",

@@ -13,7 +13,7 @@ impl<T> Vec<T> {
         Vec(PhantomData)
     }
 
-    pub fn as_slice(&self) -> &[T] {
+    pub const fn as_slice(&self) -> &[T] {
         &[]
     }
 

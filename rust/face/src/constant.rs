@@ -219,6 +219,21 @@ const fn test_parts<T: ConstValue>(
     Ok(())
 }
 
+/// Panics if parts do not form a trie.
+const fn require_parts<T: ConstValue>(header: &CodePointTrieHeader, index: &[u8], data: &[u8]) {
+    match test_parts::<T>(header, index, data) {
+        Ok(()) => {}
+        Err(CodePointTrieError::EmptyDataVector) => panic!("the data are empty"),
+        Err(CodePointTrieError::InvalidNullValue) => {
+            panic!("the null value is not the number of a value")
+        }
+        Err(CodePointTrieError::IndexTooShortForFastAccess) => {
+            panic!("the index has fewer cells than there are blocks below the fast limit")
+        }
+        Err(_) => panic!("the fast index names a block that ends outside the data"),
+    }
+}
+
 /// Tries in constants.
 impl<'trie, T: ConstValue> CodePointTrie<'trie, T> {
     /// Makes a trie of these parts, which it borrows. The parts are tested as by
@@ -292,17 +307,7 @@ impl<'trie, T: ConstValue> CodePointTrie<'trie, T> {
         index: ZeroSlice<'trie, u16>,
         data: ZeroSlice<'trie, T>,
     ) -> Self {
-        match test_parts::<T>(&header, index.as_bytes(), data.as_bytes()) {
-            Ok(()) => {}
-            Err(CodePointTrieError::EmptyDataVector) => panic!("the data are empty"),
-            Err(CodePointTrieError::InvalidNullValue) => {
-                panic!("the null value is not the number of a value")
-            }
-            Err(CodePointTrieError::IndexTooShortForFastAccess) => {
-                panic!("the index has fewer cells than there are blocks below the fast limit")
-            }
-            Err(_) => panic!("the fast index names a block that ends outside the data"),
-        }
+        require_parts::<T>(&header, index.as_bytes(), data.as_bytes());
         CodePointTrie {
             header,
             index: index.as_zerovec(),
@@ -455,6 +460,29 @@ impl<'data> CodePointInversionList<'data> {
         CodePointInversionList {
             ends: ends.as_zerovec(),
         }
+    }
+}
+
+/// What databake writes, under the Rust crate's names. Each function tests its parts nevertheless.
+impl<'data> CodePointInversionList<'data> {
+    #[doc(hidden)]
+    pub const fn from_parts_unchecked(ends: ZeroVec<'data, PotentialCodePoint>, _: u32) -> Self {
+        assert!(is_valid(ends.as_bytes()), "the boundaries are not an inversion list");
+        CodePointInversionList { ends }
+    }
+}
+
+impl<'trie, T: ConstValue> CodePointTrie<'trie, T> {
+    #[doc(hidden)]
+    pub const fn from_parts_unstable_unchecked_v1(
+        header: CodePointTrieHeader,
+        index: ZeroVec<'trie, u16>,
+        data: ZeroVec<'trie, T>,
+        _error_value: T,
+        _null_value: T,
+    ) -> Self {
+        require_parts::<T>(&header, index.as_bytes(), data.as_bytes());
+        CodePointTrie { header, index, data }
     }
 }
 

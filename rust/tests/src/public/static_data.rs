@@ -64,6 +64,16 @@ static VOWELS: CodePointInversionList<'static> = CodePointInversionList::from_st
 // The map of "ab" to 3: a linear match of two units, and a final value.
 static WORDS: Char16Trie<'static> =
     Char16Trie::from_static(zeroslice!(u16; [0x31, 0x61, 0x62, 0x8003]));
+// What databake writes is tested too.
+static BAKED: CodePointTrie<'static, Few> = CodePointTrie::from_parts_unstable_unchecked_v1(
+    HEADER,
+    zeroslice!(u16; [0; 64]).as_zerovec(),
+    zeroslice!(Few as u8; CELLS).as_zerovec(),
+    Few::Last,
+    Few::Zero,
+);
+static EMPTY: CodePointInversionList<'static> =
+    CodePointInversionList::from_parts_unchecked(ZeroVec::new(), 0);
 const ALL: CodePointInversionList<'static> = CodePointInversionList::all();
 const BUILDER: CodePointInversionListBuilder = CodePointInversionListBuilder::new();
 
@@ -82,6 +92,7 @@ fn statics_return_their_values() {
     assert_eq!((FEW.get32(0x1000), FEW.get32(0x11_0000)), (Few::One, Few::Last));
     assert_eq!((FEW.error_value(), FEW.null_value()), (Few::Last, Few::Zero));
     assert_eq!(NO_TRIE.as_ref(), Err(&CodePointTrieError::EmptyDataVector));
+    assert_eq!((&BAKED, EMPTY.size()), (&FEW, 0));
     assert!(VOWELS.contains('e') && !VOWELS.contains('f') && VOWELS.contains32(0x10_FFFF));
     assert_eq!(WORDS.longest_match_str("abc"), Some((2, 3)));
     assert_eq!((ALL.size(), BUILDER.build().size()), (0x11_0000, 0));
@@ -222,4 +233,16 @@ fn both_tests_of_sets_agree() {
             }
         }
     }
+}
+
+#[test]
+#[should_panic(expected = "the boundaries are not an inversion list")]
+fn a_baked_set_is_tested() {
+    CodePointInversionList::from_parts_unchecked([PotentialCodePoint::try_from(1).unwrap()].into_iter().collect(), 1);
+}
+
+#[test]
+#[should_panic(expected = "the data are empty")]
+fn a_baked_trie_is_tested() {
+    CodePointTrie::from_parts_unstable_unchecked_v1(HEADER, ZeroVec::new(), ZeroVec::new(), 0u8, 0);
 }
