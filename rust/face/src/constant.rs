@@ -81,7 +81,7 @@ const fn number_at(bytes: &[u8], start: usize, width: usize) -> u32 {
 
 /// Checks that bytes are packed values, like [`ZeroVec::parse_bytes`].
 const fn test_cells<T: ConstCells>(bytes: &[u8]) -> Result<(), UleError> {
-    if bytes.len() % T::WIDTH != 0 {
+    if !bytes.len().is_multiple_of(T::WIDTH) {
         return Err(UleError::Length);
     }
     let greatest = if T::WIDTH < 4 { (1 << (8 * T::WIDTH)) - 1 } else { u32::MAX };
@@ -395,7 +395,7 @@ impl core::error::Error for InvalidStaticSet {}
 /// Returns whether packed boundaries are an inversion list, like
 /// [`is_valid_zv`](crate::codepointinvlist::is_valid_zv).
 const fn is_valid(ends: &[u8]) -> bool {
-    if ends.len() % 6 != 0 {
+    if !ends.len().is_multiple_of(6) {
         return false;
     }
     let mut next = 0;
