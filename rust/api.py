@@ -4,7 +4,7 @@ import os
 import re
 
 from files import read
-from rules import DERIVED
+from rules import DERIVED, GETTERS
 
 HERE = os.path.dirname(os.path.realpath(__file__))
 # A public type, with its derived traits if it has some.
@@ -67,5 +67,7 @@ def owner(code, place):
 def guided(module, code):
     """Returns the code of a module of the library with all of these."""
     code = multiples(must_use(derived(code)))
+    for name in GETTERS.get(module, "").split():
+        code = re.sub(rf"\bpub (?=fn {name}\b)", "pub const ", code)
     path = f"{HERE}/added/{module}.rs"
     return code + "\n" + read(path) if os.path.exists(path) else code

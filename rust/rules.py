@@ -93,6 +93,20 @@ DERIVED = {
     "ApplyRefused": "Hash",
     "InvalidStringList": "Clone Eq Hash",
 }
+# Public functions that are `const`.
+GETTERS = {
+    "icu_invlist/codepointinvlist/builder": "new is_empty",
+    "icu_text_sets/codepointinvliststringlist/set": "has_strings code_points string_slice",
+    "icu_frozen_sets/frozen": "as_set",
+    "icu_frozen_sets/spans": "spans",
+    "icu_frozen_sets/text_sets": "as_set",
+    "icu_char16trie/trie": "new",
+    "icu_char16trie/listing": "value",
+    "icu_trie_core/header": "fast_limit fast_index_len",
+    "icu_trie/ranges": "iter_ranges",
+    "icu_trie/typed": "as_untyped_ref",
+    "icu_trie_text/utf16": "values_of_utf16",
+}
 # The modules of Rattle's std that Rust's core has under the same names.
 OWN = "cmp error fmt hash iter marker ops"
 RULES = [
@@ -123,7 +137,7 @@ RULES = [
     (r"([(,{]\s*)(?:\w+\.)*alloc(?:\(\))?,\s*", r"\1"),
     (r"(\(|,)\s*(?:\w+\.)*alloc(?:\(\))?\s*(?=\))", lambda found: found[1].strip(",")),
     (r"(\(&?self), \)", r"\1)"),
-    # What only a proof uses: a method, its calls, and reads of a field that show its invariant.
+    # What only a proof uses: a method and its uses, and reads of a field that show its invariant.
     (r"(?:\n +\x01\d+\x03)*(?:\n +#\[[^\n]*\])*\n +fn shown\(&?self\)(?:;| \{[^}]*\})", ""),
     (r"\n +\w+\.shown\(\);", ""),
     (r"(?:\n +\x01\d+\x03)*\n +let _ = &self\.\w+;", ""),
@@ -175,11 +189,6 @@ UNTYPED_BODIES = """
         self.inner
     }
 """
-INTO_VIEW = (
-    r"pub fn new\(trie: ZeroSlice<'a, u16>\) -> Self \{(\n +)",
-    r"pub fn new(trie: impl Into<ZeroSlice<'a, u16>>) -> Self {\1let trie = trie.into();\1",
-    1,
-)
 # Changes to one source: pattern, replacement, and how often the pattern occurs.
 EDITS = {
     # Reads of cells, by the functions of rust/support/cells.
@@ -271,9 +280,7 @@ EDITS = {
     ],
     # rust/face has a TryFrom whose error is no failed allocation.
     "icu_invlist/codepointinvlist/conversions": [(r"fn try_from(?=<R)", "fn try_from_range", 1)],
-    # A cursor of a view or of a reference to one, as in the Rust crate.
-    **dict.fromkeys(["icu_char16trie/cursor", "icu_char16trie/iterator"], [INTO_VIEW]),
-    # The same for a list of strings.
+    # A vector of strings or a list with the Rust crate's name.
     "icu_text_sets/codepointinvliststringlist/make": [
         (r"str_list: Vec<String>,(?=\n +\) -> Result)", "str_list: impl Into<Vec<String>>,", 1),
         (r"(\n +)(?=match first_fault)", r"\1let str_list = str_list.into();\1", 1),

@@ -31,19 +31,6 @@ plain_clone! {
 
 #[cfg(feature = "alloc")]
 impl<T: AsULE> ZeroVec<'_, T> {
-    /// Returns a vector with these values that owns its bytes.
-    ///
-    /// The Rust crate's borrows the slice if the values are stored as they are packed. This one
-    /// always copies.
-    ///
-    /// # Panics
-    /// Panics if an allocation fails; [`alloc_from_slice`](Self::alloc_from_slice) returns an error
-    /// then.
-    #[must_use]
-    pub fn from_slice_or_alloc(values: &[T]) -> Self {
-        plain(ZeroVec::alloc_from_slice(values))
-    }
-
     /// {try_into_owned}
     ///
     /// # Panics
@@ -85,17 +72,5 @@ impl<'a, T: AsULE> IntoIterator for ZeroSlice<'a, T> {
 
     fn into_iter(self) -> iter::Iter<'a, T> {
         self.iter()
-    }
-}
-
-impl<'a, T: AsULE> From<&ZeroSlice<'a, T>> for ZeroSlice<'a, T> {
-    fn from(view: &ZeroSlice<'a, T>) -> Self {
-        *view
-    }
-}
-
-impl<'a, T: AsULE> From<&'a ZeroVec<'_, T>> for ZeroSlice<'a, T> {
-    fn from(vector: &'a ZeroVec<'_, T>) -> Self {
-        vector.as_slice()
     }
 }

@@ -1,0 +1,640 @@
+//! Tables in constants. The compiler runs the tests of these functions, so a bad table does not
+//! compile.
+
+#![expect(clippy::panic)] // In a constant, a panic is an error of the compiler.
+
+use crate::char16trie::Char16Trie;
+use crate::codepointinvlist::CodePointInversionList;
+use crate::codepointtrie::{CodePointTrie, CodePointTrieError, CodePointTrieHeader, TrieValue};
+use crate::zerovec::ule::{AsULE, UleError};
+use crate::zerovec::{CODE_POINT_LIMIT, PotentialCodePoint, ZeroSlice, ZeroVec};
+
+/// A packed type whose cells a constant can check.
+///
+/// [`trie_values!`](crate::trie_values) implements it for the enum that it declares. If `CELLS`
+/// and [`AsULE::from_unaligned`] disagree, look-ups may panic, but read nothing out of bounds.
+pub trait ConstCells: AsULE {
+    /// The cells that are values, each as the number of its bytes, lowest byte first: ranges with
+    /// both bounds included.
+    const CELLS: &'static [(u32, u32)];
+}
+
+/// A value of tries in constants.
+///
+/// [`trie_values!`](crate::trie_values) implements it for the enum that it declares.
+pub trait ConstValue: TrieValue + ConstCells {
+    /// The numbers that [`TrieValue::try_from_u32`] accepts: ranges with both bounds included.
+    const NUMBERS: &'static [(u32, u32)] = Self::CELLS;
+}
+
+macro_rules! values {
+    ($($value:ty: $cells:expr $(, $numbers:expr)?;)*) => {
+        $(
+            impl ConstCells for $value {
+                const CELLS: &'static [(u32, u32)] = &$cells;
+            }
+
+            impl ConstValue for $value {
+                $(const NUMBERS: &'static [(u32, u32)] = &$numbers;)?
+            }
+        )*
+    };
+}
+
+values! {
+    u8: [(0, 0xFF)];
+    u16: [(0, 0xFFFF)];
+    u32: [(0, u32::MAX)];
+    // Any cell is a signed value, whose number has the sign's bit in all bits above.
+    i8: [(0, 0xFF)], [(0, 0x7F), (0xFFFF_FF80, u32::MAX)];
+    i16: [(0, 0xFFFF)], [(0, 0x7FFF), (0xFFFF_8000, u32::MAX)];
+    i32: [(0, u32::MAX)];
+    char: [(0, 0xD7FF), (0xE000, 0x10_FFFF)];
+}
+
+impl ConstCells for PotentialCodePoint {
+    const CELLS: &'static [(u32, u32)] = &[(0, 0xFF_FFFF)];
+}
+
+/// Returns whether one of the ranges contains the number.
+const fn is_in(ranges: &[(u32, u32)], number: u32) -> bool {
+    let mut i = 0;
+    while i < ranges.len() {
+        if ranges[i].0 <= number && number <= ranges[i].1 {
+            return true;
+        }
+        i += 1;
+    }
+    false
+}
+
+/// Returns the number of a cell, lowest byte first.
+const fn number_at(bytes: &[u8], start: usize, width: usize) -> u32 {
+    let mut number = 0;
+    let mut i = 0;
+    while i < width && i < 4 {
+        number |= (bytes[start + i] as u32) << (8 * i);
+        i += 1;
+    }
+    number
+}
+
+/// Checks that bytes are packed values, like [`ZeroVec::parse_bytes`].
+const fn test_cells<T: ConstCells>(bytes: &[u8]) -> Result<(), UleError> {
+    if !bytes.len().is_multiple_of(T::WIDTH) {
+        return Err(UleError::Length);
+    }
+    let greatest = if T::WIDTH < 4 {
+        (1 << (8 * T::WIDTH)) - 1
+    } else {
+        u32::MAX
+    };
+    if matches!(T::CELLS, [(0, last)] if *last == greatest) {
+        return Ok(());
+    }
+    let mut start = 0;
+    while start < bytes.len() {
+        if !is_in(T::CELLS, number_at(bytes, start, T::WIDTH)) {
+            return Err(UleError::Cell(start / T::WIDTH));
+        }
+        start += T::WIDTH;
+    }
+    Ok(())
+}
+
+impl<T: AsULE> ZeroVec<'_, T> {
+    /// Returns the empty vector. Does not allocate.
+    pub const fn new() -> Self {
+        ZeroVec::from_packed(&[])
+    }
+}
+
+impl<'a, T: ConstCells> ZeroSlice<'a, T> {
+    /// Returns a view of bytes, which are tested as by [`ZeroVec::parse_bytes`].
+    ///
+    /// # Errors
+    /// - [`UleError::Length`] if the number of bytes is not a multiple of the width of a value.
+    /// - [`UleError::Cell`] otherwise, with the index of the first cell that is not a value.
+    pub const fn try_from_static(bytes: &'a [u8]) -> Result<Self, UleError> {
+        match test_cells::<T>(bytes) {
+            Ok(()) => Ok(ZeroSlice::from_packed(bytes)),
+            Err(error) => Err(error),
+        }
+    }
+
+    /// Returns a view of bytes. In a constant, bytes that are not packed values do not compile.
+    ///
+    /// # Panics
+    /// Panics if [`try_from_static`](Self::try_from_static) returns an error.
+    pub const fn from_static(bytes: &'a [u8]) -> Self {
+        match ZeroSlice::try_from_static(bytes) {
+            Ok(slice) => slice,
+            Err(UleError::Length) => {
+                panic!("the number of bytes is not a multiple of the width of a value")
+            }
+            Err(UleError::Cell(_)) => panic!("a cell is not a value of the type"),
+        }
+    }
+}
+
+/// Returns the cell of a number, for [`zeroslice!`](crate::zeroslice).
+#[doc(hidden)]
+pub const fn cell_of(number: i64, width: usize) -> [u8; 4] {
+    let bits = 8 * width;
+    assert!(
+        number >= -(1 << (bits - 1)) && number < 1 << bits,
+        "a number needs more bytes"
+    );
+    (number as u32).to_le_bytes()
+}
+
+/// Packs an array of numbers in a constant, and returns a
+/// [`ZeroSlice<'static, _>`](crate::zerovec::ZeroSlice).
+///
+/// `zeroslice!(u16; [1, 2])` packs values of a type of this crate. For other types of values, the
+/// array has their numbers: `zeroslice!(PotentialCodePoint as u32; [0x41, 0x5B])`. A number that is
+/// not a value of the type does not compile.
+///
+/// ```
+/// use bekstaudi::zerovec::{PotentialCodePoint, ZeroSlice};
+/// use bekstaudi::zeroslice;
+///
+/// static NUMBERS: ZeroSlice<'static, u16> = zeroslice!(u16; [0x1234, 255]);
+/// assert_eq!(NUMBERS.as_bytes(), [0x34, 0x12, 0xFF, 0]);
+/// const ENDS: ZeroSlice<PotentialCodePoint> = zeroslice!(PotentialCodePoint as u32; [0x1F600]);
+/// assert_eq!(ENDS.as_bytes(), [0, 0xF6, 1]);
+/// ```
+///
+/// ```compile_fail,E0080
+/// use bekstaudi::zerovec::{PotentialCodePoint, ZeroSlice};
+///
+/// const ENDS: ZeroSlice<PotentialCodePoint> =
+///     bekstaudi::zeroslice!(PotentialCodePoint as u32; [0x100_0000]);
+/// ```
+#[macro_export]
+macro_rules! zeroslice {
+    ($value:ty; $values:expr) => {
+        $crate::zeroslice!($value as $value; $values)
+    };
+    ($value:ty as $number:ty; $values:expr) => {{
+        const NUMBERS: &[$number] = &$values;
+        const WIDTH: usize = <$value as $crate::zerovec::ule::AsULE>::WIDTH;
+        const BYTES: &[u8; NUMBERS.len() * WIDTH] = &{
+            let mut bytes = [0; NUMBERS.len() * WIDTH];
+            let mut i = 0;
+            while i < NUMBERS.len() {
+                let cell = $crate::zerovec::cell_of(NUMBERS[i] as i64, WIDTH);
+                let mut byte = 0;
+                while byte < WIDTH {
+                    bytes[i * WIDTH + byte] = cell[byte];
+                    byte += 1;
+                }
+                i += 1;
+            }
+            bytes
+        };
+        const SLICE: $crate::zerovec::ZeroSlice<'static, $value> =
+            $crate::zerovec::ZeroSlice::from_static(BYTES);
+        SLICE
+    }};
+}
+
+/// Checks the parts of a trie, like [`CodePointTrie::try_new`].
+const fn test_parts<T: ConstValue>(
+    header: &CodePointTrieHeader,
+    index: &[u8],
+    data: &[u8],
+) -> Result<(), CodePointTrieError> {
+    if data.is_empty() {
+        return Err(CodePointTrieError::EmptyDataVector);
+    }
+    if !is_in(T::NUMBERS, header.null_value) {
+        return Err(CodePointTrieError::InvalidNullValue);
+    }
+    let blocks = header.trie_type.fast_index_len();
+    if index.len() / 2 < blocks {
+        return Err(CodePointTrieError::IndexTooShortForFastAccess);
+    }
+    let mut i = 0;
+    while i < blocks {
+        let offset = index[2 * i] as usize | (index[2 * i + 1] as usize) << 8;
+        if data.len() / T::WIDTH < offset + 64 {
+            return Err(CodePointTrieError::DataTooShortForFastAccess);
+        }
+        i += 1;
+    }
+    Ok(())
+}
+
+/// Panics if parts do not form a trie.
+const fn require_parts<T: ConstValue>(header: &CodePointTrieHeader, index: &[u8], data: &[u8]) {
+    match test_parts::<T>(header, index, data) {
+        Ok(()) => {}
+        Err(CodePointTrieError::EmptyDataVector) => panic!("the data are empty"),
+        Err(CodePointTrieError::InvalidNullValue) => {
+            panic!("the null value is not the number of a value")
+        }
+        Err(CodePointTrieError::IndexTooShortForFastAccess) => {
+            panic!("the index has fewer cells than there are blocks below the fast limit")
+        }
+        Err(_) => panic!("the fast index names a block that ends outside the data"),
+    }
+}
+
+/// Tries in constants.
+impl<'trie, T: ConstValue> CodePointTrie<'trie, T> {
+    /// Makes a trie of these parts, which it borrows. The parts are tested as by
+    /// [`try_new`](Self::try_new), also in a constant.
+    ///
+    /// # Errors
+    /// Returns the error that [`try_new`](Self::try_new) returns for these parts.
+    pub const fn try_from_static(
+        header: CodePointTrieHeader,
+        index: ZeroSlice<'trie, u16>,
+        data: ZeroSlice<'trie, T>,
+    ) -> Result<Self, CodePointTrieError> {
+        match test_parts::<T>(&header, index.as_bytes(), data.as_bytes()) {
+            Ok(()) => Ok(CodePointTrie {
+                header,
+                index: index.as_zerovec(),
+                data: data.as_zerovec(),
+            }),
+            Err(error) => Err(error),
+        }
+    }
+
+    /// Makes a trie of these parts, which it borrows. In a constant, parts that do not form a trie
+    /// do not compile.
+    ///
+    /// ```
+    /// use bekstaudi::codepointtrie::{CodePointTrie, CodePointTrieHeader, TrieType};
+    /// use bekstaudi::zeroslice;
+    ///
+    /// const HEADER: CodePointTrieHeader = CodePointTrieHeader {
+    ///     high_start: 0x1000,
+    ///     shifted12_high_start: 1,
+    ///     index3_null_offset: 0x7FFF,
+    ///     data_null_offset: 0xF_FFFF,
+    ///     null_value: 0,
+    ///     trie_type: TrieType::Small,
+    /// };
+    /// // 62 cells of 7, then the high value and the error value.
+    /// const CELLS: [u8; 64] = {
+    ///     let mut cells = [7; 64];
+    ///     cells[62] = 0;
+    ///     cells[63] = 9;
+    ///     cells
+    /// };
+    /// static TRIE: CodePointTrie<'static, u8> =
+    ///     CodePointTrie::from_static(HEADER, zeroslice!(u16; [0; 64]), zeroslice!(u8; CELLS));
+    /// assert_eq!((TRIE.get('A'), TRIE.get32(0x1000), TRIE.get32(0x11_0000)), (7, 0, 9));
+    /// ```
+    ///
+    /// With one cell less, the fast index names a block that ends outside the data:
+    ///
+    /// ```compile_fail,E0080
+    /// # use bekstaudi::codepointtrie::{CodePointTrie, CodePointTrieHeader, TrieType};
+    /// # use bekstaudi::zeroslice;
+    /// # const HEADER: CodePointTrieHeader = CodePointTrieHeader {
+    /// #     high_start: 0x1000,
+    /// #     shifted12_high_start: 1,
+    /// #     index3_null_offset: 0x7FFF,
+    /// #     data_null_offset: 0xF_FFFF,
+    /// #     null_value: 0,
+    /// #     trie_type: TrieType::Small,
+    /// # };
+    /// static TRIE: CodePointTrie<'static, u8> =
+    ///     CodePointTrie::from_static(HEADER, zeroslice!(u16; [0; 64]), zeroslice!(u8; [7; 63]));
+    /// ```
+    ///
+    /// # Panics
+    /// Panics if [`try_from_static`](Self::try_from_static) returns an error.
+    pub const fn from_static(
+        header: CodePointTrieHeader,
+        index: ZeroSlice<'trie, u16>,
+        data: ZeroSlice<'trie, T>,
+    ) -> Self {
+        require_parts::<T>(&header, index.as_bytes(), data.as_bytes());
+        CodePointTrie {
+            header,
+            index: index.as_zerovec(),
+            data: data.as_zerovec(),
+        }
+    }
+}
+
+/// Makes a trie of the module that `ucptrie --as rust` writes, in a constant.
+///
+/// `trie_of!(table)` has the module's numbers as values, and `trie_of!(table as Kind)` the values of a
+/// type with these numbers, such as an enum of [`trie_values!`](crate::trie_values). A number that is
+/// not a value of the type does not compile.
+///
+/// ```
+/// use bekstaudi::codepointtrie::CodePointTrie;
+///
+/// #[allow(dead_code)] // The module has a look-up of its own.
+/// mod made {
+/// # /*
+///     include!("table.rs");
+/// # */
+/// #   pub mod table {
+/// #     pub type Value = u8;
+/// #     pub const TRIE_TYPE: u8 = 1;
+/// #     pub const HIGH_START: u32 = 0x1000;
+/// #     pub const SHIFTED12_HIGH_START: u16 = 0x1;
+/// #     pub const INDEX3_NULL_OFFSET: u16 = 0x7fff;
+/// #     pub const DATA_NULL_OFFSET: u32 = 0xfffff;
+/// #     pub const NULL_VALUE: u32 = 0x1;
+/// #     pub static INDEX: [u16; 64] = [0; 64];
+/// #     pub static DATA: [Value; 64] = [1; 64];
+/// #   }
+/// }
+///
+/// bekstaudi::trie_values! {
+///     enum Kind: u8 {
+///         Letter = 1,
+///         Digit = 2,
+///     }
+/// }
+///
+/// static KINDS: CodePointTrie<'static, Kind> = bekstaudi::trie_of!(made::table as Kind);
+/// assert_eq!(KINDS.get('A'), Kind::Letter);
+/// ```
+#[macro_export]
+macro_rules! trie_of {
+    ($($table:ident)::+) => {
+        $crate::trie_of!($($table)::+ as $($table)::+::Value)
+    };
+    ($($table:ident)::+ as $value:ty) => {{
+        const TRIE: $crate::codepointtrie::CodePointTrie<'static, $value> =
+            $crate::codepointtrie::CodePointTrie::from_static(
+                $crate::codepointtrie::CodePointTrieHeader {
+                    high_start: $($table)::+::HIGH_START,
+                    shifted12_high_start: $($table)::+::SHIFTED12_HIGH_START,
+                    index3_null_offset: $($table)::+::INDEX3_NULL_OFFSET,
+                    data_null_offset: $($table)::+::DATA_NULL_OFFSET,
+                    null_value: $($table)::+::NULL_VALUE,
+                    trie_type: match $($table)::+::TRIE_TYPE {
+                        0 => $crate::codepointtrie::TrieType::Fast,
+                        _ => $crate::codepointtrie::TrieType::Small,
+                    },
+                },
+                $crate::zeroslice!(u16; $($table)::+::INDEX),
+                $crate::zeroslice!($value as $($table)::+::Value; $($table)::+::DATA),
+            );
+        TRIE
+    }};
+}
+
+/// The error of [`CodePointInversionList::try_from_static`]: the boundaries are not an inversion
+/// list.
+#[derive(Clone, Copy, Debug, PartialEq, Eq)]
+pub struct InvalidStaticSet;
+
+impl core::fmt::Display for InvalidStaticSet {
+    fn fmt(&self, f: &mut core::fmt::Formatter<'_>) -> core::fmt::Result {
+        f.write_str("the boundaries are not an inversion list")
+    }
+}
+
+impl core::error::Error for InvalidStaticSet {}
+
+/// Returns whether packed boundaries are an inversion list, like
+/// [`is_valid_zv`](crate::codepointinvlist::is_valid_zv).
+const fn is_valid(ends: &[u8]) -> bool {
+    if !ends.len().is_multiple_of(6) {
+        return false;
+    }
+    let mut next = 0;
+    let mut start = 0;
+    while start < ends.len() {
+        let end = number_at(ends, start, 3);
+        if end < next || end > CODE_POINT_LIMIT {
+            return false;
+        }
+        next = end + 1;
+        start += 3;
+    }
+    true
+}
+
+/// Sets in constants.
+impl<'data> CodePointInversionList<'data> {
+    /// Returns the set with these boundaries, which it borrows. They are tested as by
+    /// [`try_from_inversion_list`](Self::try_from_inversion_list), also in a constant.
+    ///
+    /// # Errors
+    /// Returns [`InvalidStaticSet`] if the boundaries are not an inversion list.
+    pub const fn try_from_static(
+        ends: ZeroSlice<'data, PotentialCodePoint>,
+    ) -> Result<Self, InvalidStaticSet> {
+        if is_valid(ends.as_bytes()) {
+            Ok(CodePointInversionList {
+                ends: ends.as_zerovec(),
+            })
+        } else {
+            Err(InvalidStaticSet)
+        }
+    }
+
+    /// Returns the set with these boundaries, which it borrows. In a constant, boundaries that are
+    /// not an inversion list do not compile.
+    ///
+    /// ```
+    /// use bekstaudi::codepointinvlist::CodePointInversionList;
+    /// use bekstaudi::zerovec::PotentialCodePoint;
+    /// use bekstaudi::zeroslice;
+    ///
+    /// static LETTERS: CodePointInversionList<'static> = CodePointInversionList::from_static(
+    ///     zeroslice!(PotentialCodePoint as u32; [0x41, 0x5B, 0x61, 0x7B]),
+    /// );
+    /// assert!(LETTERS.contains('Z') && !LETTERS.contains('['));
+    /// ```
+    ///
+    /// ```compile_fail,E0080
+    /// # use bekstaudi::codepointinvlist::CodePointInversionList;
+    /// # use bekstaudi::zerovec::PotentialCodePoint;
+    /// # use bekstaudi::zeroslice;
+    /// static LETTERS: CodePointInversionList<'static> = CodePointInversionList::from_static(
+    ///     zeroslice!(PotentialCodePoint as u32; [0x41, 0x5B, 0x5B, 0x7B]),
+    /// );
+    /// ```
+    ///
+    /// # Panics
+    /// Panics if the boundaries are not an inversion list.
+    pub const fn from_static(ends: ZeroSlice<'data, PotentialCodePoint>) -> Self {
+        assert!(
+            is_valid(ends.as_bytes()),
+            "the boundaries are not an inversion list"
+        );
+        CodePointInversionList {
+            ends: ends.as_zerovec(),
+        }
+    }
+}
+
+/// What databake writes, under the Rust crate's names. Each function tests its parts nevertheless.
+impl<'data> CodePointInversionList<'data> {
+    #[doc(hidden)]
+    pub const fn from_parts_unchecked(ends: ZeroVec<'data, PotentialCodePoint>, _: u32) -> Self {
+        assert!(
+            is_valid(ends.as_bytes()),
+            "the boundaries are not an inversion list"
+        );
+        CodePointInversionList { ends }
+    }
+}
+
+impl<'trie, T: ConstValue> CodePointTrie<'trie, T> {
+    #[doc(hidden)]
+    pub const fn from_parts_unstable_unchecked_v1(
+        header: CodePointTrieHeader,
+        index: ZeroVec<'trie, u16>,
+        data: ZeroVec<'trie, T>,
+        _error_value: T,
+        _null_value: T,
+    ) -> Self {
+        require_parts::<T>(&header, index.as_bytes(), data.as_bytes());
+        CodePointTrie {
+            header,
+            index,
+            data,
+        }
+    }
+}
+
+impl<'data> Char16Trie<'data> {
+    /// Returns the trie of these units, which it borrows. Like [`new`](Self::new), it does not
+    /// validate them: look-ups return on all units.
+    ///
+    /// ```
+    /// use bekstaudi::{char16trie::Char16Trie, zeroslice};
+    ///
+    /// // The map of "ab" to 3.
+    /// static WORDS: Char16Trie<'static> =
+    ///     Char16Trie::from_static(zeroslice!(u16; [0x31, 0x61, 0x62, 0x8003]));
+    /// assert_eq!(WORDS.longest_match_str("abc"), Some((2, 3)));
+    /// ```
+    pub const fn from_static(units: ZeroSlice<'data, u16>) -> Self {
+        Char16Trie::new(units.as_zerovec())
+    }
+}
+
+/// Returns ranges that contain the same numbers, ascending and joined, and then empty ones; and how
+/// many are not empty. For [`trie_values!`](crate::trie_values).
+#[doc(hidden)]
+pub const fn joined<const N: usize>(mut numbers: [u32; N]) -> ([(u32, u32); N], usize) {
+    let mut ranges = [(1, 0); N];
+    let mut count: usize = 0;
+    let mut i = 0;
+    while i < N {
+        let mut place = i;
+        while place > 0 && numbers[place - 1] > numbers[place] {
+            (numbers[place - 1], numbers[place]) = (numbers[place], numbers[place - 1]);
+            place -= 1;
+        }
+        i += 1;
+    }
+    let mut i = 0;
+    while i < N {
+        if count > 0 && ranges[count - 1].1 == numbers[i].wrapping_sub(1) {
+            ranges[count - 1].1 = numbers[i];
+        } else {
+            ranges[count] = (numbers[i], numbers[i]);
+            count += 1;
+        }
+        i += 1;
+    }
+    (ranges, count)
+}
+
+/// Declares an enum whose values a trie can store, also in a constant.
+///
+/// The type after the name, `u8`, `u16` or `u32`, is that of a value's cell. Each value has a
+/// number, a literal.
+///
+/// The enum gets [`AsULE`](crate::zerovec::ule::AsULE),
+/// [`TrieValue`](crate::codepointtrie::TrieValue), [`ConstCells`](crate::zerovec::ConstCells) and
+/// [`ConstValue`](crate::codepointtrie::ConstValue), beside `Clone`, `Copy`, `Debug`, `PartialEq`,
+/// `Eq`, `PartialOrd`, `Ord` and `Hash`.
+///
+/// ```
+/// use bekstaudi::codepointtrie::{CodePointTrieBuilder, TrieType};
+///
+/// bekstaudi::trie_values! {
+///     /// A kind of character.
+///     pub enum Kind: u8 {
+///         /// Neither of the others.
+///         Other = 0,
+///         Letter = 1,
+///         Digit = 2,
+///     }
+/// }
+///
+/// let mut builder = CodePointTrieBuilder::new(Kind::Other, Kind::Other, TrieType::Small);
+/// builder.set_range_value(0x30..=0x39, Kind::Digit);
+/// assert_eq!(builder.build().get('7'), Kind::Digit);
+/// ```
+#[macro_export]
+macro_rules! trie_values {
+    (
+        $(#[$meta:meta])*
+        $vis:vis enum $value:ident: $number:ident {
+            $($(#[$inner:meta])* $name:ident = $n:literal),+ $(,)?
+        }
+    ) => {
+        $(#[$meta])*
+        #[derive(Clone, Copy, Debug, PartialEq, Eq, PartialOrd, Ord, Hash)]
+        #[repr($number)]
+        $vis enum $value {
+            $($(#[$inner])* $name = $n),+
+        }
+
+        impl $crate::zerovec::ule::AsULE for $value {
+            const WIDTH: usize = core::mem::size_of::<$number>();
+
+            #[inline]
+            fn to_unaligned(self) -> [u8; 4] {
+                (self as u32).to_le_bytes()
+            }
+
+            #[inline]
+            fn from_unaligned(bytes: &[u8]) -> Option<Self> {
+                let mut cell = [0; core::mem::size_of::<$number>()];
+                cell.copy_from_slice(&bytes[..core::mem::size_of::<$number>()]);
+                match <$number>::from_le_bytes(cell) {
+                    $($n => Some(Self::$name),)+
+                    _ => None,
+                }
+            }
+        }
+
+        impl $crate::codepointtrie::TrieValue for $value {
+            type TryFromU32Error = $crate::codepointtrie::NotAValue;
+
+            #[inline]
+            fn to_u32(self) -> u32 {
+                self as u32
+            }
+
+            #[inline]
+            fn try_from_u32(i: u32) -> Result<Self, Self::TryFromU32Error> {
+                match i {
+                    $($n => Ok(Self::$name),)+
+                    _ => Err($crate::codepointtrie::NotAValue),
+                }
+            }
+        }
+
+        impl $crate::zerovec::ConstCells for $value {
+            const CELLS: &'static [(u32, u32)] = {
+                const NUMBERS: &[u32] = &[$($n),+];
+                const JOINED: &([(u32, u32); NUMBERS.len()], usize) =
+                    &$crate::zerovec::joined([$($n),+]);
+                JOINED.0.split_at(JOINED.1).0
+            };
+        }
+
+        impl $crate::codepointtrie::ConstValue for $value {}
+    };
+}
