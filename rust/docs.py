@@ -51,10 +51,13 @@ def with_example(module, code, item, example):
     if len(places) != 1:
         raise Stop(f"rust/examples: expected one {item} with docs in {module}, found {len(places)}")
     old, place = places[0][1], places[0]
+    head = re.match(r" *//[/!]", old)[0]
+    if (fence := re.search(FENCE, old)) and fence.start() > old.find(f"{head} # ") >= 0:
+        # The example comes before the headings.
+        old = re.sub(rf"(?:{head}\n)*\Z", "", old[: fence.start()] + old[fence.end() :])
     if re.search(FENCE, old):
         new = re.sub(FENCE, lambda it: fenced(it[1], example), old, count=1)
     else:
-        head = re.match(r" *//[/!]", old)[0]
         texts, heading, rest = old.partition(f"{head} # ")
         texts = re.sub(rf"(?:{head}\n)*\Z", "", texts)
         gap = f"{head}\n" if heading else ""

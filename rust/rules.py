@@ -79,10 +79,10 @@ DERIVED = {
     "FrozenTables": "PartialEq Eq Hash",
     "TrieResult": "Eq Hash",
     "CursorPlace": "Hash",
-    "FastCodePointTrie": "Clone PartialEq Eq",
-    "SmallCodePointTrie": "Clone PartialEq Eq",
+    "FastCodePointTrie": "PartialEq Eq",
+    "SmallCodePointTrie": "PartialEq Eq",
     "Typed": "Hash",
-    "AnyWidthTrie": "Clone PartialEq Eq Hash",
+    "AnyWidthTrie": "PartialEq Eq Hash",
     "TrieType": "Hash",
     "CodePointTrieHeader": "Hash",
     "CodePointMapRange": "Hash",
@@ -95,7 +95,7 @@ DERIVED = {
 }
 # Public functions that are `const`.
 GETTERS = {
-    "icu_invlist/codepointinvlist/builder": "new is_empty",
+    "icu_invlist/codepointinvlist/builder": "new",
     "icu_text_sets/codepointinvliststringlist/set": "has_strings code_points string_slice",
     "icu_frozen_sets/frozen": "as_set",
     "icu_frozen_sets/spans": "spans",
@@ -241,6 +241,11 @@ EDITS = {
         ["icu_zerovec/vec", "icu_zerovec/slice", "icu_zerovec/iter"],
         [(r"\bof: PhantomData<T>", "of: PhantomData<fn(T) -> T>", 1)],
     ),
+    # The Rust crate passes a reference to a vector.
+    "icu_char16trie/cursor": [
+        (r"pub fn new\(trie: (ZeroSlice<'a, u16>)\)", r"pub fn new(trie: impl Into<\1>)", 1),
+        (r"units: trie,(?=\n +place: Place::Node)", "units: trie.into(),", 1),
+    ],
     # The bound on positions, also if they are numbers of 32 bits.
     "icu_char16trie/place": [(r"position >= 1 << 63", "position > isize::MAX as usize", 1)],
     # That there are as many cells as before is proved only for lawful types, so it is asserted.
@@ -276,7 +281,13 @@ EDITS = {
         (r"\n +\x01\d+\x03\n +pub\(crate\) error_value: T,", "", 1),
         (r"let Some\(error_value\) = data", "let Some(_) = data", 1),
         (r"\n +error_value(?:: self\.error_value)?,(?=\n +\})", "", 2),
-        (r"self\.error_value(?=\n)", "match self.data.last() {\n            Some(value) => value,\n            None => unreachable!(),\n        }", 1),
+        (r"self\.error_value(?=\n)", "self.without_answer()", 1),
+    ],
+    "icu_trie/convert": [
+        # rust/face has one with the error of the Rust crate.
+        (r"fn try_into_converted", "fn try_into_converted_explained", 1),
+        (r"\n +error_value(?:: _)?,(?=\n +\})", "", 2),
+        (r"let Some\(error_value\) = data\.last\(\) else \{\s*unreachable!\(\);?\s*\};\s*", "", 1),
     ],
     # rust/face has a TryFrom whose error is no failed allocation.
     "icu_invlist/codepointinvlist/conversions": [(r"fn try_from(?=<R)", "fn try_from_range", 1)],
@@ -289,12 +300,6 @@ EDITS = {
     "icu_trie_core/value": [
         (r"AsULE \+ Eq(?= \{)", "AsULE + Eq + 'static", 1),
         (r"type TryFromU32Error;", "type TryFromU32Error: core::fmt::Display;", 1),
-    ],
-    # rust/face has one with the error of the Rust crate.
-    "icu_trie/convert": [
-        (r"fn try_into_converted", "fn try_into_converted_explained", 1),
-        (r"\n +error_value(?:: _)?,(?=\n +\})", "", 2),
-        (r"let Some\(error_value\) = data\.last\(\) else \{\s*unreachable!\(\);?\s*\};\s*", "", 1),
     ],
     "icu_trie/typed": [
         (r"\n +error_value: self\.error_value,", "", 1),

@@ -1,3 +1,15 @@
+//# copy copy_values
+use bekstaudi::codepointtrie::{CodePointTrieBuilder, TrieType, text::copy_values};
+
+let mut builder = CodePointTrieBuilder::new(0u8, 99, TrieType::Fast);
+builder.set_range_value(0x61..=0x7A, 2);
+builder.set_range_value(0x41..=0x5A, 1);
+let categories = builder.build();
+let mut buffer = [0; 4];
+let copied = copy_values(&categories, b"a\xF1\x80\x80B1 ", &mut buffer);
+// The space did not fit.
+assert_eq!((copied.values, copied.bytes), (4, 6));
+assert_eq!(buffer, [2, 99, 1, 0]);
 //# find find_value
 use bekstaudi::codepointtrie::{CodePointTrieBuilder, TrieType, text::find_value};
 

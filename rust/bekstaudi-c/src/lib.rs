@@ -103,6 +103,12 @@ mod codepointinvliststringlist;
 #[path = "../../bekstaudi/src/codepointtrie.rs"]
 mod codepointtrie;
 #[forbid(unsafe_code)]
+#[path = "../../bekstaudi/src/collected.rs"]
+mod collected;
+#[forbid(unsafe_code)]
+#[path = "../../bekstaudi/src/constant.rs"]
+mod constant;
+#[forbid(unsafe_code)]
 #[path = "../../bekstaudi/src/icu_char16trie/mod.rs"]
 mod icu_char16trie;
 #[forbid(unsafe_code)]
@@ -150,9 +156,15 @@ mod icu_zerovec;
 #[forbid(unsafe_code)]
 #[path = "../../bekstaudi/src/plain.rs"]
 mod plain;
+#[forbid(unsafe_code)]
+#[path = "../../bekstaudi/src/strings.rs"]
+mod strings;
 #[cfg_attr(not(feature = "proved-reads"), forbid(unsafe_code))]
 #[path = "../../bekstaudi/src/support/mod.rs"]
 mod support;
+#[forbid(unsafe_code)]
+#[path = "../../bekstaudi/src/traits.rs"]
+mod traits;
 #[forbid(unsafe_code)]
 #[path = "../../bekstaudi/src/zerovec.rs"]
 mod zerovec;

@@ -21,26 +21,38 @@
 //! # Ok::<(), Box<dyn std::error::Error>>(())
 //! ```
 
+pub use crate::constant::InvalidStaticSet;
+#[cfg(feature = "alloc")]
 pub use crate::icu_frozen_sets::frozen::{FrozenCodePointSet, FrozenTables};
+#[cfg(feature = "alloc")]
 pub use crate::icu_frozen_sets::spans::{Span, Spans};
+#[cfg(feature = "alloc")]
 pub use crate::icu_frozen_sets::text_sets::FrozenCodePointSetAndStrings;
-pub use crate::icu_invlist::codepointinvlist::{
-    CodePointInversionList, CodePointInversionListBuilder, InvalidSetError, IterChars, IterRanges,
-    IterRangesComplemented, RangeError, RangeOf, RangePoint, SetError, TryRangeError,
-    deconstruct_range, is_valid_zv, utils,
-};
+#[cfg(feature = "alloc")]
+pub use crate::icu_invlist::codepointinvlist::CodePointInversionListBuilder;
 #[cfg(feature = "json")]
 pub use crate::icu_invlist::codepointinvlist::SetJsonError;
+pub use crate::icu_invlist::codepointinvlist::{
+    CodePointInversionList, InvalidSetError, IterChars, IterRanges, IterRangesComplemented,
+    RangeError, RangeOf, RangePoint, SetError, TryRangeError, deconstruct_range, is_valid_zv,
+    utils,
+};
 pub use crate::icu_invlist_binary::serialized;
 
+#[cfg(feature = "alloc")]
 use crate::codepointinvliststringlist::CodePointInversionListAndStringList;
 use crate::icu_zerovec::CODE_POINT_LIMIT;
+#[cfg(feature = "alloc")]
 use crate::plain::{plain, plain_calls, plain_clone};
+#[cfg(feature = "alloc")]
+use crate::zerovec::{PotentialCodePoint, ZeroVec};
+#[cfg(feature = "alloc")]
 use alloc::vec::Vec;
-use core::ops::{
-    Bound, Range, RangeBounds, RangeFrom, RangeFull, RangeInclusive, RangeTo, RangeToInclusive,
-};
+use core::ops::{Bound, RangeBounds};
+#[cfg(feature = "alloc")]
+use core::ops::{Range, RangeFrom, RangeFull, RangeInclusive, RangeTo, RangeToInclusive};
 
+#[cfg(feature = "alloc")]
 plain_clone! {
     impl<'data> Clone for CodePointInversionList<'data>;
     impl<> Clone for CodePointInversionListBuilder;
@@ -48,43 +60,60 @@ plain_clone! {
     impl<> Clone for FrozenCodePointSetAndStrings;
 }
 
+#[cfg(feature = "alloc")]
 impl CodePointInversionListBuilder {
     plain_calls! {
-        "Adds `c` to the set."
+        /// Adds the character `c`.
         add_char = try_add_char(c: char);
-        "Adds the code point `c` to the set, if it is at most 0x10FFFF."
+        /// Adds the code point `c`. A number above 0x10FFFF is ignored.
         add32 = try_add32(c: u32);
-        "Adds each character in `range` to the set."
+        /// Adds all code points in `range`: `'A'..='Z'` adds 26 letters. Surrogates between the start
+        /// and the end are added too.
+        ///
+        /// `range` may be empty or reversed; it then adds nothing.
         add_range = try_add_range(range: impl RangeBounds<char>);
-        "Adds each code point in `range`. A range with numbers above 0x10FFFF adds nothing."
+        /// Adds all code points in `range`.
+        ///
+        /// `range` may be empty or reversed; it then adds nothing. If its exclusive end is above
+        /// 0x110000, the whole range is ignored: 0x50..=0x110000 adds nothing.
         add_range32 = try_add_range32(range: impl RangeBounds<u32>);
-        "Adds each code point of `set` to the set."
+        /// Adds all code points in `set`.
         add_set = try_add_set(set: &CodePointInversionList<'_>);
-        "Removes `c` from the set."
+        /// Removes the character `c`.
         remove_char = try_remove_char(c: char);
-        "Removes the code point `c` from the set."
+        /// Removes the code point `c`. A number above 0x10FFFF is ignored.
         remove32 = try_remove32(c: u32);
-        "Removes each character in `range` from the set."
+        /// Removes all code points in `range`, including surrogates between its start and its end.
+        ///
+        /// `range` may be empty or reversed; it then removes nothing.
         remove_range = try_remove_range(range: impl RangeBounds<char>);
-        "Removes each code point in `range` from the set."
+        /// Removes all code points in `range`: `0..=u32::MAX` removes all.
+        ///
+        /// `range` may be empty or reversed; it then removes nothing.
         remove_range32 = try_remove_range32(range: impl RangeBounds<u32>);
-        "Removes each code point of `set` from the set."
+        /// Removes all code points in `set`.
         remove_set = try_remove_set(set: &CodePointInversionList<'_>);
-        "Removes each code point that is not in `set`."
+        /// Removes all code points that are not in `set`.
         retain_set = try_retain_set(set: &CodePointInversionList<'_>);
-        "Adds `c` if the set does not contain it, and else removes it."
+        /// Flips the character `c`: removes it if it is in the set, and adds it otherwise.
         complement_char = try_complement_char(c: char);
-        "Adds the code point `c`, or removes it if the set contains it. Ignores other numbers."
+        /// Flips the code point `c`: removes it if it is in the set, and adds it otherwise. A number
+        /// above 0x10FFFF is ignored.
         complement32 = try_complement32(c: u32);
-        "Adds each character in `range` that is not in the set, and removes the others in it."
+        /// Flips all code points in `range`, including surrogates between its start and its end.
+        ///
+        /// `range` may be empty or reversed; it then changes nothing.
         complement_range = try_complement_range(range: impl RangeBounds<char>);
-        "Adds each code point in `range` that is not in the set, and removes the others in it."
+        /// Flips all code points in `range`. Numbers above 0x10FFFF are ignored.
+        ///
+        /// `range` may be empty or reversed; it then changes nothing.
         complement_range32 = try_complement_range32(range: impl RangeBounds<u32>);
-        "Adds each code point of `set` that the set does not contain, and removes the others of it."
+        /// Flips all code points in `set`, so that the result is the symmetric difference. Doing it
+        /// twice restores the set.
         complement_set = try_complement_set(set: &CodePointInversionList<'_>);
     }
 
-    /// Complements the set: it then contains exactly the code points that it did not.
+    /// Flips all code points: the set becomes its complement. Doing it twice restores the set.
     ///
     /// # Panics
     /// Panics if an allocation fails; [`try_complement`](Self::try_complement) returns an error
@@ -93,36 +122,82 @@ impl CodePointInversionListBuilder {
         plain(self.try_complement());
     }
 
-    /// Returns the set.
+    /// Returns the set as an inversion list, with its boundaries packed in three bytes each.
     ///
     /// # Panics
     /// Panics if an allocation fails; [`try_build`](Self::try_build) returns an error then.
+    #[must_use]
     pub fn build(self) -> CodePointInversionList<'static> {
         plain(self.try_build())
     }
 }
 
+#[cfg(feature = "alloc")]
 impl Default for CodePointInversionListBuilder {
     fn default() -> Self {
         CodePointInversionListBuilder::new()
     }
 }
 
+#[cfg(feature = "alloc")]
+impl<'data> CodePointInversionList<'data> {
+    /// Returns the set with this list of boundaries, and takes over the list without copying it.
+    ///
+    /// # Errors
+    /// Returns [`InvalidSetError`] with a copy of the list if `ends` is not an inversion list.
+    ///
+    /// # Panics
+    /// Panics if allocating that copy fails;
+    /// [`try_from_inversion_list_fallible`](Self::try_from_inversion_list_fallible) returns an error
+    /// then.
+    pub fn try_from_inversion_list(
+        ends: ZeroVec<'data, PotentialCodePoint>,
+    ) -> Result<Self, InvalidSetError> {
+        without_memory(Self::try_from_inversion_list_fallible(ends))
+    }
+
+    /// Returns the set with these boundaries, and copies them.
+    ///
+    /// # Errors
+    /// Returns [`InvalidSetError`] with a copy of the list if `ends` is not an inversion list.
+    ///
+    /// # Panics
+    /// Panics if an allocation fails;
+    /// [`try_from_u32_inversion_list_slice_fallible`](Self::try_from_u32_inversion_list_slice_fallible)
+    /// returns an error then.
+    pub fn try_from_u32_inversion_list_slice(ends: &[u32]) -> Result<Self, InvalidSetError> {
+        without_memory(Self::try_from_u32_inversion_list_slice_fallible(ends))
+    }
+}
+
+#[cfg(feature = "alloc")]
+/// Returns the result with the error of the Rust crate. Panics if an allocation failed.
+fn without_memory<T>(answer: Result<T, SetError>) -> Result<T, InvalidSetError> {
+    match answer {
+        Err(SetError::Invalid(error)) => Err(error),
+        answer => Ok(plain(answer)),
+    }
+}
+
+#[cfg(feature = "alloc")]
 impl CodePointInversionList<'_> {
-    /// Returns the boundaries of the set, ascending.
+    /// Returns a copy of the boundaries as a vector of numbers.
     ///
     /// # Panics
     /// Panics if an allocation fails;
     /// [`try_get_inversion_list_vec`](Self::try_get_inversion_list_vec) returns an error then.
+    #[must_use]
     pub fn get_inversion_list_vec(&self) -> Vec<u32> {
         plain(self.try_get_inversion_list_vec())
     }
 
-    /// Returns the set with boundaries of its own, which it borrows no longer.
+    /// Returns the same set, which then owns its boundaries. If the set already owns them, nothing
+    /// is allocated or copied.
     ///
     /// # Panics
     /// Panics if an allocation fails; [`try_into_owned`](Self::try_into_owned) returns an error
     /// then.
+    #[must_use]
     pub fn into_owned(self) -> CodePointInversionList<'static> {
         plain(self.try_into_owned())
     }
@@ -131,30 +206,13 @@ impl CodePointInversionList<'_> {
 /// Returns the empty set. Does not allocate.
 impl Default for CodePointInversionList<'_> {
     fn default() -> Self {
-        plain(CodePointInversionList::from_valid_slice(&[]))
-    }
-}
-
-/// # Panics
-/// Panics if an allocation fails; [`CodePointInversionList::try_from_iter`] returns an error then.
-impl FromIterator<RangeInclusive<u32>> for CodePointInversionList<'_> {
-    fn from_iter<I: IntoIterator<Item = RangeInclusive<u32>>>(ranges: I) -> Self {
-        plain(CodePointInversionList::try_from_iter(ranges.into_iter()))
-    }
-}
-
-/// # Panics
-/// Panics if an allocation fails.
-impl FromIterator<char> for CodePointInversionList<'_> {
-    fn from_iter<I: IntoIterator<Item = char>>(characters: I) -> Self {
-        let mut builder = CodePointInversionListBuilder::new();
-        for c in characters {
-            builder.add_char(c);
+        CodePointInversionList {
+            ends: Default::default(),
         }
-        builder.build()
     }
 }
 
+#[cfg(feature = "alloc")]
 macro_rules! from_ranges {
     ($($range:ty)*) => {
         $(
@@ -175,25 +233,32 @@ macro_rules! from_ranges {
     };
 }
 
+#[cfg(feature = "alloc")]
 from_ranges! {
     Range<char> RangeFrom<char> RangeFull RangeInclusive<char> RangeTo<char> RangeToInclusive<char>
 }
 
+#[cfg(feature = "alloc")]
 impl FrozenCodePointSet {
-    /// Returns a copy of the set with a bit for each code point, for many look-ups.
+    /// Returns a frozen set with the code points of `set` (ICU: `UnicodeSet::freeze`). It has its
+    /// own copy of the boundaries, and `set` is unchanged.
     ///
     /// # Panics
     /// Panics if an allocation fails; [`try_freeze`](Self::try_freeze) returns an error then.
+    #[must_use]
     pub fn freeze(set: &CodePointInversionList<'_>) -> FrozenCodePointSet {
         plain(FrozenCodePointSet::try_freeze(set))
     }
 }
 
+#[cfg(feature = "alloc")]
 impl FrozenCodePointSetAndStrings {
-    /// Returns a copy of the set with tables for many look-ups and spans.
+    /// Returns a frozen set with the code points and the strings of `set` (ICU:
+    /// `UnicodeSet::freeze`). It has its own copy of both, and `set` is unchanged.
     ///
     /// # Panics
     /// Panics if an allocation fails; [`try_freeze`](Self::try_freeze) returns an error then.
+    #[must_use]
     pub fn freeze(set: &CodePointInversionListAndStringList<'_>) -> FrozenCodePointSetAndStrings {
         plain(FrozenCodePointSetAndStrings::try_freeze(set))
     }

@@ -28,6 +28,9 @@
 //! assert_eq!(trie.get_set_for_value(1).iter_chars().count(), 26);
 //! ```
 //!
+//! Values may also be of a type of your own, such as an enum of general categories:
+//! [`TrieValue`](codepointtrie::TrieValue) has an example.
+//!
 //! # Sets
 //!
 //! ```
@@ -57,43 +60,116 @@
 //! # Ok::<(), Box<dyn std::error::Error>>(())
 //! ```
 //!
+//! # Static data
+//!
+//! Tries, sets and unit tries can be `static`. The compiler runs the test of
+//! [`try_new`](codepointtrie::CodePointTrie::try_new), so a bad table does not compile:
+//! [`CodePointTrie::from_static`](codepointtrie::CodePointTrie::from_static),
+//! [`CodePointInversionList::from_static`](codepointinvlist::CodePointInversionList::from_static),
+//! [`Char16Trie::from_static`](char16trie::Char16Trie::from_static). [`zeroslice!`] packs an array
+//! for them, and [`trie_values!`] declares an enum of values.
+//!
 //! # Features
 //!
-//! All are off by default.
+//! All but `alloc` are off by default.
 //!
-//! - `json`: sets, tries and unit tries to and from the values of `serde_json`
+//! - `alloc`: what is built, or owns its data. Without it, static and borrowed data can be looked up
+//! - `serde`: sets, tries and unit tries to and from any format of serde, in the forms of
+//!   `icu_collections`: numbers and texts in formats that people read, such as JSON, and packed
+//!   bytes, which are borrowed, in others
+//! - `json`: sets, tries and unit tries to and from the values of `serde_json`. The forms are those
+//!   of `serde`, except that a trie has the number of each value, also if its values are signed or
+//!   characters
 //! - `toml`: tries from the tables of `toml`; it needs `std`
 //! - `proved-reads`: reads whose index is proved to be in bounds are not checked again
 #![no_std]
+// The Rust crate denies these too. Indices are proved to be in bounds, and allowed.
+#![cfg_attr(
+    not(test),
+    deny(clippy::expect_used, clippy::panic, clippy::unwrap_used)
+)]
+#![warn(missing_docs)]
+// docs.rs shows which feature an item needs.
+#![cfg_attr(docsrs, feature(doc_cfg))]
+// Docs name what allocates.
+#![cfg_attr(not(feature = "alloc"), allow(rustdoc::broken_intra_doc_links))]
 #![cfg_attr(not(feature = "proved-reads"), forbid(unsafe_code))]
 
+#[cfg(feature = "alloc")]
 extern crate alloc;
 
 #[cfg(all(feature = "proved-reads", not(target_pointer_width = "64")))]
 compile_error!("`proved-reads` needs a target with pointers of 64 bits: the proofs assume them");
 
+#[cfg(all(doctest, feature = "alloc"))]
+#[doc = include_str!("../README.md")]
+struct Readme;
+
+#[cfg(feature = "alloc")]
+mod collected;
+mod constant;
 mod plain;
+#[cfg(feature = "serde")]
+mod serde_forms;
+#[cfg(feature = "alloc")]
+mod strings;
 mod support;
+mod traits;
 
 pub mod char16trie;
 pub mod codepointinvlist;
+#[cfg(feature = "alloc")]
 pub mod codepointinvliststringlist;
 pub mod codepointtrie;
 pub mod zerovec;
 
 pub use plain::iterator_utils;
 
-// rust/make writes the list. Names may be unused: some are used by proofs only, and some are public
-// in their crate but not here.
+// rust/make writes the lists. Names may be unused: some are used by proofs only, and some are public
+// in their crate but not here. The sources count in loops over indices, which proofs are about.
 macro_rules! generated {
     ($($name:ident)*) => {
         $(#[allow(dead_code, unused_imports, unused_variables)]
+        #[allow(
+            clippy::collapsible_if,
+            clippy::explicit_auto_deref,
+            clippy::manual_clamp,
+            clippy::manual_div_ceil,
+            clippy::manual_find,
+            clippy::manual_range_contains,
+            clippy::needless_range_loop,
+            clippy::op_ref,
+            clippy::ptr_arg,
+            clippy::while_let_on_iterator
+        )]
+        mod $name;)*
+    };
+}
+macro_rules! generated_with_alloc {
+    ($($name:ident)*) => {
+        $(#[cfg(feature = "alloc")]
+        #[allow(dead_code, unused_imports, unused_variables)]
+        #[allow(
+            clippy::collapsible_if,
+            clippy::explicit_auto_deref,
+            clippy::manual_clamp,
+            clippy::manual_div_ceil,
+            clippy::manual_find,
+            clippy::manual_range_contains,
+            clippy::needless_range_loop,
+            clippy::op_ref,
+            clippy::ptr_arg,
+            clippy::while_let_on_iterator
+        )]
         mod $name;)*
     };
 }
 
 generated! {
-    icu_zerovec icu_invlist icu_invlist_binary icu_text_sets icu_frozen_sets icu_char16trie
-    icu_char16trie_builder icu_trie_core icu_trie icu_trie_formats icu_trie_binary icu_trie_text
-    icu_trie_map icu_trie_compaction icu_trie_builder
+    icu_zerovec icu_invlist icu_invlist_binary icu_char16trie icu_trie_core icu_trie
+    icu_trie_formats icu_trie_binary icu_trie_text
+}
+generated_with_alloc! {
+    icu_text_sets icu_frozen_sets icu_char16trie_builder icu_trie_map icu_trie_compaction
+    icu_trie_builder
 }

@@ -2,6 +2,7 @@
 
 pub use crate::icu_trie::iterator_utils;
 
+#[cfg(feature = "alloc")]
 /// Returns the value of a result. Panics on an error, which is a failed allocation, as Rust's own
 /// collections do.
 #[inline]
@@ -12,17 +13,19 @@ pub(crate) fn plain<T, E: core::fmt::Display>(answer: Result<T, E>) -> T {
     }
 }
 
+#[cfg(feature = "alloc")]
 #[cold]
 #[expect(clippy::panic)] // As Rust's own collections.
 fn refused(error: &dyn core::fmt::Display) -> ! {
     panic!("bekstaudi: {error}")
 }
 
+#[cfg(feature = "alloc")]
 /// Methods that return nothing, each over its `try_` form.
 macro_rules! plain_calls {
-    ($($text:literal $name:ident = $tried:ident($argument:ident: $of:ty);)*) => {
+    ($($(#[$docs:meta])* $name:ident = $tried:ident($argument:ident: $of:ty);)*) => {
         $(
-            #[doc = $text]
+            $(#[$docs])*
             ///
             /// # Panics
             #[doc = concat!("Panics if an allocation fails; [`", stringify!($tried), "`](Self::",
@@ -34,8 +37,10 @@ macro_rules! plain_calls {
         )*
     };
 }
+#[cfg(feature = "alloc")]
 pub(crate) use plain_calls;
 
+#[cfg(feature = "alloc")]
 /// A clone over `try_clone`, which panics if an allocation fails.
 macro_rules! plain_clone {
     ($(impl<$($life:lifetime $(, $of:ident: $bound:path)?)?> Clone for $name:ty;)*) => {
@@ -50,4 +55,13 @@ macro_rules! plain_clone {
         )*
     };
 }
+#[cfg(feature = "alloc")]
 pub(crate) use plain_clone;
+
+/// Iterators that return `None` forever once they have returned it.
+macro_rules! fused {
+    ($(<$($life:lifetime),* $(, $of:ident: $bound:path)*> $name:ty;)*) => {
+        $(impl<$($life),* $(, $of: $bound)*> core::iter::FusedIterator for $name {})*
+    };
+}
+pub(crate) use fused;

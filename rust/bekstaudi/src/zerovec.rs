@@ -9,27 +9,63 @@
 //! # Ok::<(), bekstaudi::zerovec::ule::UleError>(())
 //! ```
 
+pub use crate::constant::ConstCells;
+#[doc(hidden)]
+pub use crate::constant::{cell_of, joined};
 pub use crate::icu_zerovec::code_point::{CODE_POINT_LIMIT, PotentialCodePoint};
 pub use crate::icu_zerovec::memory::{ApplyRefused, MemoryError};
 pub use crate::icu_zerovec::slice::ZeroSlice;
 pub use crate::icu_zerovec::vec::ZeroVec;
 pub use crate::icu_zerovec::{iter, ule};
+#[cfg(feature = "alloc")]
+pub use crate::strings::VarZeroVec;
 
+#[cfg(feature = "alloc")]
 use crate::plain::{plain, plain_clone};
 use ule::AsULE;
 
+#[cfg(feature = "alloc")]
 plain_clone! {
     impl<'a, T: AsULE> Clone for ZeroVec<'a, T>;
 }
 
+#[cfg(feature = "alloc")]
 impl<T: AsULE> ZeroVec<'_, T> {
-    /// Returns a vector that owns its bytes, and borrows them no longer.
+    /// Returns the same vector, which then owns its bytes. If the vector already owns them, nothing
+    /// is allocated or copied.
     ///
     /// # Panics
     /// Panics if an allocation fails; [`try_into_owned`](Self::try_into_owned) returns an error
     /// then.
+    #[must_use]
     pub fn into_owned(self) -> ZeroVec<'static, T> {
         plain(self.try_into_owned())
+    }
+}
+
+#[cfg(feature = "alloc")]
+impl<'a, T: AsULE> ZeroVec<'a, T> {
+    /// Returns a vector with copies of these values.
+    ///
+    /// # Panics
+    /// Panics if an allocation fails; [`alloc_from_slice`](Self::alloc_from_slice) returns an error
+    /// then.
+    pub fn from_slice_or_alloc(values: &'a [T]) -> ZeroVec<'a, T> {
+        plain(ZeroVec::alloc_from_slice(values))
+    }
+}
+
+/// Copies the view.
+impl<'a, T: AsULE> From<&ZeroSlice<'a, T>> for ZeroSlice<'a, T> {
+    fn from(slice: &ZeroSlice<'a, T>) -> ZeroSlice<'a, T> {
+        *slice
+    }
+}
+
+/// Returns a view of the vector.
+impl<'a, T: AsULE> From<&'a ZeroVec<'_, T>> for ZeroSlice<'a, T> {
+    fn from(vector: &'a ZeroVec<'_, T>) -> ZeroSlice<'a, T> {
+        vector.as_slice()
     }
 }
 
@@ -39,6 +75,7 @@ impl<T: AsULE> Default for ZeroVec<'_, T> {
     }
 }
 
+#[cfg(feature = "alloc")]
 /// # Panics
 /// Panics if an allocation fails; [`ZeroVec::alloc_from_iter`] returns an error then.
 impl<T: AsULE> FromIterator<T> for ZeroVec<'_, T> {

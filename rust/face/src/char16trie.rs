@@ -39,40 +39,18 @@ pub use crate::icu_char16trie_builder::builder::Char16TrieBuilder;
 #[cfg(feature = "alloc")]
 pub use crate::icu_char16trie_builder::error::{AddError, BuildError, SortedError};
 
-use crate::plain::fused;
-use crate::plain::plain_clone;
 #[cfg(feature = "alloc")]
-use crate::plain::plain;
-use crate::zerovec::ZeroVec;
+use crate::plain::{plain, plain_clone};
 #[cfg(feature = "alloc")]
 use alloc::string::String;
 #[cfg(feature = "alloc")]
 use alloc::vec::Vec;
-use core::hash::{Hash, Hasher};
 #[cfg(feature = "alloc")]
 use core::iter::FusedIterator;
 
+#[cfg(feature = "alloc")]
 plain_clone! {
     impl<'data> Clone for Char16Trie<'data>;
-}
-
-fused! {
-    <'a> Iter2<'a>;
-    <'a> Matches<'a>;
-}
-
-/// Hashes the units, which `==` compares.
-impl Hash for Char16Trie<'_> {
-    fn hash<H: Hasher>(&self, state: &mut H) {
-        self.data.hash(state);
-    }
-}
-
-/// Returns the trie of the empty map. Does not allocate.
-impl Default for Char16Trie<'_> {
-    fn default() -> Self {
-        Char16Trie::new(ZeroVec::default())
-    }
 }
 
 #[cfg(feature = "alloc")]

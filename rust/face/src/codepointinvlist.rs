@@ -42,40 +42,22 @@ pub use crate::icu_invlist_binary::serialized;
 #[cfg(feature = "alloc")]
 use crate::codepointinvliststringlist::CodePointInversionListAndStringList;
 use crate::icu_zerovec::CODE_POINT_LIMIT;
-use crate::plain::fused;
-use crate::plain::plain_clone;
 #[cfg(feature = "alloc")]
-use crate::plain::{plain, plain_calls};
+use crate::plain::{plain, plain_calls, plain_clone};
 #[cfg(feature = "alloc")]
 use crate::zerovec::{PotentialCodePoint, ZeroVec};
 #[cfg(feature = "alloc")]
 use alloc::vec::Vec;
+use core::ops::{Bound, RangeBounds};
 #[cfg(feature = "alloc")]
-use core::hash::{Hash, Hasher};
-use core::ops::{Bound, RangeBounds, RangeInclusive};
-#[cfg(feature = "alloc")]
-use core::ops::{Range, RangeFrom, RangeFull, RangeTo, RangeToInclusive};
+use core::ops::{Range, RangeFrom, RangeFull, RangeInclusive, RangeTo, RangeToInclusive};
 
+#[cfg(feature = "alloc")]
 plain_clone! {
     impl<'data> Clone for CodePointInversionList<'data>;
-}
-
-#[cfg(feature = "alloc")]
-plain_clone! {
     impl<> Clone for CodePointInversionListBuilder;
     impl<> Clone for FrozenCodePointSet;
     impl<> Clone for FrozenCodePointSetAndStrings;
-}
-
-fused! {
-    <'a> IterRanges<'a>;
-    <'a> IterRangesComplemented<'a>;
-    <'a> IterChars<'a>;
-}
-
-#[cfg(feature = "alloc")]
-fused! {
-    <'s, 't> Spans<'s, 't>;
 }
 
 #[cfg(feature = "alloc")]
@@ -214,94 +196,6 @@ impl Default for CodePointInversionList<'_> {
 }
 
 #[cfg(feature = "alloc")]
-/// Returns the boundaries of the union of ranges. Like
-/// [`add_range32`](CodePointInversionListBuilder::add_range32) it ignores a range that is empty, or
-/// whose last number is above 0x10FFFF.
-fn ends_of(mut ranges: Vec<(u32, u32)>) -> Vec<u32> {
-    ranges.retain(|&(start, last)| start <= last && last < CODE_POINT_LIMIT);
-    ranges.sort_unstable();
-    let mut ends: Vec<u32> = Vec::new();
-    for (start, last) in ranges {
-        match ends.last_mut() {
-            Some(end) if start <= *end => *end = (*end).max(last + 1),
-            _ => ends.extend([start, last + 1]),
-        }
-    }
-    ends
-}
-
-#[cfg(feature = "alloc")]
-/// Returns the union of the ranges, which may be in any order and overlap. A range whose last number
-/// is above 0x10FFFF is ignored.
-///
-/// # Panics
-/// Panics if an allocation fails; [`CodePointInversionList::try_from_iter`] returns an error then.
-impl FromIterator<RangeInclusive<u32>> for CodePointInversionList<'_> {
-    fn from_iter<I: IntoIterator<Item = RangeInclusive<u32>>>(ranges: I) -> Self {
-        let bounds = ranges.into_iter().map(|it| it.deconstruct());
-        let ends = ends_of(
-            bounds
-                .filter(|it| it.0 < it.1)
-                .map(|it| (it.0, it.1 - 1))
-                .collect(),
-        );
-        plain(CodePointInversionList::from_valid_slice(&ends))
-    }
-}
-
-#[cfg(feature = "alloc")]
-/// Returns the set of the characters, which may be in any order and repeat.
-///
-/// # Panics
-/// Panics if an allocation fails.
-impl FromIterator<char> for CodePointInversionList<'_> {
-    fn from_iter<I: IntoIterator<Item = char>>(characters: I) -> Self {
-        let points = characters.into_iter().map(u32::from);
-        let ends = ends_of(points.map(|c| (c, c)).collect());
-        plain(CodePointInversionList::from_valid_slice(&ends))
-    }
-}
-
-#[cfg(feature = "alloc")]
-macro_rules! collected {
-    ($($item:ty)*) => {
-        $(
-            /// # Panics
-            /// Panics if an allocation fails.
-            impl FromIterator<$item> for CodePointInversionListBuilder {
-                fn from_iter<I: IntoIterator<Item = $item>>(items: I) -> Self {
-                    let mut builder = CodePointInversionListBuilder::new();
-                    builder.extend(items);
-                    builder
-                }
-            }
-
-            /// Adds all items, which may be in any order.
-            ///
-            /// # Panics
-            /// Panics if an allocation fails.
-            impl Extend<$item> for CodePointInversionListBuilder {
-                fn extend<I: IntoIterator<Item = $item>>(&mut self, items: I) {
-                    self.add_set(&items.into_iter().collect());
-                }
-            }
-        )*
-    };
-}
-
-#[cfg(feature = "alloc")]
-collected! { char RangeInclusive<u32> }
-
-impl<'a> IntoIterator for &'a CodePointInversionList<'_> {
-    type Item = RangeInclusive<u32>;
-    type IntoIter = IterRanges<'a>;
-
-    fn into_iter(self) -> IterRanges<'a> {
-        self.iter_ranges()
-    }
-}
-
-#[cfg(feature = "alloc")]
 macro_rules! from_ranges {
     ($($range:ty)*) => {
         $(
@@ -325,35 +219,6 @@ macro_rules! from_ranges {
 #[cfg(feature = "alloc")]
 from_ranges! {
     Range<char> RangeFrom<char> RangeFull RangeInclusive<char> RangeTo<char> RangeToInclusive<char>
-}
-
-#[cfg(feature = "alloc")]
-impl From<CodePointInversionList<'_>> for CodePointInversionListBuilder {
-    /// Returns a builder that holds the set, to be changed.
-    ///
-    /// # Panics
-    /// Panics if an allocation fails.
-    fn from(set: CodePointInversionList<'_>) -> Self {
-        let mut builder = CodePointInversionListBuilder::new();
-        builder.add_set(&set);
-        builder
-    }
-}
-
-#[cfg(feature = "alloc")]
-/// Hashes the set that was frozen, which `==` compares.
-impl Hash for FrozenCodePointSet {
-    fn hash<H: Hasher>(&self, state: &mut H) {
-        self.as_set().hash(state);
-    }
-}
-
-#[cfg(feature = "alloc")]
-/// Hashes the set that was frozen, which `==` compares.
-impl Hash for FrozenCodePointSetAndStrings {
-    fn hash<H: Hasher>(&self, state: &mut H) {
-        self.as_set().hash(state);
-    }
 }
 
 #[cfg(feature = "alloc")]

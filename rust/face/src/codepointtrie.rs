@@ -71,86 +71,17 @@ pub use crate::icu_trie_text::text;
 
 #[cfg(feature = "alloc")]
 use crate::codepointinvlist::CodePointInversionList;
-use crate::icu_trie::mapped_ranges::MappedRanges;
-use crate::icu_trie::iterator_utils::RangeListIteratorCoalescer;
-use crate::plain::fused;
-use crate::plain::plain_clone;
 #[cfg(feature = "alloc")]
-use crate::plain::plain;
+use crate::plain::{plain, plain_clone};
 #[cfg(feature = "alloc")]
 use crate::zerovec::MemoryError;
-#[cfg(feature = "alloc")]
 use crate::zerovec::ule::UleError;
-use core::hash::{Hash, Hasher};
-use core::iter::FusedIterator;
 #[cfg(feature = "alloc")]
 use core::ops::RangeInclusive;
 
+#[cfg(feature = "alloc")]
 plain_clone! {
     impl<'trie, T: TrieValue> Clone for CodePointTrie<'trie, T>;
-}
-
-fused! {
-    <'a, T: TrieValue> CodePointMapRangeIterator<'a, T>;
-    <'a, T: TrieValue> IterRangesForValue<'a, T>;
-    <'a, T: TrieValue> text::ValuesOf<'a, T>;
-    <'a, T: TrieValue> text::ValueIndicesOf<'a, T>;
-    <'a, T: TrieValue> text::ValuesOfUtf16<'a, T>;
-    <'a, T: TrieValue> text::ValuesOfUtf8<'a, T>;
-}
-
-impl<T: TrieValue, U, F: Fn(T) -> U> FusedIterator for MappedRanges<'_, T, F> {}
-
-impl<T: TrieValue, U: Eq, F: Fn(T) -> U> FusedIterator for IterRangesMapped<'_, T, U, F> {}
-
-impl<I: Iterator<Item = CodePointMapRange<U>>, U: Eq> FusedIterator
-    for RangeListIteratorCoalescer<I, U>
-{
-}
-
-/// Hashes the header, the index and the data, which `==` compares.
-impl<T: TrieValue> Hash for CodePointTrie<'_, T> {
-    fn hash<H: Hasher>(&self, state: &mut H) {
-        self.parts().hash(state);
-    }
-}
-
-impl<T: TrieValue> Hash for FastCodePointTrie<'_, T> {
-    fn hash<H: Hasher>(&self, state: &mut H) {
-        self.as_untyped_ref().hash(state);
-    }
-}
-
-impl<T: TrieValue> Hash for SmallCodePointTrie<'_, T> {
-    fn hash<H: Hasher>(&self, state: &mut H) {
-        self.as_untyped_ref().hash(state);
-    }
-}
-
-#[cfg(feature = "alloc")]
-/// Sets the value of each range, in order, as
-/// [`set_range_value`](CodePointTrieBuilder::set_range_value) does.
-///
-/// # Panics
-/// Panics if an allocation fails.
-impl<T: TrieValue> Extend<(RangeInclusive<u32>, T)> for CodePointTrieBuilder<T> {
-    fn extend<I: IntoIterator<Item = (RangeInclusive<u32>, T)>>(&mut self, ranges: I) {
-        for (range, value) in ranges {
-            self.set_range_value(range, value);
-        }
-    }
-}
-
-#[cfg(feature = "alloc")]
-/// Sets the value of each range, in order, as
-/// [`set_range_value`](CodePointTrieBuilder::set_range_value) does.
-///
-/// # Panics
-/// Panics if an allocation fails.
-impl<T: TrieValue> Extend<CodePointMapRange<T>> for CodePointTrieBuilder<T> {
-    fn extend<I: IntoIterator<Item = CodePointMapRange<T>>>(&mut self, ranges: I) {
-        self.extend(ranges.into_iter().map(|it| (it.range, it.value)));
-    }
 }
 
 #[cfg(feature = "alloc")]
@@ -202,6 +133,9 @@ impl<'trie, T: TrieValue> CodePointTrie<'trie, T> {
         }
     }
 
+}
+
+impl<'trie, T: TrieValue> CodePointTrie<'trie, T> {
     /// Converts the trie to values of another type of the same width, without copying.
     ///
     /// The index and the bytes of the data are unchanged, and borrowed or owned as before. The
@@ -265,12 +199,12 @@ impl<T: TrieValue> CodePointTrieBuilder<T> {
     }
 }
 
-#[cfg(feature = "alloc")]
 /// {try_build_from_writes}
 ///
 /// # Panics
 /// Panics if an allocation fails, or if the map has too many different blocks;
 /// [`try_build_from_writes`] returns an error then.
+#[cfg(feature = "alloc")]
 #[must_use]
 pub fn build_from_writes<T: TrieValue>(
     default: T,

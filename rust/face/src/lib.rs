@@ -102,6 +102,8 @@ compile_error!("`proved-reads` needs a target with pointers of 64 bits: the proo
 #[doc = include_str!("../README.md")]
 struct Readme;
 
+#[cfg(feature = "alloc")]
+mod collected;
 mod constant;
 mod plain;
 #[cfg(feature = "serde")]
@@ -109,6 +111,7 @@ mod serde_forms;
 #[cfg(feature = "alloc")]
 mod strings;
 mod support;
+mod traits;
 
 pub mod char16trie;
 pub mod codepointinvlist;
@@ -122,9 +125,8 @@ pub use plain::iterator_utils;
 // rust/make writes the lists. Names may be unused: some are used by proofs only, and some are public
 // in their crate but not here. The sources count in loops over indices, which proofs are about.
 macro_rules! generated {
-    ($($(#[$needs:meta])? $name:ident)*) => {
-        $($(#[$needs])?
-        #[allow(dead_code, unused_imports, unused_variables)]
+    ($($name:ident)*) => {
+        $(#[allow(dead_code, unused_imports, unused_variables)]
         #[allow(
             clippy::collapsible_if,
             clippy::explicit_auto_deref,
@@ -142,7 +144,21 @@ macro_rules! generated {
 }
 macro_rules! generated_with_alloc {
     ($($name:ident)*) => {
-        generated! { $(#[cfg(feature = "alloc")] $name)* }
+        $(#[cfg(feature = "alloc")]
+        #[allow(dead_code, unused_imports, unused_variables)]
+        #[allow(
+            clippy::collapsible_if,
+            clippy::explicit_auto_deref,
+            clippy::manual_clamp,
+            clippy::manual_div_ceil,
+            clippy::manual_find,
+            clippy::manual_range_contains,
+            clippy::needless_range_loop,
+            clippy::op_ref,
+            clippy::ptr_arg,
+            clippy::while_let_on_iterator
+        )]
+        mod $name;)*
     };
 }
 

@@ -2,6 +2,7 @@
 
 pub use crate::icu_trie::iterator_utils;
 
+#[cfg(feature = "alloc")]
 /// Returns the value of a result. Panics on an error, which is a failed allocation, as Rust's own
 /// collections do.
 #[inline]
@@ -12,6 +13,7 @@ pub(crate) fn plain<T, E: core::fmt::Display>(answer: Result<T, E>) -> T {
     }
 }
 
+#[cfg(feature = "alloc")]
 #[cold]
 #[expect(clippy::panic)] // As Rust's own collections.
 fn refused(error: &dyn core::fmt::Display) -> ! {
@@ -38,6 +40,7 @@ macro_rules! plain_calls {
 #[cfg(feature = "alloc")]
 pub(crate) use plain_calls;
 
+#[cfg(feature = "alloc")]
 /// A clone over `try_clone`, which panics if an allocation fails.
 macro_rules! plain_clone {
     ($(impl<$($life:lifetime $(, $of:ident: $bound:path)?)?> Clone for $name:ty;)*) => {
@@ -52,6 +55,7 @@ macro_rules! plain_clone {
         )*
     };
 }
+#[cfg(feature = "alloc")]
 pub(crate) use plain_clone;
 
 /// Iterators that return `None` forever once they have returned it.

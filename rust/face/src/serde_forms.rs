@@ -308,7 +308,7 @@ impl Serialize for CodePointInversionListAndStringList<'_> {
     fn serialize<S: Serializer>(&self, serializer: S) -> Result<S::Ok, S::Error> {
         let form = TextSetForm {
             cp_inv_list: self.code_points(),
-            str_list: StringsForm(self.strings().as_slice().into()),
+            str_list: StringsForm(self.string_slice().into()),
         };
         form.serialize(serializer)
     }

@@ -54,6 +54,15 @@ impl<'a> Strings<'a> {
         self.strings.iter().map(String::as_str)
     }
 
+    /// Returns copies of the strings.
+    ///
+    /// # Panics
+    /// Panics if an allocation fails.
+    #[must_use]
+    pub fn to_vec(self) -> Vec<String> {
+        self.strings.to_vec()
+    }
+
     /// Searches for a string and returns its index.
     ///
     /// # Errors

@@ -20,11 +20,11 @@ pub use crate::icu_zerovec::{iter, ule};
 #[cfg(feature = "alloc")]
 pub use crate::strings::VarZeroVec;
 
-use crate::plain::plain_clone;
 #[cfg(feature = "alloc")]
-use crate::plain::plain;
+use crate::plain::{plain, plain_clone};
 use ule::AsULE;
 
+#[cfg(feature = "alloc")]
 plain_clone! {
     impl<'a, T: AsULE> Clone for ZeroVec<'a, T>;
 }
@@ -42,6 +42,32 @@ impl<T: AsULE> ZeroVec<'_, T> {
     }
 }
 
+#[cfg(feature = "alloc")]
+impl<'a, T: AsULE> ZeroVec<'a, T> {
+    /// Returns a vector with copies of these values.
+    ///
+    /// # Panics
+    /// Panics if an allocation fails; [`alloc_from_slice`](Self::alloc_from_slice) returns an error
+    /// then.
+    pub fn from_slice_or_alloc(values: &'a [T]) -> ZeroVec<'a, T> {
+        plain(ZeroVec::alloc_from_slice(values))
+    }
+}
+
+/// Copies the view.
+impl<'a, T: AsULE> From<&ZeroSlice<'a, T>> for ZeroSlice<'a, T> {
+    fn from(slice: &ZeroSlice<'a, T>) -> ZeroSlice<'a, T> {
+        *slice
+    }
+}
+
+/// Returns a view of the vector.
+impl<'a, T: AsULE> From<&'a ZeroVec<'_, T>> for ZeroSlice<'a, T> {
+    fn from(vector: &'a ZeroVec<'_, T>) -> ZeroSlice<'a, T> {
+        vector.as_slice()
+    }
+}
+
 impl<T: AsULE> Default for ZeroVec<'_, T> {
     fn default() -> Self {
         ZeroVec::from_packed(&[])
@@ -54,23 +80,5 @@ impl<T: AsULE> Default for ZeroVec<'_, T> {
 impl<T: AsULE> FromIterator<T> for ZeroVec<'_, T> {
     fn from_iter<I: IntoIterator<Item = T>>(values: I) -> Self {
         plain(ZeroVec::alloc_from_iter(values.into_iter()))
-    }
-}
-
-impl<'a, T: AsULE> IntoIterator for &'a ZeroVec<'_, T> {
-    type Item = T;
-    type IntoIter = iter::Iter<'a, T>;
-
-    fn into_iter(self) -> iter::Iter<'a, T> {
-        self.iter()
-    }
-}
-
-impl<'a, T: AsULE> IntoIterator for ZeroSlice<'a, T> {
-    type Item = T;
-    type IntoIter = iter::Iter<'a, T>;
-
-    fn into_iter(self) -> iter::Iter<'a, T> {
-        self.iter()
     }
 }

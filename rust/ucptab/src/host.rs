@@ -2,10 +2,9 @@
 //! passed around, words, files and streams, and texts whose growth may fail.
 #![allow(dead_code)]
 
-use crate::support::{AllocError, AllocFailed, BTreeMap, Blank, Ledger};
+use crate::support::{AllocError, AllocFailed, BTreeMap};
 use core::borrow::Borrow;
 use core::fmt;
-use core::marker::PhantomData;
 
 /// The runtime of a program.
 pub struct HostRuntime;
@@ -83,7 +82,10 @@ pub mod env {
         let words: Result<Vec<_>, _> = std::env::args_os().map(|it| it.into_string()).collect();
         match words {
             Ok(words) => Ok(Args(words.into_iter())),
-            Err(_) => Err(io::Error::new(io::ErrorKind::InvalidData, "a word is not UTF-8")),
+            Err(_) => Err(io::Error::new(
+                io::ErrorKind::InvalidData,
+                "a word is not UTF-8",
+            )),
         }
     }
 }
@@ -161,17 +163,4 @@ impl<K: Ord> BTreeSet<K> {
     pub fn len(&self) -> usize {
         self.0.len()
     }
-}
-
-/// A count of steps, which exists in proofs only.
-pub struct Steps<L>(PhantomData<L>);
-
-impl<L: Ledger> Steps<L> {
-    /// Returns a count.
-    pub fn new(_: Blank) -> Steps<L> {
-        Steps(PhantomData)
-    }
-
-    /// Counts nothing.
-    pub fn tick(&mut self) {}
 }

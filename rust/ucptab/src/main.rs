@@ -5,6 +5,7 @@
 extern crate alloc;
 
 mod host;
+mod ledger;
 #[allow(dead_code, unused_imports, unused_macros)]
 mod support;
 mod ucptab;

@@ -44,11 +44,25 @@ pub fn table_from_str(text: &str) -> Result<toml::value::Table, TomlError> {
 /// Takes an error of `toml` apart, which names the line as `line N`: before 0.6 behind the message,
 /// `MESSAGE at line N column M`, and later in a line in front of it.
 fn toml_error(shown: &str) -> TomlError {
-    let digits = |rest: &str| rest.chars().take_while(char::is_ascii_digit).collect::<String>();
-    let line = shown.split_once("line ").and_then(|(_, rest)| digits(rest).parse().ok());
+    let digits = |rest: &str| {
+        rest.chars()
+            .take_while(char::is_ascii_digit)
+            .collect::<String>()
+    };
+    let line = shown
+        .split_once("line ")
+        .and_then(|(_, rest)| digits(rest).parse().ok());
     let message = match shown.rsplit_once(" at line ") {
         Some((message, _)) if !shown.contains('\n') => message.to_string(),
-        _ => shown.lines().filter(|it| !it.contains('|')).skip(1).collect::<Vec<_>>().join(", "),
+        _ => shown
+            .lines()
+            .filter(|it| !it.contains('|'))
+            .skip(1)
+            .collect::<Vec<_>>()
+            .join(", "),
     };
-    TomlError { line: line.unwrap_or(1), message }
+    TomlError {
+        line: line.unwrap_or(1),
+        message,
+    }
 }

@@ -7,6 +7,7 @@ extern crate alloc;
 mod context;
 mod formats;
 mod host;
+mod ledger;
 #[allow(dead_code, unused_imports, unused_macros)]
 mod support;
 #[allow(dead_code, unused_variables)]

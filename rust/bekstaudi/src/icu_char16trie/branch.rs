@@ -1,6 +1,8 @@
 //! Finds the entry of a unit in a branch.
 
-use crate::icu_char16trie::encoded::{delta_end, entry_child, lower_part, short_end, two_at, unit_at};
+use crate::icu_char16trie::encoded::{
+    delta_end, entry_child, lower_part, short_end, two_at, unit_at,
+};
 use crate::icu_char16trie::impl_const::{
     MAX_BRANCH_LINEAR_SUB_NODE_LENGTH, MIN_TWO_UNIT_DELTA_LEAD, VALUE_IS_FINAL,
 };

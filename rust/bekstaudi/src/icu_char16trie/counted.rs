@@ -4,8 +4,6 @@
 //! before the nodes that it leads to, and its entries are its own value and theirs. So the nodes
 //! are counted from the last one back to the root.
 
-#[allow(unused_imports)]
-use crate::support::prelude::*;
 use crate::icu_char16trie::encoded::{
     delta_end, entry_child, lower_part, node_end, run_len, short_end, two_at, unit_at,
 };
@@ -15,6 +13,7 @@ use crate::icu_char16trie::impl_const::{
 use crate::icu_char16trie::soundness::has_all_wanted;
 use crate::icu_char16trie::trie::Char16Trie;
 use crate::icu_zerovec::{MemoryError, ZeroSlice};
+use crate::support::prelude::*;
 
 /// Returns the count at `place`, or 0 past the end.
 #[inline]
@@ -106,7 +105,11 @@ fn count_wanted(units: ZeroSlice<'_, u16>, wanted: &[bool], counts: &mut [u64]) 
 /// Returns the number of entries of the root, or `None` if the units are not a trie. Only the root
 /// is marked in `wanted`.
 #[inline]
-fn count_at_root(units: ZeroSlice<'_, u16>, wanted: &mut [bool], counts: &mut [u64]) -> Option<u64> {
+fn count_at_root(
+    units: ZeroSlice<'_, u16>,
+    wanted: &mut [bool],
+    counts: &mut [u64],
+) -> Option<u64> {
     if !has_all_wanted(units, wanted) {
         return None;
     }
@@ -118,11 +121,22 @@ impl<'data> Char16Trie<'data> {
     /// Returns the number of entries of the trie, capped at `u64::MAX`, or `None` if the units are
     /// not a trie, which is when [`Char16Trie::is_trie`] returns false.
     ///
-    /// Visits each node twice, however many entries there are. Allocates nine bytes for each unit.
+    /// Takes time linear in the number of units, however many entries there are, if no two branches
+    /// share a part. In untrusted units they may, and a branch has up to 65,536 entries: then it
+    /// takes up to 65,536 steps for each unit. Allocates nine bytes for each unit.
     ///
-    /// ```text
-    /// // of the map of "a" to 1 and "ab" to 2: trie.try_count_entries()? is Some(2)
-    /// // of 40 times [1, 0x61, 1, 0x62] and 0x8001: it is Some(1 << 40)
+    /// ```
+    /// use bekstaudi::char16trie::Char16Trie;
+    ///
+    /// // The map of "a" to 1 and "ab" to 2.
+    /// let trie = Char16Trie::new([0x30, 0x61, 0xB0, 0x62, 0x8002].into_iter().collect());
+    /// assert_eq!(trie.try_count_entries()?, Some(2));
+    /// // Twenty branches, each of two units that both lead to the next one.
+    /// let mut units = [1, 0x61, 1, 0x62].repeat(20);
+    /// units.push(0x8001);
+    /// let trie = Char16Trie::new(units.into_iter().collect());
+    /// assert_eq!(trie.try_count_entries()?, Some(1 << 20));
+    /// # Ok::<(), Box<dyn std::error::Error>>(())
     /// ```
     ///
     /// # Errors

@@ -1,13 +1,12 @@
 //! A cursor over the units of a trie.
 
-#[allow(unused_imports)]
-use crate::support::prelude::*;
 use crate::icu_char16trie::listing::Entries;
 use crate::icu_char16trie::next_units::add_units;
 use crate::icu_char16trie::place::{CursorPlace, Place, numbers_of, place_of};
 use crate::icu_char16trie::step::{is_empty_at, step, value_at};
 use crate::icu_char16trie::unique::unique_value_at;
 use crate::icu_zerovec::{MemoryError, ZeroSlice};
+use crate::support::prelude::*;
 
 /// A cursor over the units of a trie, for looking up keys unit by unit.
 ///
@@ -21,10 +20,11 @@ pub struct Char16TrieCursor<'a> {
 
 impl<'a> Char16TrieCursor<'a> {
     /// Creates a cursor at the root of the trie with these units.
+    #[must_use]
     #[inline]
-    pub fn new(trie: ZeroSlice<'a, u16>) -> Self {
+    pub fn new(trie: impl Into<ZeroSlice<'a, u16>>) -> Self {
         Char16TrieCursor {
-            units: trie,
+            units: trie.into(),
             place: Place::Node(0),
         }
     }
@@ -33,10 +33,17 @@ impl<'a> Char16TrieCursor<'a> {
     ///
     /// `place` may come from another trie or from untrusted input. ICU: `resetToState`.
     ///
-    /// ```ignore
-    /// let place = cursor.place();
-    /// let same = Char16TrieCursor::resume(trie.data.as_slice(), place); // at the position of cursor
     /// ```
+    /// use bekstaudi::char16trie::{Char16Trie, Char16TrieCursor};
+    ///
+    /// let trie = Char16Trie::new([0x31, 0x61, 0x62, 0x8003].into_iter().collect());
+    /// let mut cursor = trie.cursor();
+    /// cursor.step('a');
+    /// let mut same = Char16TrieCursor::resume(trie.data.as_slice(), cursor.place());
+    /// same.step('b');
+    /// assert_eq!(same.value(), Some(3));
+    /// ```
+    #[must_use]
     #[inline]
     pub fn resume(trie: ZeroSlice<'a, u16>, place: CursorPlace) -> Self {
         Char16TrieCursor {
@@ -48,6 +55,7 @@ impl<'a> Char16TrieCursor<'a> {
     /// Returns the position of the cursor, from which [`resume`](Self::resume) continues.
     ///
     /// ICU: `saveState`.
+    #[must_use]
     #[inline]
     pub fn place(&self) -> CursorPlace {
         numbers_of(self.place)
@@ -82,6 +90,7 @@ impl<'a> Char16TrieCursor<'a> {
 
     /// Returns the value of the units so far if they are a key. The value is 0 if some of its own
     /// units are missing.
+    #[must_use]
     #[inline]
     pub fn value(&self) -> Option<i32> {
         value_at(self.units, self.place)
@@ -89,6 +98,7 @@ impl<'a> Char16TrieCursor<'a> {
 
     /// Returns true if no key continues after the units so far: if they match nothing, if they end
     /// in a final value, or if the lead unit of their node is missing.
+    #[must_use]
     #[inline]
     pub fn is_empty(&self) -> bool {
         is_empty_at(self.units, self.place)
@@ -102,12 +112,25 @@ impl<'a> Char16TrieCursor<'a> {
     /// nothing matched, there are no entries. ICU: `UCharsTrie::Iterator` of a trie that is not at
     /// its root.
     ///
-    /// ```text
-    /// // of the map of "a" to 1, "ab" to 2 and "b" to 3
+    /// ```
+    /// use bekstaudi::char16trie::Char16TrieBuilder;
+    ///
+    /// let mut builder = Char16TrieBuilder::new();
+    /// builder.add_str("a", 1)?;
+    /// builder.add_str("ab", 2)?;
+    /// builder.add_str("b", 3)?;
+    /// let trie = builder.try_build()?;
     /// let mut cursor = trie.cursor();
     /// cursor.step('a');
-    /// let mut entries = cursor.entries(); // "" and 1, then "b" and 2
+    /// let mut entries = cursor.entries();
+    /// assert!(entries.advance());
+    /// assert_eq!((entries.key(), entries.value()), ("", 1));
+    /// assert!(entries.advance());
+    /// assert_eq!((entries.key(), entries.value()), ("b", 2));
+    /// assert!(!entries.advance());
+    /// # Ok::<(), Box<dyn std::error::Error>>(())
     /// ```
+    #[must_use]
     #[inline]
     pub fn entries(&self) -> Entries<'a> {
         Entries::new(self.units, self.place)
@@ -117,13 +140,20 @@ impl<'a> Char16TrieCursor<'a> {
     ///
     /// There are none if [`is_empty`](Self::is_empty) returns true. ICU: `getNextUChars`.
     ///
+    /// ```
+    /// use bekstaudi::char16trie::Char16TrieBuilder;
+    ///
+    /// let mut builder = Char16TrieBuilder::new();
+    /// builder.add_str("a", 1)?;
+    /// builder.add_str("ab", 2)?;
+    /// builder.add_str("b", 3)?;
+    /// let trie = builder.try_build()?;
+    /// assert_eq!(trie.cursor().try_next_units()?, [0x61, 0x62]);
+    /// # Ok::<(), Box<dyn std::error::Error>>(())
+    /// ```
+    ///
     /// # Errors
     /// Returns `MemoryError` if an allocation fails.
-    ///
-    /// ```text
-    /// // of the map of "a" to 1, "ab" to 2 and "b" to 3
-    /// let units = trie.cursor().try_next_units()?; // 0x61 and 0x62: "a" and "b"
-    /// ```
     #[inline]
     pub fn try_next_units(&self) -> Result<Vec<u16>, MemoryError> {
         let mut list = Vec::new();
@@ -141,14 +171,23 @@ impl<'a> Char16TrieCursor<'a> {
     /// Visits each node ahead once and stops at the second value; ICU visits a node once for each
     /// way that leads to it. Allocates one byte for each unit of the trie.
     ///
+    /// ```
+    /// use bekstaudi::char16trie::Char16TrieBuilder;
+    ///
+    /// let mut builder = Char16TrieBuilder::new();
+    /// builder.add_str("a", 1)?;
+    /// builder.add_str("ab", 1)?;
+    /// builder.add_str("b", 3)?;
+    /// let trie = builder.try_build()?;
+    /// let mut cursor = trie.cursor();
+    /// assert_eq!(cursor.try_unique_value()?, None);
+    /// cursor.step('a');
+    /// assert_eq!(cursor.try_unique_value()?, Some(1));
+    /// # Ok::<(), Box<dyn std::error::Error>>(())
+    /// ```
+    ///
     /// # Errors
     /// Returns `MemoryError` if an allocation fails.
-    ///
-    /// ```text
-    /// // of the map of "a" to 1, "ab" to 1 and "b" to 3
-    /// let mut cursor = trie.cursor(); // cursor.try_unique_value()? is None
-    /// cursor.step('a'); // cursor.try_unique_value()? is Some(1)
-    /// ```
     #[inline]
     pub fn try_unique_value(&self) -> Result<Option<i32>, MemoryError> {
         unique_value_at(self.units, self.place)

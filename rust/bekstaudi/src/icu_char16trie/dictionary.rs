@@ -62,12 +62,19 @@ impl<'data> Char16Trie<'data> {
     /// text. Reads no more units of `text` than some key continues with. In ICU this is a loop over
     /// `UCharsTrie::next` that ends when `USTRINGTRIE_HAS_NEXT` is false.
     ///
-    /// ```text
-    /// // of the map of "a" to 1 and "ab" to 2
-    /// // trie.longest_match(&[0x61, 0x62, 0x63]) is Some((2, 2)): "ab"
-    /// // trie.longest_match(&[0x61, 0x63]) is Some((1, 1)): "a"
-    /// // trie.longest_match(&[0x62]) is None
     /// ```
+    /// use bekstaudi::char16trie::Char16TrieBuilder;
+    ///
+    /// let mut builder = Char16TrieBuilder::new();
+    /// builder.add_str("a", 1)?;
+    /// builder.add_str("ab", 2)?;
+    /// let trie = builder.try_build()?;
+    /// assert_eq!(trie.longest_match(&[0x61, 0x62, 0x63]), Some((2, 2)));
+    /// assert_eq!(trie.longest_match(&[0x61, 0x63]), Some((1, 1)));
+    /// assert_eq!(trie.longest_match(&[0x62]), None);
+    /// # Ok::<(), Box<dyn std::error::Error>>(())
+    /// ```
+    #[must_use]
     pub fn longest_match(&self, text: &[u16]) -> Option<(usize, i32)> {
         let units = self.data.as_slice();
         let mut node = 0;
@@ -79,12 +86,9 @@ impl<'data> Char16Trie<'data> {
                 return found;
             }
             let place = node_end(node + 1, lead);
-            let Some((next, count)) = pass_match(
-                units,
-                place,
-                lead % MIN_VALUE_LEAD,
-                &text[passed..],
-            ) else {
+            let Some((next, count)) =
+                pass_match(units, place, lead % MIN_VALUE_LEAD, &text[passed..])
+            else {
                 return found;
             };
             node = next;
@@ -100,11 +104,19 @@ impl<'data> Char16Trie<'data> {
     /// count: a key that ends between the two units of a character does not. So `&text[length..]`
     /// is what follows the key.
     ///
-    /// ```text
-    /// // of the map of "\u{e9}" to 1 and "\u{e9}t\u{e9}" to 2
-    /// // trie.longest_match_str("\u{e9}t\u{e9}s") is Some((5, 2)), and before "s" there are 5 bytes
-    /// // trie.longest_match_str("\u{e9}t") is Some((2, 1))
     /// ```
+    /// use bekstaudi::char16trie::Char16TrieBuilder;
+    ///
+    /// let mut builder = Char16TrieBuilder::new();
+    /// builder.add_str("\u{E9}", 1)?;
+    /// builder.add_str("\u{E9}t\u{E9}", 2)?;
+    /// let trie = builder.try_build()?;
+    /// // There are 5 bytes before "s".
+    /// assert_eq!(trie.longest_match_str("\u{E9}t\u{E9}s"), Some((5, 2)));
+    /// assert_eq!(trie.longest_match_str("\u{E9}t"), Some((2, 1)));
+    /// # Ok::<(), Box<dyn std::error::Error>>(())
+    /// ```
+    #[must_use]
     pub fn longest_match_str(&self, text: &str) -> Option<(usize, i32)> {
         let mut cursor = self.cursor();
         let empty = cursor.value();
@@ -127,11 +139,17 @@ impl<'data> Char16Trie<'data> {
     ///
     /// Allocates nothing, and reads no more units of `text` than some key continues with.
     ///
-    /// ```text
-    /// // of the map of "a" to 1 and "ab" to 2
-    /// for (length, value) in trie.matches(&[0x61, 0x62, 0x63]) {
-    ///     // 1 and 1, then 2 and 2
-    /// }
+    /// ```
+    /// use bekstaudi::char16trie::Char16TrieBuilder;
+    ///
+    /// let mut builder = Char16TrieBuilder::new();
+    /// builder.add_str("a", 1)?;
+    /// builder.add_str("ab", 2)?;
+    /// let trie = builder.try_build()?;
+    /// // The length and the value of each key.
+    /// let matches: Vec<_> = trie.matches(&[0x61, 0x62, 0x63]).collect();
+    /// assert_eq!(matches, [(1, 1), (2, 2)]);
+    /// # Ok::<(), Box<dyn std::error::Error>>(())
     /// ```
     #[inline]
     pub fn matches<'a>(&'a self, text: &'a [u16]) -> Matches<'a> {

@@ -1,9 +1,8 @@
 //! The entries of a trie, in unit order.
 
-#[allow(unused_imports)]
-use crate::support::prelude::*;
 use crate::icu_char16trie::pending::Pending;
 use crate::icu_zerovec::{MemoryError, ZeroSlice};
+use crate::support::prelude::*;
 
 /// An iterator over the entries of a trie in unit order: each key as text, with its value. A lone
 /// surrogate becomes U+FFFD.
@@ -12,7 +11,7 @@ use crate::icu_zerovec::{MemoryError, ZeroSlice};
 /// many nodes as there are units. A trie never has more of them before an entry. If the units are
 /// not a trie, the items are what their nodes contain, as far as the units go. The iterator then
 /// ends when one call has opened that many nodes without finding an entry.
-#[derive(Debug)]
+#[derive(Debug, Clone)]
 pub struct Iter2<'a> {
     pending: Pending<'a>,
 }

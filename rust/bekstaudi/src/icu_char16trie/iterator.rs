@@ -4,7 +4,7 @@ use crate::icu_char16trie::cursor::Char16TrieCursor;
 use crate::icu_zerovec::ZeroSlice;
 
 /// The result of a step: what the units so far are.
-#[derive(Clone, Copy, Debug, PartialEq)]
+#[derive(Clone, Copy, Debug, PartialEq, Eq, Hash)]
 pub enum TrieResult {
     /// They match nothing, or lead to a node that is missing. More units match nothing either.
     NoMatch,
@@ -24,6 +24,7 @@ pub struct Char16TrieIterator<'a> {
 
 impl<'a> Char16TrieIterator<'a> {
     /// Creates an iterator at the root of the trie with these units.
+    #[must_use]
     #[inline]
     pub fn new(trie: ZeroSlice<'a, u16>) -> Self {
         Char16TrieIterator {
@@ -33,11 +34,18 @@ impl<'a> Char16TrieIterator<'a> {
 
     /// Advances by the UTF-16 units of the character `c` and returns the result.
     ///
-    /// ```text
-    /// // of the map of "a" to 1 and "ab" to 2
+    /// ```
+    /// use bekstaudi::char16trie::{Char16TrieBuilder, TrieResult};
+    ///
+    /// let mut builder = Char16TrieBuilder::new();
+    /// builder.add_str("a", 1)?;
+    /// builder.add_str("ab", 2)?;
+    /// let trie = builder.try_build()?;
     /// let mut iterator = trie.iter();
-    /// // iterator.next('a') is TrieResult::Intermediate(1), then iterator.next('b') is TrieResult::FinalValue(2),
-    /// // and from then on iterator.next('b') is TrieResult::NoMatch
+    /// assert_eq!(iterator.next('a'), TrieResult::Intermediate(1));
+    /// assert_eq!(iterator.next('b'), TrieResult::FinalValue(2));
+    /// assert_eq!(iterator.next('b'), TrieResult::NoMatch);
+    /// # Ok::<(), Box<dyn std::error::Error>>(())
     /// ```
     #[inline]
     pub fn next(&mut self, c: char) -> TrieResult {

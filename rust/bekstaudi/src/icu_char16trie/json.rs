@@ -1,14 +1,14 @@
 //! Reads and writes a trie as JSON: an object whose key `data` has the units as an array of
 //! numbers.
 
-#[allow(unused_imports)]
-use crate::support::prelude::*;
 use crate::icu_char16trie::trie::Char16Trie;
 use crate::icu_zerovec::{MemoryError, ZeroSlice, ZeroVec};
+use crate::support::prelude::*;
 use serde_json::{Value, json};
 
 /// Why a JSON value is not a trie.
-#[derive(Clone, Copy, Debug, PartialEq, Eq)]
+#[derive(Clone, Copy, Debug, PartialEq, Eq, Hash)]
+#[non_exhaustive]
 pub enum Char16JsonError {
     /// It is not an object, it has neither or both of the keys `data` and `trie_data`, or the key's
     /// value is not an array.
@@ -64,9 +64,12 @@ impl<'data> Char16Trie<'data> {
     ///
     /// Other keys are ignored. The units are not validated; [`Char16Trie::is_trie`] does that.
     ///
-    /// ```ignore
-    /// let trie = Char16Trie::from_json(&Value::from_str(r#"{"data":[49,97,98,32771]}"#)?)?;
-    /// // the map of "ab" to 3
+    /// ```
+    /// use bekstaudi::char16trie::Char16Trie;
+    ///
+    /// let trie = Char16Trie::from_json(&serde_json::json!({"data": [49, 97, 98, 32771]}))?;
+    /// assert_eq!(trie.iter2().next(), Some(("ab".into(), 3)));
+    /// # Ok::<(), Box<dyn std::error::Error>>(())
     /// ```
     ///
     /// # Errors
@@ -106,9 +109,11 @@ impl core::fmt::Display for Char16JsonError {
     #[inline]
     fn fmt(&self, f: &mut core::fmt::Formatter<'_>) -> core::fmt::Result {
         match self {
-            Char16JsonError::Shape => write!(f, "no object with one array `data` or `trie_data`"),
-            Char16JsonError::Number(_0) => write!(f, "item {_0} is no whole number up to 65535"),
-            Char16JsonError::Memory => write!(f, "no memory"),
+            Char16JsonError::Shape => f.write_str("no object with one array `data` or `trie_data`"),
+            Char16JsonError::Number(field) => {
+                write!(f, "item {field} is no whole number up to 65535")
+            }
+            Char16JsonError::Memory => f.write_str("no memory"),
         }
     }
 }

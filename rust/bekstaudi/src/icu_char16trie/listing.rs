@@ -1,7 +1,5 @@
 //! The entries of a trie through one buffer.
 
-#[allow(unused_imports)]
-use crate::support::prelude::*;
 use crate::icu_char16trie::place::Place;
 use crate::icu_char16trie::walk::Walk;
 use crate::icu_zerovec::{MemoryError, ZeroSlice};
@@ -20,7 +18,7 @@ use crate::icu_zerovec::{MemoryError, ZeroSlice};
 /// One call of `advance` opens at most as many nodes as there are units. A trie never has more of
 /// them before an entry. If the units are not a trie, the entries are what their nodes contain, as
 /// far as the units go. They end when one call has opened that many nodes without finding an entry.
-#[derive(Debug)]
+#[derive(Debug, Clone)]
 pub struct Entries<'a> {
     walk: Walk<'a>,
 }
@@ -39,16 +37,24 @@ impl<'a> Entries<'a> {
     /// After it has returned false or an `Err`, no entry is left. Allocates only if the key is
     /// longer than all before it, or nested below more branches.
     ///
+    /// ```
+    /// use bekstaudi::char16trie::Char16TrieBuilder;
+    ///
+    /// let mut builder = Char16TrieBuilder::new();
+    /// builder.add_str("a", 1)?;
+    /// builder.add_str("ab", 2)?;
+    /// let trie = builder.try_build()?;
+    /// let mut entries = trie.entries();
+    /// let mut lengths = vec![];
+    /// while entries.try_advance()? {
+    ///     lengths.push((entries.key().len(), entries.value()));
+    /// }
+    /// assert_eq!(lengths, [(1, 1), (2, 2)]);
+    /// # Ok::<(), Box<dyn std::error::Error>>(())
+    /// ```
+    ///
     /// # Errors
     /// Returns `MemoryError` if an allocation fails.
-    ///
-    /// ```text
-    /// // of the map of "a" to 1 and "ab" to 2
-    /// let mut entries = trie.entries();
-    /// while entries.try_advance()? {
-    ///     // entries.key() and entries.value() are "a" and 1, then "ab" and 2
-    /// }
-    /// ```
     #[inline]
     pub fn try_advance(&mut self) -> Result<bool, MemoryError> {
         self.walk.next_entry()
@@ -58,6 +64,7 @@ impl<'a> Entries<'a> {
     ///
     /// The text is empty before the first [`advance`](Self::advance), and after one that reached no
     /// entry.
+    #[must_use]
     #[inline]
     pub fn key(&self) -> &str {
         self.walk.text()
@@ -67,8 +74,9 @@ impl<'a> Entries<'a> {
     ///
     /// The value is 0 before the first [`advance`](Self::advance), after one that reached no entry,
     /// and if some units of the value are missing.
+    #[must_use]
     #[inline]
-    pub fn value(&self) -> i32 {
+    pub const fn value(&self) -> i32 {
         self.walk.value
     }
 }

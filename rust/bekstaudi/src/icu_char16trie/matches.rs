@@ -8,7 +8,7 @@ use crate::icu_char16trie::cursor::Char16TrieCursor;
 /// Created by [`Char16Trie::matches`](crate::icu_char16trie::trie::Char16Trie::matches). After the last item it
 /// keeps returning `None`. If the units are not a trie, the items are what the steps lead to. The
 /// iterator ends on all units.
-#[derive(Debug)]
+#[derive(Debug, Clone)]
 pub struct Matches<'a> {
     cursor: Char16TrieCursor<'a>,
     text: &'a [u16],

@@ -1,11 +1,5 @@
 //! Maps from lists of 16-bit units to numbers, stored in one list of units: ICU's `UCharsTrie`.
 //!
-//! ```ignore
-//! let trie = Char16Trie::new(ZeroVec::alloc_from_slice(&[0x30, 0x61, 0xb0, 0x62, 0x8002])?);
-//! let mut cursor = trie.cursor();
-//! cursor.step('a'); // cursor.value() is Some(1)
-//! cursor.step('b'); // cursor.value() is Some(2), and cursor.is_empty()
-//! ```
 //!
 //! The units may be untrusted: every function returns on all units, and if a unit that is needed is
 //! missing, nothing matches. Untrusted units can have very many entries, so listing them can take

@@ -1,7 +1,5 @@
 //! The units that can come next in some key.
 
-#[allow(unused_imports)]
-use crate::support::prelude::*;
 use crate::icu_char16trie::encoded::{delta_end, lower_part, node_end, short_end, two_at, unit_at};
 use crate::icu_char16trie::impl_const::{
     MAX_BRANCH_LINEAR_SUB_NODE_LENGTH, MIN_LINEAR_MATCH, MIN_VALUE_LEAD, VALUE_IS_FINAL,
@@ -9,10 +7,15 @@ use crate::icu_char16trie::impl_const::{
 use crate::icu_char16trie::place::Place;
 use crate::icu_zerovec::ZeroSlice;
 use crate::support::AllocError;
+use crate::support::prelude::*;
 
 /// Adds the unit at an index, if it is there.
 #[inline]
-fn add_unit(list: &mut Vec<u16>, units: ZeroSlice<'_, u16>, place: usize) -> Result<(), AllocError> {
+fn add_unit(
+    list: &mut Vec<u16>,
+    units: ZeroSlice<'_, u16>,
+    place: usize,
+) -> Result<(), AllocError> {
     if let Some(unit) = unit_at(units, place) {
         list.try_push(unit)?;
     }

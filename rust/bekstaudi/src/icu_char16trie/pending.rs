@@ -1,15 +1,16 @@
 //! What an iterator over the entries of a trie has not visited yet.
 
-#[allow(unused_imports)]
-use crate::support::prelude::*;
-use crate::icu_char16trie::encoded::{delta_end, entry_child, lower_part, node_end, run_len, short_end, unit_at};
+use crate::icu_char16trie::encoded::{
+    delta_end, entry_child, lower_part, node_end, run_len, short_end, unit_at,
+};
 use crate::icu_char16trie::impl_const::{
     MAX_BRANCH_LINEAR_SUB_NODE_LENGTH, MIN_LINEAR_MATCH, MIN_VALUE_LEAD, VALUE_IS_FINAL,
 };
 use crate::icu_char16trie::spelling::{Mark, Spelling};
 use crate::icu_char16trie::step::value_by;
 use crate::icu_zerovec::{MemoryError, ZeroSlice};
-use crate::support::{AllocError};
+use crate::support::AllocError;
+use crate::support::prelude::*;
 
 /// A part of a branch that is postponed.
 #[derive(Clone, Copy, Debug)]
@@ -23,7 +24,7 @@ pub(crate) struct BranchPart {
 }
 
 /// What is still to be visited: a node, and after it the postponed parts.
-#[derive(Debug)]
+#[derive(Debug, Clone)]
 pub(crate) struct Pending<'a> {
     pub units: ZeroSlice<'a, u16>,
     /// The key of the node.
@@ -129,11 +130,7 @@ impl<'a> Pending<'a> {
 
     /// Returns the item of the node whose lead unit is before `place`, if the node has a value.
     #[inline(always)]
-    fn item_by(
-        &self,
-        place: usize,
-        lead: u16,
-    ) -> Result<Option<(String, i32)>, AllocError> {
+    fn item_by(&self, place: usize, lead: u16) -> Result<Option<(String, i32)>, AllocError> {
         let Some(value) = value_by(self.units, place, lead) else {
             return Ok(None);
         };
@@ -142,7 +139,7 @@ impl<'a> Pending<'a> {
     }
 
     /// Opens the node: returns its item, if it has a value, and moves to the first node after it.
-    fn open_node(&mut self, ) -> Result<Option<(String, i32)>, AllocError> {
+    fn open_node(&mut self) -> Result<Option<(String, i32)>, AllocError> {
         let Some(place) = self.node.take() else {
             return Ok(None);
         };
@@ -175,7 +172,7 @@ impl<'a> Pending<'a> {
     /// Returns the next item. Opens at most as many nodes as there are units, and then nothing is
     /// left: in a trie a node without an item leads to a later node.
     #[inline]
-    fn find_item(&mut self, ) -> Result<Option<(String, i32)>, AllocError> {
+    fn find_item(&mut self) -> Result<Option<(String, i32)>, AllocError> {
         for _opened in 0..self.units.len() {
             if !self.go_to_node()? {
                 return Ok(None);
@@ -191,7 +188,7 @@ impl<'a> Pending<'a> {
 
     /// Returns the next item, or an `Err` if an allocation fails. After an `Err` nothing is left.
     #[inline]
-    pub(crate) fn next_item(&mut self, ) -> Option<Result<(String, i32), MemoryError>> {
+    pub(crate) fn next_item(&mut self) -> Option<Result<(String, i32), MemoryError>> {
         let units = self.units;
         let Ok(found) = self.find_item() else {
             *self = Pending {

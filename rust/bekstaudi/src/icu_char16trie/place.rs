@@ -15,7 +15,7 @@ pub(crate) enum Place {
 ///
 /// Any two numbers are a valid position. From one that no cursor had, steps lead wherever the units
 /// say, and nothing matches if a unit is missing. ICU: `UCharsTrie::State`.
-#[derive(Clone, Copy, Debug, PartialEq, Eq)]
+#[derive(Clone, Copy, Debug, PartialEq, Eq, Hash)]
 pub struct CursorPlace {
     /// The index of the next unit among the units of the trie.
     pub position: usize,

@@ -3,8 +3,6 @@
 //! Each node comes before those that it leads to, so one pass over the units is enough. A node that
 //! is valid so far marks, in `wanted`, the indices at which other nodes are required.
 
-#[allow(unused_imports)]
-use crate::support::prelude::*;
 use crate::icu_char16trie::encoded::{
     delta_end, entry_child, lower_part, node_end, node_number, run_len, short_end, short_number,
     two_at, unit_at,
@@ -14,6 +12,7 @@ use crate::icu_char16trie::impl_const::{
 };
 use crate::icu_char16trie::trie::Char16Trie;
 use crate::icu_zerovec::{MemoryError, ZeroSlice};
+use crate::support::prelude::*;
 
 /// Marks `place` as the index of a required node. `None` if there is no unit.
 #[inline]
@@ -81,7 +80,12 @@ fn check_part(
 
 /// Checks the own units of a match node and marks the nodes that it leads to. `low` is the low six
 /// bits of its lead unit, and `place` is the index after the lead and its value.
-fn check_match(units: ZeroSlice<'_, u16>, wanted: &mut [bool], place: usize, low: u16) -> Option<()> {
+fn check_match(
+    units: ZeroSlice<'_, u16>,
+    wanted: &mut [bool],
+    place: usize,
+    low: u16,
+) -> Option<()> {
     if low >= MIN_LINEAR_MATCH {
         return want(wanted, place + run_len(low));
     }
@@ -99,7 +103,11 @@ fn check_match(units: ZeroSlice<'_, u16>, wanted: &mut [bool], place: usize, low
 
 /// Checks the own units of a node and marks the nodes that it leads to.
 #[inline]
-pub(crate) fn check_node(units: ZeroSlice<'_, u16>, wanted: &mut [bool], place: usize) -> Option<()> {
+pub(crate) fn check_node(
+    units: ZeroSlice<'_, u16>,
+    wanted: &mut [bool],
+    place: usize,
+) -> Option<()> {
     let lead = unit_at(units, place)?;
     if lead >= VALUE_IS_FINAL {
         short_number(units, place + 1, lead - VALUE_IS_FINAL)?;
@@ -138,13 +146,23 @@ impl<'data> Char16Trie<'data> {
     /// units. An empty list of units is the trie of the empty map. Units that no node leads to are
     /// ignored. Two nodes may lead to the same node, as in tries from ICU's builder.
     ///
-    /// Visits each node once, and a part of a branch once for each branch that shares it; a branch
-    /// has at most 65,536 entries. Allocates one byte for each unit.
+    /// Takes time linear in the number of units if no two branches share a part. In untrusted units
+    /// they may, and a branch has up to 65,536 entries: then it takes up to 65,536 steps for each
+    /// unit. Allocates one byte for each unit.
     ///
-    /// ```text
-    /// // of [0x31, 0x61, 0x62, 0x8003], the map of "ab" to 3: trie.try_is_trie()? is true
-    /// // of [0x31, 0x61, 0x62], which has no node after the linear match, it is false
-    /// // of [1, 0x62, 0x8001, 0x61, 0x8002], whose units descend, it is false
+    /// ```
+    /// use bekstaudi::char16trie::Char16Trie;
+    ///
+    /// // The map of "ab" to 3.
+    /// let trie = Char16Trie::new([0x31, 0x61, 0x62, 0x8003].into_iter().collect());
+    /// assert!(trie.try_is_trie()?);
+    /// // No node after the linear match.
+    /// let trie = Char16Trie::new([0x31, 0x61, 0x62].into_iter().collect());
+    /// assert!(!trie.try_is_trie()?);
+    /// // The units of the branch descend.
+    /// let trie = Char16Trie::new([1, 0x62, 0x8001, 0x61, 0x8002].into_iter().collect());
+    /// assert!(!trie.try_is_trie()?);
+    /// # Ok::<(), Box<dyn std::error::Error>>(())
     /// ```
     ///
     /// # Errors

@@ -1,9 +1,8 @@
 //! The key of an entry as text, while it grows.
 
-#[allow(unused_imports)]
-use crate::support::prelude::*;
 use crate::icu_zerovec::ZeroSlice;
-use crate::support::{AllocError};
+use crate::support::AllocError;
+use crate::support::prelude::*;
 
 /// A lead surrogate, the first unit of a surrogate pair.
 #[derive(Clone, Copy, Debug)]
@@ -22,7 +21,7 @@ pub(crate) struct Mark {
 
 /// The text of a key whose units come one by one. A lead surrogate is held until the next unit
 /// shows whether the two are a pair.
-#[derive(Debug)]
+#[derive(Debug, Clone)]
 pub(crate) struct Spelling {
     pub text: String,
     pub held: Option<LeadSurrogate>,

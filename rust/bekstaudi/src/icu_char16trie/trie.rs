@@ -1,7 +1,5 @@
 //! The trie, stored in a packed vector of units.
 
-#[allow(unused_imports)]
-use crate::support::prelude::*;
 use crate::icu_char16trie::cursor::Char16TrieCursor;
 use crate::icu_char16trie::entries::Iter2;
 use crate::icu_char16trie::iterator::Char16TrieIterator;
@@ -11,12 +9,17 @@ use crate::icu_zerovec::{MemoryError, ZeroVec};
 /// A map from lists of 16-bit units, mostly texts in UTF-16, to signed 32-bit numbers, in the
 /// format of ICU's `UCharsTrie`.
 ///
-/// ```ignore
-/// let trie = Char16Trie::new(ZeroVec::alloc_from_slice(&[0x31, 0x61, 0x62, 0x8003])?);
-/// // the map of "ab" to 3
+/// ```
+/// use bekstaudi::char16trie::Char16Trie;
+///
+/// // The map of "ab" to 3, as a file stores it.
+/// let trie = Char16Trie::new([0x31, 0x61, 0x62, 0x8003].into_iter().collect());
 /// let mut cursor = trie.cursor();
-/// cursor.step('a'); // cursor.value() is None
-/// cursor.step('b'); // cursor.value() is Some(3)
+/// cursor.step('a');
+/// assert_eq!(cursor.value(), None);
+/// cursor.step('b');
+/// assert_eq!(cursor.value(), Some(3));
+/// assert_eq!(trie.longest_match_str("abc"), Some((2, 3)));
 /// ```
 ///
 /// Two tries are equal exactly if their units are, whether they own or borrow them.
@@ -28,19 +31,28 @@ pub struct Char16Trie<'data> {
 
 impl<'data> Char16Trie<'data> {
     /// Creates the trie of these units. They are not validated: look-ups return on all units.
+    #[must_use]
     #[inline]
-    pub fn new(data: ZeroVec<'data, u16>) -> Self {
+    pub const fn new(data: ZeroVec<'data, u16>) -> Self {
         Char16Trie { data }
     }
 
     /// Returns a cursor at the root, for looking up keys unit by unit.
     ///
-    /// ```text
-    /// // of the map of "ab" to 3
-    /// let mut cursor = trie.cursor();
-    /// cursor.step('a'); // cursor.value() is None
-    /// cursor.step('b'); // cursor.value() is Some(3)
     /// ```
+    /// use bekstaudi::char16trie::Char16TrieBuilder;
+    ///
+    /// let mut builder = Char16TrieBuilder::new();
+    /// builder.add_str("ab", 3)?;
+    /// let trie = builder.try_build()?;
+    /// let mut cursor = trie.cursor();
+    /// cursor.step('a');
+    /// assert_eq!(cursor.value(), None);
+    /// cursor.step('b');
+    /// assert_eq!(cursor.value(), Some(3));
+    /// # Ok::<(), Box<dyn std::error::Error>>(())
+    /// ```
+    #[must_use]
     #[inline]
     pub fn cursor(&self) -> Char16TrieCursor<'_> {
         Char16TrieCursor::new(self.data.as_slice())
@@ -48,10 +60,16 @@ impl<'data> Char16Trie<'data> {
 
     /// Returns an iterator at the root: a cursor that returns a result for each step.
     ///
-    /// ```text
-    /// // of the map of "ab" to 3
+    /// ```
+    /// use bekstaudi::char16trie::{Char16TrieBuilder, TrieResult};
+    ///
+    /// let mut builder = Char16TrieBuilder::new();
+    /// builder.add_str("ab", 3)?;
+    /// let trie = builder.try_build()?;
     /// let mut iterator = trie.iter();
-    /// // iterator.next('a') is TrieResult::NoValue, and then iterator.next('b') is TrieResult::FinalValue(3)
+    /// assert_eq!(iterator.next('a'), TrieResult::NoValue);
+    /// assert_eq!(iterator.next('b'), TrieResult::FinalValue(3));
+    /// # Ok::<(), Box<dyn std::error::Error>>(())
     /// ```
     #[inline]
     pub fn iter(&self) -> Char16TrieIterator<'_> {
@@ -69,11 +87,16 @@ impl<'data> Char16Trie<'data> {
     ///
     /// It is not named `iter` because in the Rust crate `iter` returns a look-up, not a listing.
     ///
-    /// ```text
-    /// // of the map of "a" to 1 and "ab" to 2
-    /// for entry in trie.try_iter2() {
-    ///     let (text, value) = entry?; // "a" and 1, then "ab" and 2
-    /// }
+    /// ```
+    /// use bekstaudi::char16trie::Char16TrieBuilder;
+    ///
+    /// let mut builder = Char16TrieBuilder::new();
+    /// builder.add_str("a", 1)?;
+    /// builder.add_str("ab", 2)?;
+    /// let trie = builder.try_build()?;
+    /// let entries = trie.try_iter2().collect::<Result<Vec<_>, _>>()?;
+    /// assert_eq!(entries, [("a".into(), 1), ("ab".into(), 2)]);
+    /// # Ok::<(), Box<dyn std::error::Error>>(())
     /// ```
     #[inline]
     pub fn try_iter2(&self) -> Iter2<'_> {
@@ -86,13 +109,19 @@ impl<'data> Char16Trie<'data> {
     /// as a text of its own. Allocates nothing before the first entry. As with `iter2`, one call
     /// opens at most as many nodes as there are units, and there may be very many entries.
     ///
-    /// ```text
-    /// // of the map of "a" to 1 and "ab" to 2
-    /// let mut entries = trie.entries();
-    /// // entries.try_advance()? is true: entries.key() is "a" and entries.value() is 1
-    /// // entries.try_advance()? is true: entries.key() is "ab" and entries.value() is 2
-    /// // entries.try_advance()? is false
     /// ```
+    /// use bekstaudi::char16trie::Char16TrieBuilder;
+    ///
+    /// let mut builder = Char16TrieBuilder::new();
+    /// builder.add_str("ab", 2)?;
+    /// let trie = builder.try_build()?;
+    /// let mut entries = trie.entries();
+    /// assert!(entries.advance());
+    /// assert_eq!((entries.key(), entries.value()), ("ab", 2));
+    /// assert!(!entries.advance());
+    /// # Ok::<(), Box<dyn std::error::Error>>(())
+    /// ```
+    #[must_use]
     #[inline]
     pub fn entries(&self) -> Entries<'_> {
         self.cursor().entries()
@@ -115,5 +144,4 @@ impl<'data> PartialEq for Char16Trie<'data> {
     }
 }
 
-impl<'data> Eq for Char16Trie<'data> {
-}
+impl<'data> Eq for Char16Trie<'data> {}

@@ -4,12 +4,11 @@
 //! before those that it leads to, so one pass visits each node once. It marks the indices of the
 //! nodes that are still to come.
 
-#[allow(unused_imports)]
-use crate::support::prelude::*;
 use crate::icu_char16trie::place::Place;
 use crate::icu_char16trie::soundness::check_node;
 use crate::icu_char16trie::step::value_at;
 use crate::icu_zerovec::{MemoryError, ZeroSlice};
+use crate::support::prelude::*;
 
 /// Returns the index of the node that comes after the rest of a linear match. `None` if nothing
 /// matched or there is no unit at that index.

@@ -1,16 +1,15 @@
 //! How a listing walks from one entry of a trie to the next.
 
-#[allow(unused_imports)]
-use crate::support::prelude::*;
 use crate::icu_char16trie::front::Front;
 use crate::icu_char16trie::pending::Pending;
 use crate::icu_char16trie::place::Place;
 use crate::icu_char16trie::spelling::Spelling;
 use crate::icu_zerovec::{MemoryError, ZeroSlice};
-use crate::support::{AllocError};
+use crate::support::AllocError;
+use crate::support::prelude::*;
 
 /// A walk over the entries of a trie: the entry that it reached last, and what is still to come.
-#[derive(Debug)]
+#[derive(Debug, Clone)]
 pub(crate) struct Walk<'a> {
     /// The key of the entry as it is spelled, and the postponed parts.
     pub pending: Pending<'a>,

@@ -1,10 +1,9 @@
 //! The arms of a branch: its entries, grouped by their next unit. The first `depth` units of the
 //! keys have been passed.
 
-#[allow(unused_imports)]
-use crate::support::prelude::*;
 use crate::icu_char16trie_builder::entry::{Arm, Entry};
-use crate::support::{AllocError};
+use crate::support::AllocError;
+use crate::support::prelude::*;
 
 /// Returns the length of the longest common prefix of two lists.
 #[inline]

@@ -1,16 +1,15 @@
 //! Collects entries and builds a trie.
 
-#[allow(unused_imports)]
-use crate::support::prelude::*;
+use crate::icu_char16trie::char16trie::Char16Trie;
 use crate::icu_char16trie_builder::entry::Entry;
 use crate::icu_char16trie_builder::error::{AddError, BuildError, SortedError};
 use crate::icu_char16trie_builder::sorted::{entries_of_pairs, refusal};
 use crate::icu_char16trie_builder::text::{is_too_long, units_of_text};
 use crate::icu_char16trie_builder::units::units_of;
-use crate::icu_char16trie::char16trie::Char16Trie;
 use crate::icu_zerovec::{MemoryError, ZeroVec};
-use crate::support::{AllocError};
+use crate::support::AllocError;
 use crate::support::BTreeMap;
+use crate::support::prelude::*;
 
 /// The largest number of units in a key.
 pub(crate) const LONGEST_KEY: usize = 65_535;
@@ -22,14 +21,19 @@ const MOST_UNITS: u64 = 0x7FFF_FFFF;
 ///
 /// ICU: `UCharsTrieBuilder`.
 ///
-/// ```ignore
+/// ```
+/// use bekstaudi::char16trie::{AddError, Char16TrieBuilder};
+///
 /// let mut builder = Char16TrieBuilder::new();
 /// builder.add(&[0x61, 0x62], 2)?;
-/// builder.add(&[0x61], 1)?;
-/// builder.add(&[0x61], 3); // Err(AddError::Duplicate)
-/// let trie = builder.try_build()?; // the trie of "a" to 1 and "ab" to 2
+/// builder.add_str("a", 1)?;
+/// assert_eq!(builder.add_str("a", 3), Err(AddError::Duplicate));
+/// let trie = builder.try_build()?;
+/// let entries: Vec<_> = trie.iter2().collect();
+/// assert_eq!(entries, [("a".into(), 1), ("ab".into(), 2)]);
+/// # Ok::<(), Box<dyn std::error::Error>>(())
 /// ```
-#[derive(Debug)]
+#[derive(Debug, Clone)]
 pub struct Char16TrieBuilder {
     entries: BTreeMap<Vec<u16>, i32>,
 }
@@ -64,9 +68,7 @@ fn insert(
 
 /// Returns the entries of a map, in their order.
 #[inline]
-fn entries_of<'a>(
-    entries: &'a BTreeMap<Vec<u16>, i32>,
-) -> Result<Vec<Entry<'a>>, AllocError> {
+fn entries_of<'a>(entries: &'a BTreeMap<Vec<u16>, i32>) -> Result<Vec<Entry<'a>>, AllocError> {
     let mut list = Vec::new();
     for (key, value) in entries {
         list.try_push(Entry {
@@ -130,6 +132,7 @@ fn trie_of(entries: &[Entry<'_>]) -> Result<Char16Trie<'static>, MemoryError> {
 
 impl Char16TrieBuilder {
     /// Creates a builder without entries. Allocates nothing.
+    #[must_use]
     #[inline]
     pub fn new() -> Self {
         Char16TrieBuilder {
@@ -162,9 +165,13 @@ impl Char16TrieBuilder {
 
     /// Adds an entry whose key is a text, as its units in UTF-16.
     ///
-    /// ```ignore
-    /// builder.add_str("ab", 2)?; // as builder.add(&[0x61, 0x62], 2)?
-    /// builder.add_str("\u{1f600}", 3)?; // as builder.add(&[0xD83D, 0xDE00], 3)?
+    /// ```
+    /// use bekstaudi::char16trie::{AddError, Char16TrieBuilder};
+    ///
+    /// let mut builder = Char16TrieBuilder::new();
+    /// builder.add_str("\u{1F600}", 3)?;
+    /// assert_eq!(builder.add(&[0xD83D, 0xDE00], 3), Err(AddError::Duplicate));
+    /// # Ok::<(), Box<dyn std::error::Error>>(())
     /// ```
     ///
     /// # Errors
@@ -191,12 +198,14 @@ impl Char16TrieBuilder {
     }
 
     /// Returns the number of entries.
+    #[must_use]
     #[inline]
     pub fn len(&self) -> usize {
         self.entries.len()
     }
 
     /// Returns true if there are no entries.
+    #[must_use]
     #[inline]
     pub fn is_empty(&self) -> bool {
         self.entries.is_empty()
@@ -227,10 +236,13 @@ impl Char16TrieBuilder {
     ///
     /// The trie is the one that a builder builds from these entries, but no key is copied.
     ///
-    /// ```ignore
+    /// ```
+    /// use bekstaudi::char16trie::Char16TrieBuilder;
+    ///
     /// let entries: [(&[u16], i32); 2] = [(&[0x61], 1), (&[0x61, 0x62], 2)];
     /// let trie = Char16TrieBuilder::build_sorted(&entries)?;
-    /// // the trie of "a" to 1 and "ab" to 2
+    /// assert_eq!(trie.longest_match_str("ab"), Some((2, 2)));
+    /// # Ok::<(), Box<dyn std::error::Error>>(())
     /// ```
     ///
     /// # Errors
@@ -242,9 +254,7 @@ impl Char16TrieBuilder {
     ///   for E entries with U units in their keys.
     /// - `Memory` if an allocation fails. The other errors are found without allocating.
     #[inline]
-    pub fn build_sorted(
-        entries: &[(&[u16], i32)],
-    ) -> Result<Char16Trie<'static>, SortedError> {
+    pub fn build_sorted(entries: &[(&[u16], i32)]) -> Result<Char16Trie<'static>, SortedError> {
         if let Some(error) = refusal(entries) {
             return Err(error);
         }

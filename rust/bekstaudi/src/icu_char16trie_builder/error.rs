@@ -4,7 +4,8 @@ use crate::icu_zerovec::MemoryError;
 use crate::support::{AllocError, AllocFailed};
 
 /// Why an entry was rejected. The entries are then unchanged.
-#[derive(Clone, Copy, Debug, PartialEq, Eq)]
+#[derive(Clone, Copy, Debug, PartialEq, Eq, Hash)]
+#[non_exhaustive]
 pub enum AddError {
     /// The key has more than 65,535 units.
     KeyTooLong,
@@ -22,7 +23,8 @@ impl From<MemoryError> for AddError {
 }
 
 /// Why a trie could not be built.
-#[derive(Clone, Copy, Debug, PartialEq, Eq)]
+#[derive(Clone, Copy, Debug, PartialEq, Eq, Hash)]
+#[non_exhaustive]
 pub enum BuildError {
     /// The entries may need more than `0x7FFF_FFFF` units.
     TooLarge,
@@ -66,7 +68,8 @@ impl From<AddError> for BuildError {
 }
 
 /// Why no trie was built from a slice of entries. An index is that of an entry in the slice.
-#[derive(Clone, Copy, Debug, PartialEq, Eq)]
+#[derive(Clone, Copy, Debug, PartialEq, Eq, Hash)]
+#[non_exhaustive]
 pub enum SortedError {
     /// The key at this index has more than 65,535 units. It is the first entry that is not valid.
     KeyTooLong(usize),
@@ -104,9 +107,9 @@ impl core::fmt::Display for AddError {
     #[inline]
     fn fmt(&self, f: &mut core::fmt::Formatter<'_>) -> core::fmt::Result {
         match self {
-            AddError::KeyTooLong => write!(f, "key too long"),
-            AddError::Duplicate => write!(f, "duplicate key"),
-            AddError::Memory => write!(f, "no memory"),
+            AddError::KeyTooLong => f.write_str("key too long"),
+            AddError::Duplicate => f.write_str("duplicate key"),
+            AddError::Memory => f.write_str("no memory"),
         }
     }
 }
@@ -117,9 +120,9 @@ impl core::fmt::Display for BuildError {
     #[inline]
     fn fmt(&self, f: &mut core::fmt::Formatter<'_>) -> core::fmt::Result {
         match self {
-            BuildError::TooLarge => write!(f, "too large"),
-            BuildError::Entry(_0) => write!(f, "{_0}"),
-            BuildError::Memory => write!(f, "no memory"),
+            BuildError::TooLarge => f.write_str("too large"),
+            BuildError::Entry(field) => write!(f, "{field}"),
+            BuildError::Memory => f.write_str("no memory"),
         }
     }
 }
@@ -130,10 +133,10 @@ impl core::fmt::Display for SortedError {
     #[inline]
     fn fmt(&self, f: &mut core::fmt::Formatter<'_>) -> core::fmt::Result {
         match self {
-            SortedError::KeyTooLong(_0) => write!(f, "key {_0} too long"),
-            SortedError::NotAscending(_0) => write!(f, "key {_0} not ascending"),
-            SortedError::TooLarge => write!(f, "too large"),
-            SortedError::Memory => write!(f, "no memory"),
+            SortedError::KeyTooLong(field) => write!(f, "key {field} too long"),
+            SortedError::NotAscending(field) => write!(f, "key {field} not ascending"),
+            SortedError::TooLarge => f.write_str("too large"),
+            SortedError::Memory => f.write_str("no memory"),
         }
     }
 }

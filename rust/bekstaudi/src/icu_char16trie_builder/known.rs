@@ -1,11 +1,10 @@
 //! Nodes that were written, so that an equal node is not written again.
 
-#[allow(unused_imports)]
-use crate::support::prelude::*;
 use crate::icu_char16trie_builder::entry::Entry;
 use crate::icu_char16trie_builder::open::units_from;
-use crate::support::{AllocError};
+use crate::support::AllocError;
 use crate::support::HashMap;
+use crate::support::prelude::*;
 
 /// The number of entries, and of units of a key, that go into a hash.
 const HASHED: usize = 16;
@@ -106,7 +105,8 @@ impl<'a> Known<'a> {
         depth: usize,
         place: usize,
     ) -> Result<(), AllocError> {
-        self.last.try_insert(hash_of(entries, depth), self.nodes.len())?;
+        self.last
+            .try_insert(hash_of(entries, depth), self.nodes.len())?;
         self.nodes.try_push(KnownNode {
             entries,
             depth,

@@ -1,11 +1,12 @@
 //! Writes one level of a trie in front of what it leads to. Indices are counted from the end of the
 //! units, so they stay the same while more units are written.
 
-#[allow(unused_imports)]
-use crate::support::prelude::*;
-use crate::icu_char16trie_builder::write::{put_all, put_delta, put_final, put_one, put_short, put_value};
 use crate::icu_char16trie::impl_const::{MAX_LINEAR_MATCH_LENGTH, MIN_LINEAR_MATCH};
+use crate::icu_char16trie_builder::write::{
+    put_all, put_delta, put_final, put_one, put_short, put_value,
+};
 use crate::support::AllocError;
+use crate::support::prelude::*;
 
 /// Writes a node that has only a value.
 #[inline]
@@ -43,7 +44,11 @@ pub(crate) fn write_value(out: &mut Vec<u16>, unit: u16, value: i32) -> Result<(
 /// Writes a split in front of the part with the upper entries: a split unit, and a delta to the
 /// part with the lower ones. The lower part is `from_end` units before the end.
 #[inline]
-pub(crate) fn write_split(out: &mut Vec<u16>, unit: u16, from_end: usize) -> Result<(), AllocError> {
+pub(crate) fn write_split(
+    out: &mut Vec<u16>,
+    unit: u16,
+    from_end: usize,
+) -> Result<(), AllocError> {
     let delta = out.len().saturating_sub(from_end);
     put_delta(out, delta as u32)?;
     put_one(out, unit)?;

@@ -1,13 +1,6 @@
 //! Builds unit tries: entries are added and become a trie in one list of units. ICU:
 //! `UCharsTrieBuilder`.
 //!
-//! ```ignore
-//! let mut builder = Char16TrieBuilder::new();
-//! builder.add(&[0x61, 0x62], 2)?;
-//! builder.add(&[0x61], 1)?;
-//! let trie = builder.try_build()?;
-//! // trie.try_iter2() gives ("a", 1) and ("ab", 2)
-//! ```
 //!
 //! - `builder`: [`Char16TrieBuilder`](builder::Char16TrieBuilder), the entries and their trie
 //! - `sorted`: entries that are already in unit order

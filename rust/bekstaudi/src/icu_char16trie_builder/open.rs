@@ -1,13 +1,14 @@
 //! Turns a node of entries into the steps that write it. The step to be taken first is pushed last.
 
-#[allow(unused_imports)]
-use crate::support::prelude::*;
+use crate::icu_char16trie::impl_const::{
+    MAX_BRANCH_LINEAR_SUB_NODE_LENGTH, MAX_LINEAR_MATCH_LENGTH,
+};
 use crate::icu_char16trie_builder::arms::{arms_of, shared_len};
 use crate::icu_char16trie_builder::entry::{Arm, Entry};
 use crate::icu_char16trie_builder::level::write_tail;
 use crate::icu_char16trie_builder::step::Step;
-use crate::icu_char16trie::impl_const::{MAX_BRANCH_LINEAR_SUB_NODE_LENGTH, MAX_LINEAR_MATCH_LENGTH};
-use crate::support::{AllocError};
+use crate::support::AllocError;
+use crate::support::prelude::*;
 
 /// Returns the value of an arm whose only key ends at `depth`.
 #[inline]

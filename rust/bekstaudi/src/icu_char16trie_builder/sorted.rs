@@ -1,11 +1,10 @@
 //! Entries that are already in unit order. They are checked, and no key is copied.
 
-#[allow(unused_imports)]
-use crate::support::prelude::*;
 use crate::icu_char16trie_builder::builder::{LONGEST_KEY, total_with};
 use crate::icu_char16trie_builder::entry::Entry;
 use crate::icu_char16trie_builder::error::SortedError;
-use crate::support::{AllocError};
+use crate::support::AllocError;
+use crate::support::prelude::*;
 
 /// Returns true if a key is before another in unit order.
 #[inline]

@@ -3,13 +3,14 @@
 //! The steps that are left are on a stack, so there is no recursion for each unit of a key. Besides
 //! it there are the units so far, a stack of saved indices, and the known nodes.
 
-#[allow(unused_imports)]
-use crate::support::prelude::*;
 use crate::icu_char16trie_builder::entry::Entry;
 use crate::icu_char16trie_builder::known::Known;
-use crate::icu_char16trie_builder::level::{write_branch, write_jump, write_last, write_run, write_split, write_value};
+use crate::icu_char16trie_builder::level::{
+    write_branch, write_jump, write_last, write_run, write_split, write_value,
+};
 use crate::icu_char16trie_builder::open::open_node;
-use crate::support::{AllocError};
+use crate::support::AllocError;
+use crate::support::prelude::*;
 
 /// One step of writing. It needs what is in front of the units so far, or at the index saved last.
 #[derive(Clone, Copy)]

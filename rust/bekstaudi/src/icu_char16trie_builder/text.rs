@@ -1,9 +1,8 @@
 //! The units of a text in UTF-16.
 
-#[allow(unused_imports)]
-use crate::support::prelude::*;
 use crate::icu_char16trie_builder::builder::LONGEST_KEY;
-use crate::support::{AllocError};
+use crate::support::AllocError;
+use crate::support::prelude::*;
 
 /// Returns true if a text has more units than a key may have.
 #[inline]

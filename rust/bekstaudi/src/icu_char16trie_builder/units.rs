@@ -1,11 +1,10 @@
 //! The units of a trie of entries.
 
-#[allow(unused_imports)]
-use crate::support::prelude::*;
 use crate::icu_char16trie_builder::entry::Entry;
 use crate::icu_char16trie_builder::known::Known;
 use crate::icu_char16trie_builder::step::{Step, take_step};
-use crate::support::{AllocError};
+use crate::support::AllocError;
+use crate::support::prelude::*;
 
 /// Returns the units of a trie of entries whose keys ascend: at most two for each unit of a key,
 /// and sixteen for each entry.

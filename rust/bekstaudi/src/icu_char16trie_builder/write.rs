@@ -1,13 +1,12 @@
 //! Encodes the numbers of a trie as units. They are written from the end of the trie to its front:
 //! a unit that is pushed later comes earlier.
 
-#[allow(unused_imports)]
-use crate::support::prelude::*;
 use crate::icu_char16trie::impl_const::{
     MIN_TWO_UNIT_DELTA_LEAD, MIN_TWO_UNIT_NODE_LEAD, MIN_TWO_UNIT_VALUE_LEAD, MIN_VALUE_LEAD,
     THREE_UNIT_DELTA_LEAD, THREE_UNIT_NODE_LEAD, THREE_UNIT_VALUE_LEAD, VALUE_IS_FINAL,
 };
 use crate::support::AllocError;
+use crate::support::prelude::*;
 
 /// Writes one unit in front of the others.
 #[inline]

@@ -1,8 +1,7 @@
 //! A bit for each code point, in two stages, so that each look-up takes two loads.
 
-#[allow(unused_imports)]
-use crate::support::prelude::*;
 use crate::icu_zerovec::{CODE_POINT_LIMIT, MemoryError};
+use crate::support::prelude::*;
 
 /// The number of blocks of 256 code points.
 pub(crate) const BLOCKS: u32 = CODE_POINT_LIMIT / 256;

@@ -26,9 +26,14 @@ impl FrozenCodePointSet {
     /// the text before the first ill-formed sequence, and the prefix is valid UTF-8. The method
     /// first validates the bytes up to that sequence.
     ///
-    /// ```text
-    /// // letters.span_utf8(b"ab\xFFc", true) is 2, and letters.span_utf8(b"\xFFab", false) is 0
     /// ```
+    /// use bekstaudi::codepointinvlist::{CodePointInversionList, FrozenCodePointSet};
+    ///
+    /// let letters = FrozenCodePointSet::freeze(&('a'..='z').collect());
+    /// assert_eq!(letters.span_utf8(b"ab\xFFc", true), 2);
+    /// assert_eq!(letters.span_utf8(b"\xFFab", false), 0);
+    /// ```
+    #[must_use]
     #[inline]
     pub fn span_utf8(&self, bytes: &[u8], held: bool) -> usize {
         self.span(front_text(bytes), held)

@@ -59,7 +59,7 @@ impl Filling {
     /// Moves the current block into the tables if it is complete.
     #[inline(always)]
     fn settle(&mut self) -> Result<(), MemoryError> {
-        if self.reached % 256 != 0 {
+        if !self.reached.is_multiple_of(256) {
             return Ok(());
         }
         self.bits.push_block(&self.block)?;
@@ -81,7 +81,7 @@ impl Filling {
     /// Fills the rest of the current block, unless the next code point starts a block.
     #[inline]
     fn fill_block(&mut self, value: bool) -> Result<(), MemoryError> {
-        if self.reached % 256 == 0 {
+        if self.reached.is_multiple_of(256) {
             return Ok(());
         }
         self.fill_part((self.reached / 256 + 1) * 256, value);

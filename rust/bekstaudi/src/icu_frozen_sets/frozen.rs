@@ -1,7 +1,5 @@
 //! Frozen sets of code points, for many look-ups: a bit for each code point.
 
-#[allow(unused_imports)]
-use crate::support::prelude::*;
 use crate::icu_frozen_sets::bits::CodePointBits;
 use crate::icu_frozen_sets::filling::Filling;
 use crate::icu_invlist::codepointinvlist::CodePointInversionList;
@@ -15,9 +13,15 @@ use crate::icu_zerovec::{CODE_POINT_LIMIT, MemoryError};
 /// bytes for each range up to 142 ranges. If more blocks than that are neither empty nor full, they
 /// take at most 64 bytes for each such block.
 ///
-/// ```ignore
-/// let letters = FrozenCodePointSet::try_freeze(&set)?;
-/// // letters.contains('a') is set.contains('a'), and so at every other code point
+/// ```
+/// use bekstaudi::codepointinvlist::{CodePointInversionList, FrozenCodePointSet};
+///
+/// let set = CodePointInversionList::try_from('a'..='z')?;
+/// let letters = FrozenCodePointSet::freeze(&set);
+/// assert!(letters.contains('a') && !letters.contains('A'));
+/// assert_eq!(letters.span("word!", true), 4);
+/// assert_eq!(letters.as_set(), &set);
+/// # Ok::<(), Box<dyn std::error::Error>>(())
 /// ```
 #[derive(Debug)]
 pub struct FrozenCodePointSet {
@@ -33,7 +37,7 @@ pub struct FrozenCodePointSet {
 
 /// A view of the tables of a frozen set. The set contains the code point `c` if bit `c % 64` of the
 /// word at `index[c / 256] + c / 64 % 4` is 1. Bit 0 is the lowest.
-#[derive(Clone, Copy, Debug)]
+#[derive(Clone, Copy, Debug, PartialEq, Eq, Hash)]
 pub struct FrozenTables<'a> {
     /// For each of the 4,352 blocks of 256 code points, the index of the first of its four words.
     /// Blocks may share their words.
@@ -50,9 +54,7 @@ impl FrozenCodePointSet {
     ///
     /// # Errors
     /// Returns `MemoryError` if an allocation fails.
-    pub fn try_freeze(
-        set: &CodePointInversionList<'_>,
-    ) -> Result<FrozenCodePointSet, MemoryError> {
+    pub fn try_freeze(set: &CodePointInversionList<'_>) -> Result<FrozenCodePointSet, MemoryError> {
         let ranges = set.iter_ranges();
         let mut filling = Filling::new(ranges.len())?;
         for range in ranges {
@@ -87,18 +89,24 @@ impl FrozenCodePointSet {
 /// Queries.
 impl FrozenCodePointSet {
     /// Returns a reference to the set that was frozen, with its boundaries.
+    #[must_use]
     #[inline]
-    pub fn as_set(&self) -> &CodePointInversionList<'static> {
+    pub const fn as_set(&self) -> &CodePointInversionList<'static> {
         &self.set
     }
 
     /// Returns a view of the bits of all code points as they are stored, for example to write them
     /// to a file.
     ///
-    /// ```ignore
-    /// let FrozenTables { index, words } = letters.tables();
-    /// // words[index[0] as usize + 1] >> 1 & 1 says whether letters.contains('A')
     /// ```
+    /// use bekstaudi::codepointinvlist::{FrozenCodePointSet, FrozenTables};
+    ///
+    /// let letters = FrozenCodePointSet::freeze(&('A'..='Z').collect());
+    /// let FrozenTables { index, words } = letters.tables();
+    /// let contains = |c: usize| words[usize::from(index[c / 256]) + c / 64 % 4] >> (c % 64) & 1 == 1;
+    /// assert!(contains(0x41) && !contains(0x61));
+    /// ```
+    #[must_use]
     #[inline]
     pub fn tables(&self) -> FrozenTables<'_> {
         FrozenTables {
@@ -109,12 +117,14 @@ impl FrozenCodePointSet {
 
     /// Returns true if the set contains the code point `c`. Returns false for any number above
     /// 0x10FFFF.
+    #[must_use]
     #[inline(always)]
     pub fn contains32(&self, c: u32) -> bool {
         c < CODE_POINT_LIMIT && self.bits.contains32(c)
     }
 
     /// Returns true if the set contains the character `c`.
+    #[must_use]
     #[inline(always)]
     pub fn contains(&self, c: char) -> bool {
         self.contains32(u32::from(c))
@@ -178,6 +188,7 @@ impl FrozenCodePointSet {
     ///
     /// The result is a character boundary, so `&text[set.span(text, true)..]` is the rest of the
     /// text.
+    #[must_use]
     #[inline(never)]
     pub fn span(&self, text: &str, held: bool) -> usize {
         let bytes = text.as_bytes();
@@ -200,11 +211,11 @@ impl FrozenCodePointSet {
     ///
     /// The result is a character boundary, so `&text[..set.span_back(text, true)]` is the text
     /// before that suffix.
+    #[must_use]
     #[inline]
     pub fn span_back(&self, text: &str, held: bool) -> usize {
         let mut start = text.len();
         for c in text.chars().rev() {
-            c.shown();
             if self.contains(c) != held {
                 return start;
             }
@@ -222,5 +233,4 @@ impl PartialEq for FrozenCodePointSet {
     }
 }
 
-impl Eq for FrozenCodePointSet {
-}
+impl Eq for FrozenCodePointSet {}

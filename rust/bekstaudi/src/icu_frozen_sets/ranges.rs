@@ -9,6 +9,7 @@ impl FrozenCodePointSet {
     /// any surrogates between its start and its end.
     ///
     /// This searches the boundaries of the set, not its bits.
+    #[must_use]
     #[inline]
     pub fn contains_range<R: core::ops::RangeBounds<char>>(&self, range: R) -> bool {
         self.as_set().contains_range(range)

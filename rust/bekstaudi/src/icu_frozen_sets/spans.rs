@@ -3,7 +3,7 @@
 use crate::icu_frozen_sets::frozen::FrozenCodePointSet;
 
 /// A piece of a text whose characters are all in a set, or all outside it.
-#[derive(Clone, Copy, Debug)]
+#[derive(Clone, Copy, Debug, PartialEq, Eq, Hash)]
 pub struct Span<'t> {
     /// The piece, which is not empty.
     pub text: &'t str,
@@ -13,7 +13,7 @@ pub struct Span<'t> {
 
 /// An iterator over the spans of a text, from its start to its end.
 /// [`spans`](crate::icu_frozen_sets::frozen::FrozenCodePointSet::spans) returns it.
-#[derive(Debug)]
+#[derive(Debug, Clone)]
 pub struct Spans<'s, 't> {
     set: &'s FrozenCodePointSet,
     rest: &'t str,
@@ -51,13 +51,15 @@ impl FrozenCodePointSet {
     /// Joined, the spans are the text. None is empty, and each is a slice of `text`, so nothing is
     /// allocated.
     ///
-    /// ```ignore
-    /// for span in letters.spans("ab, c") {
-    ///     // "ab" is held, ", " is not, "c" is
-    /// }
+    /// ```
+    /// use bekstaudi::codepointinvlist::FrozenCodePointSet;
+    ///
+    /// let letters = FrozenCodePointSet::freeze(&('a'..='z').collect());
+    /// let spans: Vec<_> = letters.spans("ab, c").map(|it| (it.text, it.is_held)).collect();
+    /// assert_eq!(spans, [("ab", true), (", ", false), ("c", true)]);
     /// ```
     #[inline]
-    pub fn spans<'s, 't>(&'s self, text: &'t str) -> Spans<'s, 't> {
+    pub const fn spans<'s, 't>(&'s self, text: &'t str) -> Spans<'s, 't> {
         Spans {
             set: self,
             rest: text,

@@ -1,7 +1,5 @@
 //! Frozen sets of code points and strings.
 
-#[allow(unused_imports)]
-use crate::support::prelude::*;
 use crate::icu_frozen_sets::frozen::FrozenCodePointSet;
 use crate::icu_text_sets::codepointinvliststringlist::CodePointInversionListAndStringList;
 use crate::icu_zerovec::MemoryError;
@@ -9,9 +7,12 @@ use crate::icu_zerovec::MemoryError;
 /// A set of code points and strings for many look-ups (ICU: a frozen UnicodeSet with strings). It
 /// stores the set and a frozen set of its code points.
 ///
-/// ```ignore
-/// let words = FrozenCodePointSetAndStrings::try_freeze(&set)?;
-/// // words.contains_str("abc") is set.contains_str("abc"), and so of every other text
+/// ```
+/// use bekstaudi::codepointinvlist::FrozenCodePointSetAndStrings;
+///
+/// let words = FrozenCodePointSetAndStrings::freeze(&["a", "abc"].into_iter().collect());
+/// assert!(words.contains_str("abc") && words.contains_str("a"));
+/// assert!(!words.contains_str("ab"));
 /// ```
 #[derive(Debug)]
 pub struct FrozenCodePointSetAndStrings {
@@ -54,8 +55,9 @@ impl FrozenCodePointSetAndStrings {
 /// Queries.
 impl FrozenCodePointSetAndStrings {
     /// Returns a reference to the set that was frozen.
+    #[must_use]
     #[inline]
-    pub fn as_set(&self) -> &CodePointInversionListAndStringList<'static> {
+    pub const fn as_set(&self) -> &CodePointInversionListAndStringList<'static> {
         &self.set
     }
 
@@ -63,6 +65,7 @@ impl FrozenCodePointSetAndStrings {
     /// and otherwise as a string.
     ///
     /// A text of one character takes no search.
+    #[must_use]
     #[inline]
     pub fn contains_str(&self, text: &str) -> bool {
         let mut chars = text.chars();
@@ -74,12 +77,14 @@ impl FrozenCodePointSetAndStrings {
 
     /// Returns true if the set contains the code point `cp`. Returns false for any number above
     /// 0x10FFFF.
+    #[must_use]
     #[inline(always)]
     pub fn contains32(&self, cp: u32) -> bool {
         self.code_points.contains32(cp)
     }
 
     /// Returns true if the set contains the character `ch`.
+    #[must_use]
     #[inline(always)]
     pub fn contains(&self, ch: char) -> bool {
         self.code_points.contains(ch)
@@ -94,5 +99,4 @@ impl PartialEq for FrozenCodePointSetAndStrings {
     }
 }
 
-impl Eq for FrozenCodePointSetAndStrings {
-}
+impl Eq for FrozenCodePointSetAndStrings {}

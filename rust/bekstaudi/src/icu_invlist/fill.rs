@@ -3,9 +3,8 @@
 //! Boundaries below and above the range stay. Of those in between, at most the two borders of the
 //! range remain: its start if membership changes there, and likewise its end.
 
-#[allow(unused_imports)]
-use crate::support::prelude::*;
 use crate::icu_zerovec::{CODE_POINT_LIMIT, MemoryError};
+use crate::support::prelude::*;
 
 /// Returns true if the boundary at index `place` is below `c`.
 #[inline(always)]

@@ -8,11 +8,10 @@
 //! Up to the next boundary of the other list, the boundaries of one list are either all written or
 //! all skipped. When one list is used up, the rest of the other is either copied or dropped.
 
-#[allow(unused_imports)]
-use crate::support::prelude::*;
 use crate::icu_invlist::codepointinvlist::CodePointInversionList;
 use crate::icu_invlist::fill;
 use crate::icu_zerovec::{MemoryError, PotentialCodePoint, ZeroSlice};
+use crate::support::prelude::*;
 
 /// An operation on two sets, code point by code point.
 pub(crate) trait SetOperation {

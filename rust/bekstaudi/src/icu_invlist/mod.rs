@@ -22,5 +22,5 @@
 pub mod codepointinvlist;
 mod fill;
 mod merge;
-#[cfg(feature = "json")]
-mod spelling;
+#[cfg(any(feature = "json", feature = "serde"))]
+pub(crate) mod spelling;

@@ -1,8 +1,7 @@
 //! How the ranges of a set are spelled in JSON.
 
-#[allow(unused_imports)]
-use crate::support::prelude::*;
 use crate::icu_zerovec::MemoryError;
+use crate::support::prelude::*;
 
 /// Returns the first character and the rest of the text.
 #[inline]

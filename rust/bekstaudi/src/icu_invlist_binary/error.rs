@@ -4,7 +4,8 @@ use crate::icu_zerovec::MemoryError;
 use crate::support::AllocError;
 
 /// The error of [`to_serialized`](crate::icu_invlist_binary::serialized::to_serialized).
-#[derive(Clone, Copy, Debug, PartialEq, Eq)]
+#[derive(Clone, Copy, Debug, PartialEq, Eq, Hash)]
+#[non_exhaustive]
 pub enum SerializeError {
     /// The boundaries take more than 0x7FFF units (ICU: `U_INDEX_OUTOFBOUNDS_ERROR`).
     TooLong,
@@ -21,7 +22,8 @@ impl From<AllocError> for SerializeError {
 
 /// The error of [`write_serialized`](crate::icu_invlist_binary::serialized::write_serialized). If both variants apply,
 /// the first is returned.
-#[derive(Clone, Copy, Debug, PartialEq, Eq)]
+#[derive(Clone, Copy, Debug, PartialEq, Eq, Hash)]
+#[non_exhaustive]
 pub enum WriteError {
     /// The boundaries take more than 0x7FFF units (ICU: `U_INDEX_OUTOFBOUNDS_ERROR`).
     TooLong,
@@ -31,7 +33,8 @@ pub enum WriteError {
 
 /// The error of [`from_serialized`](crate::icu_invlist_binary::serialized::from_serialized). If several variants apply,
 /// the first is returned.
-#[derive(Clone, Copy, Debug, PartialEq, Eq)]
+#[derive(Clone, Copy, Debug, PartialEq, Eq, Hash)]
+#[non_exhaustive]
 pub enum SerializedSetError {
     /// There is no unit, or there are fewer units than the first one says.
     Short,
@@ -55,8 +58,8 @@ impl core::fmt::Display for SerializeError {
     #[inline]
     fn fmt(&self, f: &mut core::fmt::Formatter<'_>) -> core::fmt::Result {
         match self {
-            SerializeError::TooLong => write!(f, "the set has too many ends"),
-            SerializeError::Memory => write!(f, "no memory"),
+            SerializeError::TooLong => f.write_str("the set has too many ends"),
+            SerializeError::Memory => f.write_str("no memory"),
         }
     }
 }
@@ -67,8 +70,8 @@ impl core::fmt::Display for WriteError {
     #[inline]
     fn fmt(&self, f: &mut core::fmt::Formatter<'_>) -> core::fmt::Result {
         match self {
-            WriteError::TooLong => write!(f, "the set has too many ends"),
-            WriteError::Short => write!(f, "the slice is too short"),
+            WriteError::TooLong => f.write_str("the set has too many ends"),
+            WriteError::Short => f.write_str("the slice is too short"),
         }
     }
 }
@@ -79,10 +82,10 @@ impl core::fmt::Display for SerializedSetError {
     #[inline]
     fn fmt(&self, f: &mut core::fmt::Formatter<'_>) -> core::fmt::Result {
         match self {
-            SerializedSetError::Short => write!(f, "the set is cut off"),
-            SerializedSetError::Count => write!(f, "the counts of the ends do not fit"),
-            SerializedSetError::Invalid => write!(f, "the ends are no set"),
-            SerializedSetError::Memory => write!(f, "no memory"),
+            SerializedSetError::Short => f.write_str("the set is cut off"),
+            SerializedSetError::Count => f.write_str("the counts of the ends do not fit"),
+            SerializedSetError::Invalid => f.write_str("the ends are no set"),
+            SerializedSetError::Memory => f.write_str("no memory"),
         }
     }
 }

@@ -1,9 +1,8 @@
 //! The boundaries in serialized units, read in place.
 
-#[allow(unused_imports)]
-use crate::support::prelude::*;
 use crate::icu_invlist_binary::error::SerializedSetError;
 use crate::icu_zerovec::{CODE_POINT_LIMIT, MemoryError};
+use crate::support::prelude::*;
 
 /// Returns the unit at index `i`, or 0 if there is none.
 #[inline]
@@ -105,7 +104,7 @@ impl<'a> LentEnds<'a> {
             }
             next = end + 1;
         }
-        count % 2 == 0 || next <= CODE_POINT_LIMIT
+        count.is_multiple_of(2) || next <= CODE_POINT_LIMIT
     }
 
     /// Returns a copy of the boundaries, with 0x110000 appended if their number is odd.

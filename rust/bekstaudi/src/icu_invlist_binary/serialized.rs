@@ -11,13 +11,12 @@
 //! For example, the set of `a` to `z` and U+1F600 to U+10FFFF is `[0x8004, 2, 0x61, 0x7B, 1,
 //! 0xF600]`.
 
-#[allow(unused_imports)]
-use crate::support::prelude::*;
+use crate::icu_invlist::codepointinvlist::CodePointInversionList;
 pub use crate::icu_invlist_binary::error::{SerializeError, SerializedSetError, WriteError};
 use crate::icu_invlist_binary::lent_ends::{lent_ends, serialized_length};
 use crate::icu_invlist_binary::target::{put_ends, put_unit};
-use crate::icu_invlist::codepointinvlist::CodePointInversionList;
 use crate::icu_zerovec::{CODE_POINT_LIMIT, PotentialCodePoint, ZeroSlice};
+use crate::support::prelude::*;
 
 /// The greatest number of units that the boundaries may take.
 const MOST_UNITS: usize = 0x7FFF;
@@ -80,6 +79,7 @@ fn put_set(target: &mut [u16], counts: Counts, ends: ZeroSlice<'_, PotentialCode
 /// take more than 0x7FFF units. Such a set has no serialized form.
 ///
 /// ICU: `uset_serialize` returns this number.
+#[must_use]
 #[inline]
 pub fn serialized_len(set: &CodePointInversionList<'_>) -> Option<usize> {
     let counts = counts_of(set.as_inversion_list());
@@ -91,18 +91,20 @@ pub fn serialized_len(set: &CodePointInversionList<'_>) -> Option<usize> {
 
 /// Returns the set in ICU's serialized form, as `uset_serialize` writes it.
 ///
-/// ```ignore
-/// let units = to_serialized(&set)?;
-/// // of `a` to `z` and U+1F600 to U+10FFFF: [0x8004, 2, 0x61, 0x7B, 1, 0xF600]
+/// ```
+/// use bekstaudi::codepointinvlist::CodePointInversionList;
+/// use bekstaudi::codepointinvlist::serialized::to_serialized;
+///
+/// let set: CodePointInversionList = [0x61..=0x7A, 0x1F600..=0x10FFFF].into_iter().collect();
+/// assert_eq!(to_serialized(&set)?, [0x8004, 2, 0x61, 0x7B, 1, 0xF600]);
+/// # Ok::<(), Box<dyn std::error::Error>>(())
 /// ```
 ///
 /// # Errors
 /// - `SerializeError::TooLong` if and only if the boundaries take more than 0x7FFF units.
 /// - `SerializeError::Memory` if an allocation fails.
 #[inline]
-pub fn to_serialized(
-    set: &CodePointInversionList<'_>,
-) -> Result<Vec<u16>, SerializeError> {
+pub fn to_serialized(set: &CodePointInversionList<'_>) -> Result<Vec<u16>, SerializeError> {
     let ends = set.as_inversion_list();
     let counts = counts_of(ends);
     if counts.units > MOST_UNITS {
@@ -118,10 +120,15 @@ pub fn to_serialized(
 ///
 /// The other units in `target` are unchanged. This does not allocate.
 ///
-/// ```ignore
+/// ```
+/// use bekstaudi::codepointinvlist::CodePointInversionList;
+/// use bekstaudi::codepointinvlist::serialized::write_serialized;
+///
+/// let set = CodePointInversionList::try_from('a'..='z')?;
 /// let mut units = [0; 8];
 /// let len = write_serialized(&set, &mut units)?;
-/// // of `a` to `z`: len is 3, and units[..3] is [2, 0x61, 0x7B]
+/// assert_eq!(units[..len], [2, 0x61, 0x7B]);
+/// # Ok::<(), Box<dyn std::error::Error>>(())
 /// ```
 ///
 /// # Errors

@@ -2,32 +2,12 @@
 
 use crate::icu_trie::cptrie::CodePointTrie;
 use crate::icu_trie::packed_cells::PackedCells;
-use crate::icu_trie_core::cells::Steps;
 use crate::icu_trie_core::header::CodePointTrieHeader;
 use crate::icu_trie_core::lookup::cell_of;
 use crate::icu_trie_core::value::TrieValue;
 use crate::icu_zerovec::{ZeroSlice, ZeroVec};
-use crate::support::Brand;
-use crate::support::{Blank, Ledger};
 
-/// `cell_of` over packed vectors, counting in the ledger of `blank`.
-#[inline]
-fn cell_counted<T: TrieValue, L: Ledger>(
-    header: &CodePointTrieHeader,
-    index: ZeroSlice<'_, u16>,
-    values: ZeroSlice<'_, T>,
-    c: u32,
-    blank: Blank,
-) -> Option<usize> {
-    let mut cells = PackedCells {
-        index,
-        values,
-        reads: Steps::<L>::new(blank),
-    };
-    cell_of(header, &mut cells, c)
-}
-
-/// `cell_of` over packed vectors. It counts in its own ledger, which it then drops.
+/// `cell_of` over packed vectors.
 #[inline]
 fn cell_in<T: TrieValue>(
     header: &CodePointTrieHeader,
@@ -35,7 +15,8 @@ fn cell_in<T: TrieValue>(
     values: ZeroSlice<'_, T>,
     c: u32,
 ) -> Option<usize> {
-    cell_counted::<T, Brand>(header, index, values, c, Blank::new(1))
+    let mut cells = PackedCells { index, values };
+    cell_of(header, &mut cells, c)
 }
 
 /// Returns the packed bytes of the value at index `i`, or `None` if `i` is past the end.
@@ -58,6 +39,7 @@ impl<'trie, T: TrieValue> CodePointTrie<'trie, T> {
     ///
     /// If each value of the type has one encoding, as in all types of this crate, these are the
     /// bytes that the value packs to.
+    #[must_use]
     #[inline]
     pub fn get32_ule(&self, c: u32) -> Option<&[u8]> {
         let place = cell_in(&self.header, self.index.as_slice(), self.data.as_slice(), c);

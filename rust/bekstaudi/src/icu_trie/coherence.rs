@@ -2,38 +2,20 @@
 
 use crate::icu_trie::cptrie::CodePointTrie;
 use crate::icu_trie::packed_cells::PackedCells;
-use crate::icu_trie_core::cells::Steps;
 use crate::icu_trie_core::coherent::is_coherent;
 use crate::icu_trie_core::header::CodePointTrieHeader;
 use crate::icu_trie_core::value::TrieValue;
 use crate::icu_zerovec::ZeroSlice;
-use crate::support::Brand;
-use crate::support::{Blank, Ledger};
 
-/// `is_coherent` over packed vectors, counting in the ledger of `blank`.
-#[inline]
-fn is_coherent_counted<T: TrieValue, L: Ledger>(
-    header: &CodePointTrieHeader,
-    index: ZeroSlice<'_, u16>,
-    values: ZeroSlice<'_, T>,
-    blank: Blank,
-) -> bool {
-    let mut cells = PackedCells {
-        index,
-        values,
-        reads: Steps::<L>::new(blank),
-    };
-    is_coherent(header, &mut cells)
-}
-
-/// `is_coherent` over packed vectors. It counts in its own ledger, which it then drops.
+/// `is_coherent` over packed vectors.
 #[inline]
 fn is_coherent_in<T: TrieValue>(
     header: &CodePointTrieHeader,
     index: ZeroSlice<'_, u16>,
     values: ZeroSlice<'_, T>,
 ) -> bool {
-    is_coherent_counted::<T, Brand>(header, index, values, Blank::new(1))
+    let mut cells = PackedCells { index, values };
+    is_coherent(header, &mut cells)
 }
 
 impl<'trie, T: TrieValue> CodePointTrie<'trie, T> {
@@ -48,12 +30,22 @@ impl<'trie, T: TrieValue> CodePointTrie<'trie, T> {
     ///
     /// Every built trie is coherent. A trie from a file can be checked once:
     ///
-    /// ```ignore
-    /// let trie = CodePointTrie::try_new(header, index, data)?;
-    /// if trie.is_coherent() {
-    ///     // exactly the code points for which get32 returns 1
-    ///     let letters = trie.try_get_set_for_value(1)?;
-    /// }
+    /// ```
+    /// use bekstaudi::codepointtrie::{CodePointTrie, CodePointTrieHeader, TrieType};
+    ///
+    /// // No block is as the header says the null block is, so ranges might differ from look-ups.
+    /// let header = CodePointTrieHeader {
+    ///     high_start: 0x1000,
+    ///     shifted12_high_start: 1,
+    ///     index3_null_offset: 0,
+    ///     data_null_offset: 0,
+    ///     null_value: 9,
+    ///     trie_type: TrieType::Small,
+    /// };
+    /// let (index, data) = ([0; 64], [0u8; 128]);
+    /// let trie = CodePointTrie::alloc_from_slices(header, &index, &data)?;
+    /// assert!(!trie.is_coherent());
+    /// # Ok::<(), Box<dyn std::error::Error>>(())
     /// ```
     ///
     /// A trie (ICU: `UCPTrie`) is coherent exactly if all of these hold:
@@ -64,6 +56,7 @@ impl<'trie, T: TrieValue> CodePointTrie<'trie, T> {
     ///   throughout.
     ///
     /// The check allocates nothing. For any trie it reads a few cells for each aligned block.
+    #[must_use]
     #[inline]
     pub fn is_coherent(&self) -> bool {
         is_coherent_in(&self.header, self.index.as_slice(), self.data.as_slice())

@@ -1,7 +1,5 @@
 //! Reading the data of a trie as values of another type.
 
-#[allow(unused_imports)]
-use crate::support::prelude::*;
 use crate::icu_trie::cptrie::CodePointTrie;
 use crate::icu_trie::error::ConvertError;
 use crate::icu_trie_core::header::CodePointTrieHeader;
@@ -12,7 +10,6 @@ use crate::icu_zerovec::ule::{AsULE, UleError};
 /// Returns the value of the other type that has the same packed bytes, or `None` if there is none.
 #[inline]
 fn same_packed<T: AsULE, P: AsULE>(value: T) -> Option<P> {
-    value.shown();
     P::from_unaligned(&value.to_unaligned()[..P::WIDTH])
 }
 
@@ -28,7 +25,9 @@ impl<'trie, T: TrieValue> CodePointTrie<'trie, T> {
     /// - `Cell` with the position of the first data cell that is not a value of the other type,
     ///   which may be the error value;
     /// - `ErrorOrNull` if the packed bytes of the null value are not a value of the other type.
-    pub fn try_into_converted<P: TrieValue>(self) -> Result<CodePointTrie<'trie, P>, ConvertError> {
+    pub fn try_into_converted_explained<P: TrieValue>(
+        self,
+    ) -> Result<CodePointTrie<'trie, P>, ConvertError> {
         if T::WIDTH != P::WIDTH {
             return Err(ConvertError::Width);
         }
@@ -37,7 +36,6 @@ impl<'trie, T: TrieValue> CodePointTrie<'trie, T> {
             header,
             index,
             data,
-            error_value: _,
         } = self;
         let data = match data.try_into_converted::<P>() {
             Ok(data) => data,
@@ -45,10 +43,7 @@ impl<'trie, T: TrieValue> CodePointTrie<'trie, T> {
             Err(UleError::Length) => unreachable!(),
         };
         match same_packed::<T, P>(null) {
-            Some(null) => {
-                null.shown();
-                Ok(CodePointTrie::with_data(header, index, data, null))
-            }
+            Some(null) => Ok(CodePointTrie::with_data(header, index, data, null)),
             None => Err(ConvertError::ErrorOrNull),
         }
     }
@@ -60,9 +55,6 @@ impl<'trie, T: TrieValue> CodePointTrie<'trie, T> {
         data: ZeroVec<'trie, T>,
         null: T,
     ) -> Self {
-        let Some(error_value) = data.last() else {
-            unreachable!()
-        };
         CodePointTrie {
             header: CodePointTrieHeader {
                 null_value: null.to_u32(),
@@ -70,7 +62,6 @@ impl<'trie, T: TrieValue> CodePointTrie<'trie, T> {
             },
             index,
             data,
-            error_value,
         }
     }
 }

@@ -1,7 +1,5 @@
 //! The trie over packed vectors.
 
-#[allow(unused_imports)]
-use crate::support::prelude::*;
 use crate::icu_trie::error::PartsError;
 use crate::icu_trie::packed_cells::{look_up_fast_in, look_up_high_in, look_up_small_in};
 use crate::icu_trie_core::error::CodePointTrieError;
@@ -10,17 +8,19 @@ use crate::icu_trie_core::impl_const::{CODE_POINT_MAX, FAST_TYPE_DATA_BLOCK_LENG
 use crate::icu_trie_core::value::TrieValue;
 use crate::icu_zerovec::{MemoryError, ZeroSlice, ZeroVec};
 
-/// Returns true if the fast index names a block of 64 that ends outside data of length `len`.
+/// Returns true if the fast index names a block of 64 that ends outside data of length `len`. The
+/// index must have all cells of the fast index.
+// The greatest cell decides. LLVM vectorises a maximum but no test for each cell, and it uses more
+// registers for two halves.
 #[inline]
 fn fast_block_passes(trie_type: TrieType, index: ZeroSlice<'_, u16>, len: usize) -> bool {
-    for i in 0..trie_type.fast_index_len() {
-        if let Some(offset) = index.get(i) {
-            if len < offset as usize + FAST_TYPE_DATA_BLOCK_LENGTH as usize {
-                return true;
-            }
-        }
+    let half = trie_type.fast_index_len() / 2;
+    let (mut lower, mut upper) = (0, 0);
+    for i in 0..half {
+        lower = index.at(i).max(lower);
+        upper = index.at(half + i).max(upper);
     }
-    false
+    len < lower.max(upper) as usize + FAST_TYPE_DATA_BLOCK_LENGTH as usize
 }
 
 /// Returns true if a number is the number of a value.
@@ -35,17 +35,24 @@ fn is_number_of_value<T: TrieValue>(number: u32) -> bool {
 /// The parts of a trie are checked when it is made, so every look-up returns a value and reads
 /// nothing outside the trie. An untrusted trie may have wrong values.
 ///
-/// ```ignore
-/// let letters = try_build_from_writes(0u8, 9, TrieType::Small, &[Write::Range(0x41..=0x5A, 1)])?;
-/// // letters.get32(0x41) is 1, letters.get32(0x5B) is 0, and letters.get32(0x110000) is 9
+/// ```
+/// use bekstaudi::codepointtrie::{CodePointTrieBuilder, TrieType};
+///
+/// // The default value 0, the error value 9, and 1 for the letters A to Z.
+/// let mut builder = CodePointTrieBuilder::new(0u8, 9, TrieType::Small);
+/// builder.set_range_value(0x41..=0x5A, 1);
+/// let trie = builder.build();
+/// assert_eq!(trie.get('A'), 1);
+/// assert_eq!(trie.get32(0x5B), 0);
+/// assert_eq!(trie.get32(0x110000), 9);
+/// let letters = trie.get_set_for_value(1);
+/// assert_eq!(letters.iter_ranges().collect::<Vec<_>>(), [0x41..=0x5A]);
 /// ```
 #[derive(Debug)]
 pub struct CodePointTrie<'trie, T: TrieValue> {
     pub(crate) header: CodePointTrieHeader,
     pub(crate) index: ZeroVec<'trie, u16>,
     pub(crate) data: ZeroVec<'trie, T>,
-    // The last cell of the data, so that `error_value` returns it without a read.
-    pub(crate) error_value: T,
 }
 
 impl<'trie, T: TrieValue> CodePointTrie<'trie, T> {
@@ -53,6 +60,26 @@ impl<'trie, T: TrieValue> CodePointTrie<'trie, T> {
     ///
     /// The header is checked only for its null value and its trie type. If it is wrong in other
     /// ways, look-ups still return values.
+    ///
+    /// ```
+    /// use bekstaudi::codepointtrie::{CodePointTrie, CodePointTrieHeader, TrieType};
+    ///
+    /// let header = CodePointTrieHeader {
+    ///     high_start: 0x1000,
+    ///     shifted12_high_start: 1,
+    ///     index3_null_offset: 0,
+    ///     data_null_offset: 0,
+    ///     null_value: 0,
+    ///     trie_type: TrieType::Small,
+    /// };
+    /// let index = [0; 64].into_iter().collect();
+    /// let data = (1u8..=64).collect();
+    /// let trie = CodePointTrie::try_new(header, index, data)?;
+    /// assert_eq!(trie.get32(0x41), 2);
+    /// assert_eq!(trie.get32(0x1000), 63);
+    /// assert_eq!(trie.get32(0x110000), 64);
+    /// # Ok::<(), Box<dyn std::error::Error>>(())
+    /// ```
     ///
     /// # Errors
     /// Returns the first of these that applies:
@@ -62,18 +89,13 @@ impl<'trie, T: TrieValue> CodePointTrie<'trie, T> {
     ///   (`Small`);
     /// - `DataTooShortForFastAccess` if `data` has fewer cells than the greatest offset in the fast
     ///   index plus 64.
-    ///
-    /// ```text
-    /// // index has 64 zeros and data has 64 values; the header says `Small`, and 0x1000 as the high start
-    /// let trie = CodePointTrie::try_new(header, index, data)?;
-    /// // trie.get32(0x41) is value 1, trie.get32(0x1000) is value 62, and trie.get32(0x110000) is value 63
-    /// ```
+    #[inline]
     pub fn try_new(
         header: CodePointTrieHeader,
         index: ZeroVec<'trie, u16>,
         data: ZeroVec<'trie, T>,
     ) -> Result<Self, CodePointTrieError> {
-        let Some(error_value) = data.last() else {
+        let Some(_) = data.last() else {
             return Err(CodePointTrieError::EmptyDataVector);
         };
         if !is_number_of_value::<T>(header.null_value) {
@@ -89,7 +111,6 @@ impl<'trie, T: TrieValue> CodePointTrie<'trie, T> {
             header,
             index,
             data,
-            error_value,
         })
     }
 
@@ -190,17 +211,21 @@ impl<'trie, T: TrieValue> CodePointTrie<'trie, T> {
     /// Returns the value of the code point `c`, or the error value if `c` is above 0x10FFFF or if
     /// the trie lacks a cell for it.
     ///
-    /// ```ignore
-    /// let builder = CodePointTrieBuilder::new(0u8, 9, TrieType::Fast);
-    /// let trie = builder.try_build()?;
-    /// // trie.get32(0x10FFFF) is 0, the default, and trie.get32(u32::MAX) is 9, the error value
     /// ```
+    /// use bekstaudi::codepointtrie::{CodePointTrieBuilder, TrieType};
+    ///
+    /// let trie = CodePointTrieBuilder::new(0u8, 9, TrieType::Fast).build();
+    /// assert_eq!(trie.get32(0x10FFFF), 0);
+    /// assert_eq!(trie.get32(u32::MAX), 9);
+    /// ```
+    #[must_use]
     #[inline]
     pub fn get32(&self, c: u32) -> T {
         self.value_by_type(self.header.trie_type, c)
     }
 
     /// Returns the value of the character `c`.
+    #[must_use]
     #[inline]
     pub fn get(&self, c: char) -> T {
         self.character_by_type(self.header.trie_type, c)
@@ -208,6 +233,7 @@ impl<'trie, T: TrieValue> CodePointTrie<'trie, T> {
 
     /// Returns the value of a code point in the Basic Multilingual Plane (0..=0xFFFF), which may be
     /// a surrogate.
+    #[must_use]
     #[inline]
     pub fn get16(&self, bmp: u16) -> T {
         self.get32(u32::from(bmp))
@@ -215,6 +241,7 @@ impl<'trie, T: TrieValue> CodePointTrie<'trie, T> {
 
     /// Returns the value of a supplementary code point (0x10000..=0x10FFFF). For any other argument
     /// it returns what [`get32`](Self::get32) returns.
+    #[must_use]
     #[inline]
     pub fn get32_supplementary(&self, supplementary: u32) -> T {
         self.get32(supplementary)
@@ -222,6 +249,7 @@ impl<'trie, T: TrieValue> CodePointTrie<'trie, T> {
 
     /// Returns the number of the value of the code point `c`: the `to_u32` of what
     /// [`get32`](Self::get32) returns.
+    #[must_use]
     #[inline]
     pub fn get32_u32(&self, c: u32) -> u32 {
         self.get32(c).to_u32()
@@ -229,6 +257,7 @@ impl<'trie, T: TrieValue> CodePointTrie<'trie, T> {
 
     /// Returns the header, and references to the index and the data. [`try_new`](Self::try_new)
     /// accepts them again.
+    #[must_use]
     #[inline]
     pub fn parts(&self) -> (CodePointTrieHeader, ZeroSlice<'_, u16>, ZeroSlice<'_, T>) {
         (self.header, self.index.as_slice(), self.data.as_slice())
@@ -244,19 +273,20 @@ impl<'trie, T: TrieValue> CodePointTrie<'trie, T> {
             header: self.header,
             index: self.index.try_clone()?,
             data: self.data.try_clone()?,
-            error_value: self.error_value,
         })
     }
 
     /// Returns the error value, which is the value of all numbers above 0x10FFFF: the last cell of
     /// the data.
+    #[must_use]
     #[inline]
     pub fn error_value(&self) -> T {
-        self.error_value
+        self.without_answer()
     }
 
     /// Returns the null value: the value whose number is in the header. For a built trie it is
     /// unspecified which value that is.
+    #[must_use]
     #[inline]
     pub fn null_value(&self) -> T {
         match T::try_from_u32(self.header.null_value) {

@@ -11,5 +11,4 @@ impl<'trie, T: TrieValue> PartialEq for CodePointTrie<'trie, T> {
     }
 }
 
-impl<'trie, T: TrieValue> Eq for CodePointTrie<'trie, T> {
-}
+impl<'trie, T: TrieValue> Eq for CodePointTrie<'trie, T> {}

@@ -4,7 +4,8 @@ pub use crate::icu_trie_core::error::CodePointTrieError;
 use crate::icu_zerovec::MemoryError;
 
 /// The error of a function that makes a trie of copied parts.
-#[derive(Clone, Copy, Debug, PartialEq)]
+#[derive(Clone, Copy, Debug, PartialEq, Eq, Hash)]
+#[non_exhaustive]
 pub enum PartsError {
     /// The parts do not form a trie.
     Trie(CodePointTrieError),
@@ -27,7 +28,8 @@ impl From<MemoryError> for PartsError {
 }
 
 /// The reasons why a trie cannot be read as a trie of another type.
-#[derive(Clone, Copy, Debug, PartialEq, Eq)]
+#[derive(Clone, Copy, Debug, PartialEq, Eq, Hash)]
+#[non_exhaustive]
 pub enum ConvertError {
     /// Values of the two types take different numbers of bytes.
     Width,
@@ -42,8 +44,8 @@ impl core::fmt::Display for PartsError {
     #[inline]
     fn fmt(&self, f: &mut core::fmt::Formatter<'_>) -> core::fmt::Result {
         match self {
-            PartsError::Trie(_0) => write!(f, "{_0}"),
-            PartsError::Memory => write!(f, "no memory"),
+            PartsError::Trie(field) => write!(f, "{field}"),
+            PartsError::Memory => f.write_str("no memory"),
         }
     }
 }
@@ -54,9 +56,11 @@ impl core::fmt::Display for ConvertError {
     #[inline]
     fn fmt(&self, f: &mut core::fmt::Formatter<'_>) -> core::fmt::Result {
         match self {
-            ConvertError::Width => write!(f, "the values of the two types have different widths"),
-            ConvertError::Cell(_0) => write!(f, "cell {_0} is no value of the other type"),
-            ConvertError::ErrorOrNull => write!(f, "the error value or the null value is no value of the other type"),
+            ConvertError::Width => f.write_str("the values of the two types have different widths"),
+            ConvertError::Cell(field) => write!(f, "cell {field} is no value of the other type"),
+            ConvertError::ErrorOrNull => {
+                f.write_str("the error value or the null value is no value of the other type")
+            }
         }
     }
 }

@@ -11,7 +11,7 @@ use core::iter::Fuse;
 /// not adjacent, or that overlap, stay as they are.
 ///
 /// Over (0..=3, 1), (4..=6, 1), (8..=9, 1) it gives (0..=6, 1), (8..=9, 1).
-#[derive(Debug)]
+#[derive(Debug, Clone)]
 pub struct RangeListIteratorCoalescer<I, U> {
     iter: Fuse<I>,
     peek: Option<CodePointMapRange<U>>,
@@ -19,6 +19,7 @@ pub struct RangeListIteratorCoalescer<I, U> {
 
 impl<I: Iterator<Item = CodePointMapRange<U>>, U: Eq> RangeListIteratorCoalescer<I, U> {
     /// Joins the ranges of `iter`. Once `iter` has returned `None`, it is not called again.
+    #[must_use]
     #[inline]
     pub fn new(iter: I) -> Self {
         Self {
@@ -36,7 +37,8 @@ fn is_continued<U: Eq>(range: &CodePointMapRange<U>, next: &CodePointMapRange<U>
 }
 
 impl<I: Iterator<Item = CodePointMapRange<U>>, U: Eq> Iterator
-    for RangeListIteratorCoalescer<I, U> {
+    for RangeListIteratorCoalescer<I, U>
+{
     type Item = CodePointMapRange<U>;
 
     fn next(&mut self) -> Option<CodePointMapRange<U>> {

@@ -1,17 +1,17 @@
 //! A trie whose values are mapped to values of another type.
 
-#[allow(unused_imports)]
-use crate::support::prelude::*;
 use crate::icu_trie::cptrie::CodePointTrie;
 use crate::icu_trie_core::value::TrieValue;
 use crate::icu_zerovec::ule::AsULE;
 use crate::icu_zerovec::{MemoryError, ZeroSlice, ZeroVec};
+use crate::support::prelude::*;
 use crate::support::{AllocError, AllocFailed};
 use core::error::Error;
 use core::fmt;
 
-/// The error of [`CodePointTrie::try_alloc_map_value`].
-#[derive(Clone, Copy, Debug, PartialEq, Eq)]
+/// The error of [`CodePointTrie::try_alloc_map_value_fallible`].
+#[derive(Clone, Copy, Debug, PartialEq, Eq, Hash)]
+#[non_exhaustive]
 pub enum MapError<E> {
     /// The closure returned this error.
     Closure(E),
@@ -81,22 +81,27 @@ impl<'trie, T: TrieValue> CodePointTrie<'trie, T> {
     /// The error value of the new trie is the result for the last cell. If the result of `f`
     /// depends only on its argument, this is also the result of the first call.
     ///
-    /// ```ignore
-    /// let next = trie.try_alloc_map_value(|x: u8| Ok::<u16, Infallible>(u16::from(x) + 1))?;
-    /// // next.get32(c) is trie.get32(c) plus one, at each c
+    /// ```
+    /// use bekstaudi::codepointtrie::planes::get_planes_trie;
+    /// use std::convert::Infallible;
+    ///
+    /// let planes = get_planes_trie();
+    /// let next = planes.try_alloc_map_value_fallible(|x| Ok::<u16, Infallible>(u16::from(x) + 1))?;
+    /// assert_eq!(next.get32(0x1F600), 2);
+    /// # Ok::<(), Box<dyn std::error::Error>>(())
     /// ```
     ///
     /// # Errors
     /// Returns `Closure` with the first error that `f` returns, after which `f` is not called
     /// again, and `Memory` if an allocation fails. The trie is unchanged in both cases.
-    pub fn try_alloc_map_value<P: TrieValue, E, F: FnMut(T) -> Result<P, E>>(
+    pub fn try_alloc_map_value_fallible<P: TrieValue, E, F: FnMut(T) -> Result<P, E>>(
         &self,
         mut f: F,
     ) -> Result<CodePointTrie<'static, P>, MapError<E>> {
         let null_value = self.null_value();
         // The first call, so that the closure can reject the error value before it gets any other
         // one. The result is not stored: the error value of a trie is the last cell of its data.
-        match f(self.error_value) {
+        match f(self.error_value()) {
             Ok(_) => {}
             Err(error) => return Err(MapError::Closure(error)),
         }
@@ -108,7 +113,6 @@ impl<'trie, T: TrieValue> CodePointTrie<'trie, T> {
         let data = ZeroVec::alloc_from_slice(&values)?;
         assert_eq!(data.len(), self.data.len());
         let index = self.index.try_clone()?;
-        null.shown();
         Ok(CodePointTrie::with_data(self.header, index, data, null))
     }
 }

@@ -14,11 +14,16 @@ impl<'trie, T: TrieValue> CodePointTrie<'trie, T> {
     /// `map` depends only on its argument and the trie is coherent, as every built one is, the
     /// ranges are the maximal runs.
     ///
-    /// ```ignore
-    /// for range in trie.iter_ranges_mapped(|x| x != 0) {
-    ///     // the code points that have the value 0, and those that don't, in turn
-    /// }
     /// ```
+    /// use bekstaudi::codepointtrie::planes::get_planes_trie;
+    ///
+    /// let planes = get_planes_trie();
+    /// let ranges: Vec<_> = planes.iter_ranges_mapped(|x| x != 0).collect();
+    /// assert_eq!(ranges.len(), 2);
+    /// assert_eq!(ranges[0].range, 0..=0xFFFF);
+    /// assert_eq!(ranges[1].range, 0x10000..=0x10FFFF);
+    /// ```
+    #[must_use]
     #[inline]
     pub fn iter_ranges_mapped<U: Eq, F: Fn(T) -> U>(
         &self,
@@ -35,7 +40,7 @@ impl<'trie, T: TrieValue> CodePointTrie<'trie, T> {
 
 /// An iterator over the ranges of a trie, each with the result of a closure for its value. It does
 /// not join ranges of equal results; [`IterRangesMapped`] contains it and joins them.
-#[derive(Debug)]
+#[derive(Debug, Clone)]
 pub struct MappedRanges<'a, T: TrieValue, F> {
     ranges: CodePointMapRangeIterator<'a, T>,
     map: F,
@@ -58,7 +63,7 @@ impl<'a, T: TrieValue, U, F: Fn(T) -> U> Iterator for MappedRanges<'a, T, F> {
 /// values are joined. See [`CodePointTrie::iter_ranges_mapped`].
 ///
 /// Once `next` returns `None`, it returns `None` forever.
-#[derive(Debug)]
+#[derive(Debug, Clone)]
 pub struct IterRangesMapped<'a, T: TrieValue, U, F> {
     ranges: RangeListIteratorCoalescer<MappedRanges<'a, T, F>, U>,
 }

@@ -1,22 +1,22 @@
 //! The ranges of a trie.
 
-#[allow(unused_imports)]
-use crate::support::prelude::*;
+use crate::icu_invlist::codepointinvlist::CodePointInversionList;
 use crate::icu_trie::cptrie::CodePointTrie;
 use crate::icu_trie::packed_cells::walk_in;
-use crate::icu_invlist::codepointinvlist::CodePointInversionList;
 pub use crate::icu_trie_core::range::CodePointMapRange;
 use crate::icu_trie_core::value::TrieValue;
 use crate::icu_trie_core::walk::is_same;
 use crate::icu_zerovec::{CODE_POINT_LIMIT, MemoryError};
+use crate::support::prelude::*;
 
 impl<'trie, T: TrieValue> CodePointTrie<'trie, T> {
     /// Returns the range of code points from `c` on that have the same value as `c`.
     ///
     /// If the trie is coherent, as every built one is, this is the longest run of equal values from
-    /// `c` on. Otherwise the range is the one that `walk` returns.
+    /// `c` on. Otherwise the header decides: [`is_coherent`](Self::is_coherent) says how.
     ///
-    /// Returns `None` if `c` is above 0x10FFFF, or if the walk reaches a cell that the trie lacks.
+    /// Returns `None` if `c` is above 0x10FFFF, or if the trie lacks a cell that is needed.
+    #[must_use]
     #[inline(always)]
     pub fn get_range(&self, c: u32) -> Option<CodePointMapRange<T>> {
         walk_in(&self.header, self.index.as_slice(), self.data.as_slice(), c)
@@ -27,14 +27,17 @@ impl<'trie, T: TrieValue> CodePointTrie<'trie, T> {
     ///
     /// If the trie is coherent, as every built one is, these are the maximal runs of its values.
     ///
-    /// ```ignore
-    /// let trie = try_build_from_writes(0u8, 9, TrieType::Small, &[Write::Range(0x41..=0x5A, 1)])?;
-    /// for range in trie.iter_ranges() {
-    ///     // 0..=0x40 with 0, then 0x41..=0x5A with 1, then 0x5B..=0x10FFFF with 0
-    /// }
+    /// ```
+    /// use bekstaudi::codepointtrie::{CodePointTrieBuilder, TrieType};
+    ///
+    /// let mut builder = CodePointTrieBuilder::new(0u8, 9, TrieType::Small);
+    /// builder.set_range_value(0x41..=0x5A, 1);
+    /// let trie = builder.build();
+    /// let ranges: Vec<_> = trie.iter_ranges().map(|it| (it.range, it.value)).collect();
+    /// assert_eq!(ranges, [(0..=0x40, 0), (0x41..=0x5A, 1), (0x5B..=0x10FFFF, 0)]);
     /// ```
     #[inline]
-    pub fn iter_ranges(&self) -> CodePointMapRangeIterator<'_, T> {
+    pub const fn iter_ranges(&self) -> CodePointMapRangeIterator<'_, T> {
         CodePointMapRangeIterator {
             trie: self,
             next: 0,
@@ -66,14 +69,18 @@ impl<'trie, T: TrieValue> CodePointTrie<'trie, T> {
     /// If the trie is coherent, as every built one is, these are exactly the code points that have
     /// the value.
     ///
+    /// ```
+    /// use bekstaudi::codepointtrie::{CodePointTrieBuilder, TrieType};
+    ///
+    /// let mut builder = CodePointTrieBuilder::new(0u8, 9, TrieType::Small);
+    /// builder.set_range_value(0x41..=0x5A, 1);
+    /// let letters = builder.build().try_get_set_for_value(1)?;
+    /// assert!(letters.contains('Z') && !letters.contains32(0x5B));
+    /// # Ok::<(), Box<dyn std::error::Error>>(())
+    /// ```
+    ///
     /// # Errors
     /// Returns `MemoryError` if an allocation fails.
-    ///
-    /// ```ignore
-    /// let trie = try_build_from_writes(0u8, 9, TrieType::Small, &[Write::Range(0x41..=0x5A, 1)])?;
-    /// let letters = trie.try_get_set_for_value(1)?;
-    /// // letters.contains32(0x5A) is true, and letters.contains32(0x5B) is false
-    /// ```
     #[inline]
     pub fn try_get_set_for_value(
         &self,
@@ -89,7 +96,7 @@ impl<'trie, T: TrieValue> CodePointTrie<'trie, T> {
 ///
 /// It returns what [`get_range`](CodePointTrie::get_range) returns at 0, and then at the code point
 /// after each range. Once it returns `None`, it returns `None` forever.
-#[derive(Debug)]
+#[derive(Debug, Clone)]
 pub struct CodePointMapRangeIterator<'a, T: TrieValue> {
     trie: &'a CodePointTrie<'a, T>,
     next: u32,

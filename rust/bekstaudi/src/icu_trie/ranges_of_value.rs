@@ -23,7 +23,7 @@ impl<'trie, T: TrieValue> CodePointTrie<'trie, T> {
 /// [`CodePointTrie::iter_ranges_for_value`].
 ///
 /// Once `next` returns `None`, it returns `None` forever.
-#[derive(Debug)]
+#[derive(Debug, Clone)]
 pub struct IterRangesForValue<'a, T: TrieValue> {
     ranges: CodePointMapRangeIterator<'a, T>,
     value: T,

@@ -3,26 +3,28 @@
 //! The header of a trie has its type. `as_typed_ref` reads the type once, for all the look-ups of a
 //! loop:
 //!
-//! ```ignore
-//! let sum = match trie.as_typed_ref() {
-//!     Typed::Fast(trie) => sum_of(&trie, "text"),
-//!     Typed::Small(trie) => sum_of(&trie, "text"),
-//! };
-//! // sum_of is generic over V: TypedCodePointTrie<'_, u8>, and adds trie.get(c) for each c
-//! ```
 
-#[allow(unused_imports)]
-use crate::support::prelude::*;
 use crate::icu_trie::cptrie::CodePointTrie;
 use crate::icu_trie_core::header::TrieType;
 use crate::icu_trie_core::value::TrieValue;
 
 /// A trie whose type is known at compile time, so that look-ups do not test it.
 ///
-/// ```ignore
-/// if let Typed::Small(trie) = trie.as_typed_ref() {
-///     // trie.get32_by_fast_index(0xFFF) is Some(trie.get32(0xFFF)), and of 0x1000 it is None
+/// ```
+/// use bekstaudi::codepointtrie::planes::get_planes_trie;
+/// use bekstaudi::codepointtrie::{Typed, TypedCodePointTrie};
+///
+/// fn sum_of<'trie>(trie: &impl TypedCodePointTrie<'trie, u8>, text: &str) -> u32 {
+///     text.chars().map(|c| u32::from(trie.get(c))).sum()
 /// }
+///
+/// // The type is tested once, before the loop.
+/// let trie = get_planes_trie();
+/// let sum = match trie.as_typed_ref() {
+///     Typed::Fast(trie) => sum_of(&trie, "a\u{1F600}"),
+///     Typed::Small(trie) => sum_of(&trie, "a\u{1F600}"),
+/// };
+/// assert_eq!(sum, 1);
 /// ```
 ///
 /// The tries of a user-defined type must all have the type [`TRIE_TYPE`](Self::TRIE_TYPE).
@@ -30,8 +32,13 @@ pub trait TypedCodePointTrie<'trie, T: TrieValue> {
     /// The type of the trie.
     const TRIE_TYPE: TrieType;
 
-    /// Shows a proof that the type of this trie is the constant. It does nothing at run time.
-    fn shown(&self) {}
+    /// Returns a reference to the trie as a [`CodePointTrie`].
+    fn as_untyped_ref(&self) -> &CodePointTrie<'trie, T>;
+
+    /// Converts the trie into a [`CodePointTrie`].
+    fn to_untyped(self) -> CodePointTrie<'trie, T>
+    where
+        Self: Sized;
 
     /// Returns the value of the code point `c`, as [`CodePointTrie::get32`] does.
     fn get32(&self, c: u32) -> T;
@@ -81,19 +88,21 @@ fn fast_value_of<T: TrieValue>(
 }
 
 /// A trie of the type `Fast`: look-ups in the whole Basic Multilingual Plane take two reads.
-#[derive(Debug)]
+#[derive(Debug, PartialEq, Eq)]
 pub struct FastCodePointTrie<'trie, T: TrieValue> {
     inner: CodePointTrie<'trie, T>,
 }
 
 impl<'trie, T: TrieValue> FastCodePointTrie<'trie, T> {
     /// Returns a reference to the trie as a [`CodePointTrie`].
+    #[must_use]
     #[inline(always)]
-    pub fn as_untyped_ref(&self) -> &CodePointTrie<'trie, T> {
+    pub const fn as_untyped_ref(&self) -> &CodePointTrie<'trie, T> {
         &self.inner
     }
 
     /// Converts the trie into a [`CodePointTrie`].
+    #[must_use]
     #[inline(always)]
     pub fn to_untyped(self) -> CodePointTrie<'trie, T> {
         self.inner
@@ -104,8 +113,13 @@ impl<'trie, T: TrieValue> TypedCodePointTrie<'trie, T> for FastCodePointTrie<'tr
     const TRIE_TYPE: TrieType = TrieType::Fast;
 
     #[inline(always)]
-    fn shown(&self) {
-        let _ = &self.inner;
+    fn as_untyped_ref(&self) -> &CodePointTrie<'trie, T> {
+        &self.inner
+    }
+
+    #[inline(always)]
+    fn to_untyped(self) -> CodePointTrie<'trie, T> {
+        self.inner
     }
 
     #[inline(always)]
@@ -125,19 +139,21 @@ impl<'trie, T: TrieValue> TypedCodePointTrie<'trie, T> for FastCodePointTrie<'tr
 }
 
 /// A trie of the type `Small`: look-ups of code points below 0x1000 take two reads.
-#[derive(Debug)]
+#[derive(Debug, PartialEq, Eq)]
 pub struct SmallCodePointTrie<'trie, T: TrieValue> {
     inner: CodePointTrie<'trie, T>,
 }
 
 impl<'trie, T: TrieValue> SmallCodePointTrie<'trie, T> {
     /// Returns a reference to the trie as a [`CodePointTrie`].
+    #[must_use]
     #[inline(always)]
-    pub fn as_untyped_ref(&self) -> &CodePointTrie<'trie, T> {
+    pub const fn as_untyped_ref(&self) -> &CodePointTrie<'trie, T> {
         &self.inner
     }
 
     /// Converts the trie into a [`CodePointTrie`].
+    #[must_use]
     #[inline(always)]
     pub fn to_untyped(self) -> CodePointTrie<'trie, T> {
         self.inner
@@ -148,8 +164,13 @@ impl<'trie, T: TrieValue> TypedCodePointTrie<'trie, T> for SmallCodePointTrie<'t
     const TRIE_TYPE: TrieType = TrieType::Small;
 
     #[inline(always)]
-    fn shown(&self) {
-        let _ = &self.inner;
+    fn as_untyped_ref(&self) -> &CodePointTrie<'trie, T> {
+        &self.inner
+    }
+
+    #[inline(always)]
+    fn to_untyped(self) -> CodePointTrie<'trie, T> {
+        self.inner
     }
 
     #[inline(always)]
@@ -169,7 +190,7 @@ impl<'trie, T: TrieValue> TypedCodePointTrie<'trie, T> for SmallCodePointTrie<'t
 }
 
 /// A trie together with its type.
-#[derive(Clone, Copy, Debug, PartialEq, Eq)]
+#[derive(Clone, Copy, Debug, PartialEq, Eq, Hash)]
 pub enum Typed<F, S> {
     /// The trie is of the type `Fast`.
     Fast(F),
@@ -178,11 +199,12 @@ pub enum Typed<F, S> {
 }
 
 /// The error of a conversion to a typed trie: the trie is of the other type.
-#[derive(Clone, Copy, Debug, PartialEq, Eq)]
+#[derive(Clone, Copy, Debug, PartialEq, Eq, Hash)]
 pub struct TypedCodePointTrieError;
 
 impl<'trie, T: TrieValue> CodePointTrie<'trie, T> {
     /// Converts the trie into the typed trie of its type.
+    #[must_use]
     #[inline]
     pub fn to_typed(self) -> Typed<FastCodePointTrie<'trie, T>, SmallCodePointTrie<'trie, T>> {
         match self.header.trie_type {
@@ -193,6 +215,7 @@ impl<'trie, T: TrieValue> CodePointTrie<'trie, T> {
 
     /// Returns the typed trie of this trie's type. It borrows its index and its data from this
     /// trie.
+    #[must_use]
     #[inline]
     pub fn as_typed_ref(&self) -> Typed<FastCodePointTrie<'_, T>, SmallCodePointTrie<'_, T>> {
         self.lent().to_typed()
@@ -205,7 +228,6 @@ impl<'trie, T: TrieValue> CodePointTrie<'trie, T> {
             header: self.header,
             index: self.index.as_slice().as_zerovec(),
             data: self.data.as_slice().as_zerovec(),
-            error_value: self.error_value,
         }
     }
 }
@@ -266,7 +288,7 @@ impl core::fmt::Display for TypedCodePointTrieError {
     #[inline]
     fn fmt(&self, f: &mut core::fmt::Formatter<'_>) -> core::fmt::Result {
         match self {
-            TypedCodePointTrieError => write!(f, "the trie is of the other type"),
+            TypedCodePointTrieError => f.write_str("the trie is of the other type"),
         }
     }
 }

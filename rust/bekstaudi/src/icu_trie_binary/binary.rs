@@ -1,15 +1,15 @@
 //! Reads tries from ICU's binary form, which `ucptrie_toBinary` writes, in place; and writes tries
 //! in this form.
 
-#[allow(unused_imports)]
-use crate::support::prelude::*;
-pub use crate::icu_trie_binary::error::{BinaryError, SwappedError, WriteError};
-use crate::icu_trie_binary::header::{BinaryHeader, HEADER_SIZE, ValueWidth, header_of, stored_header};
-pub use crate::icu_trie_binary::swapped::from_binary_swapped;
-pub use crate::icu_trie_binary::write::{binary_len, to_binary, write_binary};
 use crate::icu_trie::cptrie::CodePointTrie;
 use crate::icu_trie::header::CodePointTrieHeader;
 use crate::icu_trie::value::TrieValue;
+pub use crate::icu_trie_binary::error::{BinaryError, SwappedError, WriteError};
+use crate::icu_trie_binary::header::{
+    BinaryHeader, HEADER_SIZE, ValueWidth, header_of, stored_header,
+};
+pub use crate::icu_trie_binary::swapped::from_binary_swapped;
+pub use crate::icu_trie_binary::write::{binary_len, to_binary, write_binary};
 use crate::icu_zerovec::ule::UleError;
 use crate::icu_zerovec::{ZeroSlice, ZeroVec};
 
@@ -33,6 +33,7 @@ fn data_bytes<'a>(bytes: &'a [u8], header: &BinaryHeader) -> &'a [u8] {
 
 /// Returns the number of the null value: that of the cell at the offset of the data null block, or
 /// of the high value if there is no such block.
+#[inline]
 pub(crate) fn null_number<T: TrieValue>(header: &BinaryHeader, values: ZeroSlice<'_, T>) -> u32 {
     let place = if header.data_null_offset < header.data_length {
         header.data_null_offset
@@ -40,17 +41,17 @@ pub(crate) fn null_number<T: TrieValue>(header: &BinaryHeader, values: ZeroSlice
         header.data_length.saturating_sub(2)
     };
     match values.get(place as usize) {
-        Some(value) => {
-            value.shown();
-            value.to_u32()
-        }
+        Some(value) => value.to_u32(),
         None => 0,
     }
 }
 
 /// Returns the header of a trie with these values.
 #[inline]
-fn trie_header<T: TrieValue>(header: &BinaryHeader, values: ZeroSlice<'_, T>) -> CodePointTrieHeader {
+fn trie_header<T: TrieValue>(
+    header: &BinaryHeader,
+    values: ZeroSlice<'_, T>,
+) -> CodePointTrieHeader {
     let high_start = u32::from(header.shifted_high_start) * 0x200;
     CodePointTrieHeader {
         high_start,
@@ -71,9 +72,16 @@ fn trie_header<T: TrieValue>(header: &BinaryHeader, values: ZeroSlice<'_, T>) ->
 /// and 32-bit values and both trie types. ICU: `ucptrie_openFromBinary` with `UCPTRIE_TYPE_ANY` and
 /// the width of `T`.
 ///
-/// ```ignore
-/// let (trie, len) = from_binary::<u8>(bytes)?;
-/// // trie.get32(0x41) is what ucptrie_get returns, and bytes[len..] is what follows the trie
+/// ```
+/// use bekstaudi::codepointtrie::binary::{from_binary, to_binary};
+/// use bekstaudi::codepointtrie::planes::get_planes_trie;
+///
+/// let mut bytes = to_binary(&get_planes_trie())?;
+/// bytes.extend(b"next");
+/// let (trie, len) = from_binary::<u8>(&bytes)?;
+/// assert_eq!(trie.get32(0x1F600), 1);
+/// assert_eq!(&bytes[len..], b"next");
+/// # Ok::<(), Box<dyn std::error::Error>>(())
 /// ```
 ///
 /// # Errors
@@ -102,7 +110,7 @@ pub fn from_binary<'a, T: TrieValue>(
 }
 
 /// A trie of the width in its header. Its values are unsigned numbers.
-#[derive(Debug)]
+#[derive(Debug, PartialEq, Eq, Hash)]
 pub enum AnyWidthTrie<'a> {
     /// 8-bit values (`UCPTRIE_VALUE_BITS_8`).
     Bits8(CodePointTrie<'a, u8>),
@@ -117,11 +125,15 @@ pub enum AnyWidthTrie<'a> {
 ///
 /// This is [`from_binary`] with the width in the header.
 ///
-/// ```ignore
-/// let (trie, len) = from_binary_any(bytes)?;
-/// if let AnyWidthTrie::Bits16(trie) = trie {
-///     // trie.get32(0x41) is a number of 16 bits
-/// }
+/// ```
+/// use bekstaudi::codepointtrie::binary::{AnyWidthTrie, from_binary_any, to_binary};
+/// use bekstaudi::codepointtrie::planes::get_planes_trie;
+///
+/// let bytes = to_binary(&get_planes_trie())?;
+/// let (trie, len) = from_binary_any(&bytes)?;
+/// assert!(matches!(trie, AnyWidthTrie::Bits8(trie) if trie.get32(0x1F600) == 1));
+/// assert_eq!(len, bytes.len());
+/// # Ok::<(), Box<dyn std::error::Error>>(())
 /// ```
 ///
 /// # Errors

@@ -6,7 +6,8 @@ use crate::support::AllocError;
 
 /// Why bytes are not a trie in the binary form. If several variants apply, the first one is
 /// returned.
-#[derive(Clone, Copy, Debug, PartialEq)]
+#[derive(Clone, Copy, Debug, PartialEq, Eq, Hash)]
+#[non_exhaustive]
 pub enum BinaryError {
     /// There are fewer than the 16 bytes of a header.
     Short,
@@ -38,7 +39,8 @@ impl From<CodePointTrieError> for BinaryError {
 }
 
 /// Why a trie cannot be written. If several variants apply, the first one is returned.
-#[derive(Clone, Copy, Debug, PartialEq, Eq)]
+#[derive(Clone, Copy, Debug, PartialEq, Eq, Hash)]
+#[non_exhaustive]
 pub enum WriteError {
     /// The number of bytes of a value is not 1, 2 or 4.
     UnknownWidth,
@@ -73,7 +75,8 @@ impl From<AllocError> for WriteError {
 }
 
 /// Why bytes from a machine with the other byte order cannot be read.
-#[derive(Clone, Copy, Debug, PartialEq)]
+#[derive(Clone, Copy, Debug, PartialEq, Eq, Hash)]
+#[non_exhaustive]
 pub enum SwappedError {
     /// Converted to this machine's order, the bytes are not a trie.
     Binary(BinaryError),
@@ -105,16 +108,18 @@ impl From<AllocError> for SwappedError {
 impl core::fmt::Display for BinaryError {
     fn fmt(&self, f: &mut core::fmt::Formatter<'_>) -> core::fmt::Result {
         match self {
-            BinaryError::Short => write!(f, "there are fewer bytes than a header has"),
-            BinaryError::Signature => write!(f, "there is no signature of a trie"),
-            BinaryError::Swapped => write!(f, "the trie is of a machine with the other byte order"),
-            BinaryError::UnknownType => write!(f, "the type of the trie is unknown"),
-            BinaryError::UnknownWidth => write!(f, "the width of the values is unknown"),
-            BinaryError::Reserved => write!(f, "a reserved bit is not 0"),
-            BinaryError::OtherWidth => write!(f, "the values have another width"),
-            BinaryError::CutOff => write!(f, "the index or the data are cut off"),
-            BinaryError::Cell(_0) => write!(f, "cell {_0} is no value"),
-            BinaryError::Trie(_0) => write!(f, "{_0}"),
+            BinaryError::Short => f.write_str("there are fewer bytes than a header has"),
+            BinaryError::Signature => f.write_str("there is no signature of a trie"),
+            BinaryError::Swapped => {
+                f.write_str("the trie is of a machine with the other byte order")
+            }
+            BinaryError::UnknownType => f.write_str("the type of the trie is unknown"),
+            BinaryError::UnknownWidth => f.write_str("the width of the values is unknown"),
+            BinaryError::Reserved => f.write_str("a reserved bit is not 0"),
+            BinaryError::OtherWidth => f.write_str("the values have another width"),
+            BinaryError::CutOff => f.write_str("the index or the data are cut off"),
+            BinaryError::Cell(field) => write!(f, "cell {field} is no value"),
+            BinaryError::Trie(field) => write!(f, "{field}"),
         }
     }
 }
@@ -125,14 +130,16 @@ impl core::fmt::Display for WriteError {
     #[inline]
     fn fmt(&self, f: &mut core::fmt::Formatter<'_>) -> core::fmt::Result {
         match self {
-            WriteError::UnknownWidth => write!(f, "the form has no values of this width"),
-            WriteError::LongIndex => write!(f, "the index is too long"),
-            WriteError::LongData => write!(f, "the data are too long"),
-            WriteError::NullOffset => write!(f, "the offset of the data null block is too large"),
-            WriteError::HighStart => write!(f, "the form has no such high start"),
-            WriteError::NullValue => write!(f, "the null value is not that of the data null block"),
-            WriteError::Short => write!(f, "the trie takes more bytes"),
-            WriteError::Memory => write!(f, "no memory"),
+            WriteError::UnknownWidth => f.write_str("the form has no values of this width"),
+            WriteError::LongIndex => f.write_str("the index is too long"),
+            WriteError::LongData => f.write_str("the data are too long"),
+            WriteError::NullOffset => f.write_str("the offset of the data null block is too large"),
+            WriteError::HighStart => f.write_str("the form has no such high start"),
+            WriteError::NullValue => {
+                f.write_str("the null value is not that of the data null block")
+            }
+            WriteError::Short => f.write_str("the trie takes more bytes"),
+            WriteError::Memory => f.write_str("no memory"),
         }
     }
 }
@@ -143,8 +150,8 @@ impl core::fmt::Display for SwappedError {
     #[inline]
     fn fmt(&self, f: &mut core::fmt::Formatter<'_>) -> core::fmt::Result {
         match self {
-            SwappedError::Binary(_0) => write!(f, "{_0}"),
-            SwappedError::Memory => write!(f, "no memory"),
+            SwappedError::Binary(field) => write!(f, "{field}"),
+            SwappedError::Memory => f.write_str("no memory"),
         }
     }
 }

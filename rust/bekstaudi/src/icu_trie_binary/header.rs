@@ -1,7 +1,7 @@
 //! The header of the binary form, before index and data: UCPTrieHeader of ICU4C's `ucptrie_impl.h`.
 
-use crate::icu_trie_binary::error::BinaryError;
 use crate::icu_trie::header::TrieType;
+use crate::icu_trie_binary::error::BinaryError;
 
 /// The size of the header in bytes.
 pub(crate) const HEADER_SIZE: usize = 16;
@@ -109,6 +109,7 @@ fn fields_of(bytes: &[u8], trie_type: TrieType, value_width: ValueWidth) -> Bina
 }
 
 /// Returns the contents of the header, or its first error.
+#[inline]
 pub(crate) fn header_of(bytes: &[u8]) -> Result<BinaryHeader, BinaryError> {
     signed(bytes)?;
     let options = u16_at(bytes, 4);
@@ -118,7 +119,7 @@ pub(crate) fn header_of(bytes: &[u8]) -> Result<BinaryHeader, BinaryError> {
     let Some(value_width) = width_of(options) else {
         return Err(BinaryError::UnknownWidth);
     };
-    if options / 8 % 8 != 0 {
+    if !(options / 8).is_multiple_of(8) {
         return Err(BinaryError::Reserved);
     }
     Ok(fields_of(bytes, trie_type, value_width))
@@ -134,6 +135,7 @@ pub(crate) fn stored_length(header: &BinaryHeader) -> usize {
 
 /// Returns the header of a trie whose values take `width` bytes and whose cells are all present,
 /// and the number of bytes that the trie takes.
+#[inline]
 pub(crate) fn stored_header(
     bytes: &[u8],
     width: usize,

@@ -1,13 +1,12 @@
 //! Reads tries in the binary form of a big-endian machine.
 
-#[allow(unused_imports)]
-use crate::support::prelude::*;
+use crate::icu_trie::cptrie::CodePointTrie;
+use crate::icu_trie::value::TrieValue;
 use crate::icu_trie_binary::binary::from_binary;
 use crate::icu_trie_binary::error::SwappedError;
 use crate::icu_trie_binary::header::{HEADER_SIZE, u16_at};
-use crate::icu_trie::cptrie::CodePointTrie;
-use crate::icu_trie::value::TrieValue;
-use crate::support::{AllocError};
+use crate::support::AllocError;
+use crate::support::prelude::*;
 
 /// Appends each whole group of `width` bytes, with its bytes reversed.
 #[inline]
@@ -77,9 +76,19 @@ fn in_other_order(bytes: &[u8], width: usize) -> Result<Vec<u8>, AllocError> {
 /// The bytes are copied into this machine's order, and the trie is the one that `from_binary` reads
 /// from the copy.
 ///
-/// ```ignore
-/// let (trie, len) = from_binary_swapped::<u8>(bytes)?;
-/// // trie.get32(0x41) is what ucptrie_get returns, and bytes[len..] is what follows the trie
+/// ```
+/// use bekstaudi::codepointtrie::binary::{from_binary_swapped, to_binary};
+/// use bekstaudi::codepointtrie::planes::get_planes_trie;
+///
+/// let mut bytes = to_binary(&get_planes_trie())?;
+/// // The trie in the other byte order: the signature, and 16-bit units up to the data.
+/// let data = 16 + 2 * usize::from(u16::from_le_bytes([bytes[6], bytes[7]]));
+/// bytes[..4].reverse();
+/// bytes[4..data].chunks_mut(2).for_each(|unit| unit.reverse());
+/// let (trie, len) = from_binary_swapped::<u8>(&bytes)?;
+/// assert_eq!(trie.get32(0x1F600), 1);
+/// assert_eq!(len, bytes.len());
+/// # Ok::<(), Box<dyn std::error::Error>>(())
 /// ```
 ///
 /// # Errors

@@ -1,14 +1,13 @@
 //! Writes tries in ICU's binary form, as `ucptrie_toBinary` does.
 
-#[allow(unused_imports)]
-use crate::support::prelude::*;
+use crate::icu_trie::cptrie::CodePointTrie;
+use crate::icu_trie::value::TrieValue;
 use crate::icu_trie_binary::binary::null_number;
 use crate::icu_trie_binary::error::WriteError;
 use crate::icu_trie_binary::header::{BinaryHeader, HEADER_SIZE, stored_length};
 use crate::icu_trie_binary::write_header::{header_bytes, width_for};
-use crate::icu_trie::cptrie::CodePointTrie;
-use crate::icu_trie::value::TrieValue;
-use crate::support::{AllocError};
+use crate::support::AllocError;
+use crate::support::prelude::*;
 
 /// Returns the bytes after an index of `cells` cells if values of `width` bytes follow it.
 #[inline]
@@ -37,7 +36,7 @@ fn header_for<T: TrieValue>(trie: &CodePointTrie<'_, T>) -> Result<BinaryHeader,
     if header.data_null_offset > 0xF_FFFF {
         return Err(WriteError::NullOffset);
     }
-    if header.high_start % 0x200 != 0 || header.high_start > 0x1FF_FFFF {
+    if !header.high_start.is_multiple_of(0x200) || header.high_start > 0x1FF_FFFF {
         return Err(WriteError::HighStart);
     }
     let written = BinaryHeader {
@@ -132,10 +131,14 @@ pub fn binary_len<T: TrieValue>(trie: &CodePointTrie<'_, T>) -> Result<usize, Wr
 /// and values take four bytes, a cell 0xFFEE follows the index, as in ICU's builder, so that the
 /// offset of the data is a multiple of four.
 ///
-/// ```ignore
+/// ```
+/// use bekstaudi::codepointtrie::binary::{from_binary, to_binary};
+/// use bekstaudi::codepointtrie::planes::get_planes_trie;
+///
+/// let trie = get_planes_trie();
 /// let bytes = to_binary(&trie)?;
-/// let (read, len) = from_binary::<u8>(&bytes)?;
-/// // len is bytes.len(), and read.get32(c) is trie.get32(c) for each c if the trie is coherent
+/// assert_eq!(from_binary(&bytes)?, (trie, bytes.len()));
+/// # Ok::<(), Box<dyn std::error::Error>>(())
 /// ```
 ///
 /// # Errors
@@ -147,9 +150,7 @@ pub fn binary_len<T: TrieValue>(trie: &CodePointTrie<'_, T>) -> Result<usize, Wr
 ///
 /// `Short` is never returned.
 #[inline]
-pub fn to_binary<T: TrieValue>(
-    trie: &CodePointTrie<'_, T>,
-) -> Result<Vec<u8>, WriteError> {
+pub fn to_binary<T: TrieValue>(trie: &CodePointTrie<'_, T>) -> Result<Vec<u8>, WriteError> {
     let parts = written_parts(trie)?;
     let mut bytes = Vec::with_room(parts.len)?;
     parts.append(&mut bytes)?;

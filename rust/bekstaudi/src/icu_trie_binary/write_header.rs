@@ -1,7 +1,7 @@
 //! Writes the header of the binary form.
 
-use crate::icu_trie_binary::header::{BinaryHeader, HEADER_SIZE, SIGNATURE, ValueWidth};
 use crate::icu_trie::header::TrieType;
+use crate::icu_trie_binary::header::{BinaryHeader, HEADER_SIZE, SIGNATURE, ValueWidth};
 
 /// Returns the code of a type in the options.
 #[inline]

@@ -1,12 +1,10 @@
 //! Reading a builder's map, and making one from a trie. So a table can be amended: read its values
 //! into a builder, write to it, and build it again.
 
-#[allow(unused_imports)]
-use crate::support::prelude::*;
-use crate::icu_trie_builder::builder::CodePointTrieBuilder;
 use crate::icu_trie::cptrie::CodePointTrie;
 use crate::icu_trie::ranges::CodePointMapRange;
 use crate::icu_trie::value::TrieValue;
+use crate::icu_trie_builder::builder::CodePointTrieBuilder;
 use crate::icu_trie_core::walk::is_same;
 use crate::icu_zerovec::{CODE_POINT_LIMIT, MemoryError};
 
@@ -56,11 +54,16 @@ impl<T: TrieValue> CodePointTrieBuilder<T> {
     ///
     /// ICU: `umutablecptrie_get`.
     ///
-    /// ```ignore
-    /// let mut builder = CodePointTrieBuilder::new(0u8, 9, TrieType::Fast);
-    /// builder.try_set_range_value(0x41..=0x5A, 1)?;
-    /// // builder.get(0x41) is 1, builder.get(0x5B) is 0, and builder.get(0x110000) is 9
     /// ```
+    /// use bekstaudi::codepointtrie::{CodePointTrieBuilder, TrieType};
+    ///
+    /// let mut builder = CodePointTrieBuilder::new(0u8, 9, TrieType::Fast);
+    /// builder.set_range_value(0x41..=0x5A, 1);
+    /// assert_eq!(builder.get(0x41), 1);
+    /// assert_eq!(builder.get(0x5B), 0);
+    /// assert_eq!(builder.get(0x110000), 9);
+    /// ```
+    #[must_use]
     #[inline]
     pub fn get(&self, c: u32) -> T {
         if c >= CODE_POINT_LIMIT {
@@ -74,11 +77,15 @@ impl<T: TrieValue> CodePointTrieBuilder<T> {
     ///
     /// ICU: `umutablecptrie_getRange`.
     ///
-    /// ```ignore
-    /// let mut builder = CodePointTrieBuilder::new(0u8, 9, TrieType::Fast);
-    /// builder.try_set_range_value(0x41..=0x5A, 1)?;
-    /// // builder.get_range(0x50) is the range 0x50..=0x5A with 1, then 0x5B..=0x10FFFF has 0
     /// ```
+    /// use bekstaudi::codepointtrie::{CodePointTrieBuilder, TrieType};
+    ///
+    /// let mut builder = CodePointTrieBuilder::new(0u8, 9, TrieType::Fast);
+    /// builder.set_range_value(0x41..=0x5A, 1);
+    /// let range = builder.get_range(0x50).expect("a code point");
+    /// assert_eq!((range.range, range.value), (0x50..=0x5A, 1));
+    /// ```
+    #[must_use]
     #[inline]
     pub fn get_range(&self, start: u32) -> Option<CodePointMapRange<T>> {
         if start >= CODE_POINT_LIMIT {
@@ -127,11 +134,16 @@ impl<T: TrieValue> CodePointTrieBuilder<T> {
     ///
     /// ICU: `umutablecptrie_fromUCPTrie`.
     ///
-    /// ```ignore
-    /// let mut builder = CodePointTrieBuilder::try_from_trie(&trie)?;
+    /// ```
+    /// use bekstaudi::codepointtrie::CodePointTrieBuilder;
+    /// use bekstaudi::codepointtrie::planes::get_planes_trie;
+    ///
+    /// let mut builder = CodePointTrieBuilder::try_from_trie(&get_planes_trie())?;
     /// builder.try_set_value(0x41, 7)?;
     /// let amended = builder.try_build()?;
-    /// // amended.get32(0x41) is 7, and amended.get32(0x42) is trie.get32(0x42)
+    /// assert_eq!(amended.get('A'), 7);
+    /// assert_eq!(amended.get32(0x1F600), 1);
+    /// # Ok::<(), Box<dyn std::error::Error>>(())
     /// ```
     ///
     /// # Errors

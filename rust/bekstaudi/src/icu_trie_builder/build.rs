@@ -1,18 +1,17 @@
 //! Building a trie from a map: the map's values become numbers, the numbers become a trie, and the
 //! cells of that trie become values again.
 
-#[allow(unused_imports)]
-use crate::support::prelude::*;
-use crate::icu_trie_builder::builder::CodePointTrieBuilder;
-use crate::icu_trie_builder::error::BuildError;
-use crate::icu_trie_builder::number_trie::{NumberTrie, build_numbers};
-use crate::icu_trie_builder::writes::Write;
 use crate::icu_trie::cptrie::CodePointTrie;
 use crate::icu_trie::error::PartsError;
 use crate::icu_trie::header::TrieType;
 use crate::icu_trie::value::TrieValue;
+use crate::icu_trie_builder::builder::CodePointTrieBuilder;
+use crate::icu_trie_builder::error::BuildError;
+use crate::icu_trie_builder::number_trie::{NumberTrie, build_numbers};
+use crate::icu_trie_builder::writes::Write;
 use crate::icu_trie_map::number_map::NumberMap;
-use crate::support::{AllocError};
+use crate::support::AllocError;
+use crate::support::prelude::*;
 
 /// Returns the value of each number. Each must be the number of a value.
 #[inline]
@@ -29,9 +28,7 @@ fn values_of<T: TrieValue>(numbers: &[u32]) -> Result<Vec<T>, AllocError> {
 
 /// Returns the trie of values that belongs to a trie of numbers.
 #[inline]
-fn trie_of<T: TrieValue>(
-    trie: NumberTrie,
-) -> Result<CodePointTrie<'static, T>, BuildError> {
+fn trie_of<T: TrieValue>(trie: NumberTrie) -> Result<CodePointTrie<'static, T>, BuildError> {
     let values = values_of::<T>(&trie.values)?;
     match CodePointTrie::alloc_from_slices(trie.header, &trie.index, &values) {
         Ok(trie) => Ok(trie),
@@ -55,11 +52,15 @@ fn build_map<T: TrieValue>(
 impl<T: TrieValue> CodePointTrieBuilder<T> {
     /// Builds the trie of the map. It has the builder's trie type, and owns its index and its data.
     ///
-    /// ```ignore
+    /// ```
+    /// use bekstaudi::codepointtrie::{CodePointTrieBuilder, TrieType};
+    ///
     /// let mut builder = CodePointTrieBuilder::new(0u16, 9, TrieType::Small);
     /// builder.try_set_value(0x20000, 10)?;
     /// let trie = builder.try_build()?;
-    /// // trie.get32(0x20000) is 10, and trie.get32(0x1FFFF) is 0
+    /// assert_eq!(trie.get32(0x20000), 10);
+    /// assert_eq!(trie.get32(0x1FFFF), 0);
+    /// # Ok::<(), Box<dyn std::error::Error>>(())
     /// ```
     ///
     /// # Errors
@@ -70,22 +71,22 @@ impl<T: TrieValue> CodePointTrieBuilder<T> {
     /// - `BuildError::Memory` if an allocation fails.
     #[inline]
     pub fn try_build(self) -> Result<CodePointTrie<'static, T>, BuildError> {
-        build_map(
-            &self.numbers,
-            self.default,
-            self.error,
-            self.trie_type,
-        )
+        build_map(&self.numbers, self.default, self.error, self.trie_type)
     }
 }
 
 /// Builds a trie from a list of writes, applied in order to a map that has the default everywhere.
 /// Each code point gets the value of the last accepted write that covers it.
 ///
-/// ```ignore
+/// ```
+/// use bekstaudi::codepointtrie::{TrieType, Write, try_build_from_writes};
+///
 /// let writes = [Write::Range(0x41..=0x5A, 1u8), Write::One(0x41, 0)];
 /// let trie = try_build_from_writes(0, 9, TrieType::Fast, &writes)?;
-/// // trie.get32(0x41) is 0, trie.get32(0x5A) is 1, and trie.get32(0x110000) is 9
+/// assert_eq!(trie.get32(0x41), 0);
+/// assert_eq!(trie.get32(0x5A), 1);
+/// assert_eq!(trie.get32(0x110000), 9);
+/// # Ok::<(), Box<dyn std::error::Error>>(())
 /// ```
 ///
 /// # Errors

@@ -1,10 +1,8 @@
 //! A map from code points that is written to, and then built into a trie.
 
-#[allow(unused_imports)]
-use crate::support::prelude::*;
-use crate::icu_trie_builder::writes::{ApplyRefused, Write};
 use crate::icu_trie::header::TrieType;
 use crate::icu_trie::value::TrieValue;
+use crate::icu_trie_builder::writes::{ApplyRefused, Write};
 use crate::icu_trie_map::number_map::NumberMap;
 use crate::icu_zerovec::{CODE_POINT_LIMIT, MemoryError};
 use core::ops::RangeInclusive;
@@ -13,14 +11,18 @@ use core::ops::RangeInclusive;
 ///
 /// ICU: `UMutableCPTrie`.
 ///
-/// ```ignore
-/// let mut builder = CodePointTrieBuilder::new(0u8, 9, TrieType::Fast);
-/// builder.try_set_range_value(0x41..=0x5A, 1)?;
-/// builder.try_set_value(0x41, 0)?;
-/// let trie = builder.try_build()?;
-/// // trie.get32(0x41) is 0, trie.get32(0x42) is 1, and trie.get32(0x110000) the error value, 9
 /// ```
-#[derive(Debug)]
+/// use bekstaudi::codepointtrie::{CodePointTrieBuilder, TrieType};
+///
+/// let mut builder = CodePointTrieBuilder::new(0u8, 9, TrieType::Fast);
+/// builder.set_range_value(0x41..=0x5A, 1);
+/// builder.set_value(0x41, 0);
+/// let trie = builder.build();
+/// assert_eq!(trie.get32(0x41), 0);
+/// assert_eq!(trie.get32(0x42), 1);
+/// assert_eq!(trie.get32(0x110000), 9);
+/// ```
+#[derive(Debug, Clone)]
 pub struct CodePointTrieBuilder<T: TrieValue> {
     // The number of each code point's value.
     pub(crate) numbers: NumberMap,
@@ -34,10 +36,9 @@ impl<T: TrieValue> CodePointTrieBuilder<T> {
     ///
     /// `error` is the value of all numbers above 0x10FFFF, and `trie_type` the type of the trie to
     /// build.
+    #[must_use]
     #[inline]
     pub fn new(default: T, error: T, trie_type: TrieType) -> Self {
-        default.shown();
-        error.shown();
         CodePointTrieBuilder {
             numbers: NumberMap::new(default.to_u32()),
             default,
@@ -48,9 +49,15 @@ impl<T: TrieValue> CodePointTrieBuilder<T> {
 
     /// Sets the value of the code point `c`. If `c` is above 0x10FFFF, nothing is written.
     ///
-    /// ```ignore
+    /// ```
+    /// use bekstaudi::codepointtrie::{CodePointTrieBuilder, TrieType};
+    ///
+    /// let mut builder = CodePointTrieBuilder::new(0u8, 9, TrieType::Fast);
     /// builder.try_set_value(0x1234, 7)?;
-    /// builder.try_set_value(0x110000, 8)?; // Ok, and nothing is written
+    /// builder.try_set_value(0x110000, 8)?;
+    /// assert_eq!(builder.get(0x1234), 7);
+    /// assert_eq!(builder.get(0x110000), 9);
+    /// # Ok::<(), Box<dyn std::error::Error>>(())
     /// ```
     ///
     /// # Errors
@@ -66,15 +73,21 @@ impl<T: TrieValue> CodePointTrieBuilder<T> {
     /// If the range is reversed or starts above 0x10FFFF, nothing is written. If it ends above
     /// 0x10FFFF, the code points up to 0x10FFFF are written.
     ///
-    /// ```ignore
+    /// ```
+    /// use bekstaudi::codepointtrie::{CodePointTrieBuilder, TrieType};
+    ///
+    /// let mut builder = CodePointTrieBuilder::new(0u8, 9, TrieType::Fast);
     /// builder.try_set_range_value(0x1000..=0x1FFF, 8)?;
-    /// builder.try_set_range_value(3..=2, 9)?; // Ok, and nothing is written
-    /// builder.try_set_range_value(0x10FFFF..=0x110005, 1)?; // writes at 0x10FFFF
+    /// builder.try_set_range_value(0x10FFFF..=0x110005, 1)?;
+    /// assert_eq!(builder.get(0x1FFF), 8);
+    /// assert_eq!(builder.get(0x10FFFF), 1);
+    /// # Ok::<(), Box<dyn std::error::Error>>(())
     /// ```
     ///
     /// # Errors
     /// Returns `MemoryError` if an allocation fails. The map is then unchanged. It never fails if
     /// nothing is written.
+    #[inline]
     pub fn try_set_range_value(
         &mut self,
         range: RangeInclusive<u32>,
@@ -85,15 +98,20 @@ impl<T: TrieValue> CodePointTrieBuilder<T> {
         if start > end {
             return Ok(());
         }
-        value.shown();
         self.numbers.set_range(start, end + 1, value.to_u32())?;
         Ok(())
     }
 
     /// Applies these writes in order.
     ///
-    /// ```ignore
-    /// builder.apply(&[Write::One(0x20000, 10), Write::Range(0x1FFF..=0x2000, 11)])?;
+    /// ```
+    /// use bekstaudi::codepointtrie::{CodePointTrieBuilder, TrieType, Write};
+    ///
+    /// let mut builder = CodePointTrieBuilder::new(0u8, 9, TrieType::Fast);
+    /// builder.apply(&[Write::Range(0x1FFF..=0x2000, 11), Write::One(0x2000, 10)])?;
+    /// assert_eq!(builder.get(0x1FFF), 11);
+    /// assert_eq!(builder.get(0x2000), 10);
+    /// # Ok::<(), Box<dyn std::error::Error>>(())
     /// ```
     ///
     /// # Errors

@@ -1,16 +1,15 @@
 //! The data of a trie: the first 128 cells, the distinct blocks of 64 and of 16, the high value and
 //! the error value.
 
-#[allow(unused_imports)]
-use crate::support::prelude::*;
+use crate::icu_trie::header::TrieType;
 use crate::icu_trie_builder::error::BuildError;
 use crate::icu_trie_builder::lengths::{FAST_BLOCK, SMALL_BLOCK};
 use crate::icu_trie_builder::map_blocks::{MAX_DATA_OFFSET, MapBlocks};
 use crate::icu_trie_builder::null_block::{NullBlock, place_null};
-use crate::icu_trie::header::TrieType;
 use crate::icu_trie_compaction::cell_store::CellStore;
 use crate::icu_trie_map::number_map::NumberMap;
-use crate::support::{AllocError};
+use crate::support::AllocError;
+use crate::support::prelude::*;
 
 /// The data offset that stands for "no null block". No block can have it.
 const NO_DATA_NULL_OFFSET: u32 = 0xfffff;

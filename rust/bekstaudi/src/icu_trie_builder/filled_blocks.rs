@@ -2,20 +2,16 @@
 //! neighbouring blocks below and above the fast limit have equal offsets more often, and index-3
 //! blocks of these offsets are found in the fast index.
 
-#[allow(unused_imports)]
-use crate::support::prelude::*;
 use crate::icu_trie_builder::lengths::{FAST_BLOCK, SMALL_BLOCK};
 use crate::icu_trie_builder::null_block::is_filled;
-use crate::support::{AllocError};
+use crate::support::AllocError;
+use crate::support::prelude::*;
 
 /// An offset that no block has.
 const NO_OFFSET: u32 = u32::MAX;
 
 /// Returns the offsets of the blocks of 64 that have one number throughout.
-pub(crate) fn filled_places(
-    cells: &[u32],
-    fast: &[u32],
-) -> Result<Vec<u32>, AllocError> {
+pub(crate) fn filled_places(cells: &[u32], fast: &[u32]) -> Result<Vec<u32>, AllocError> {
     let mut places = Vec::new();
     let mut last = NO_OFFSET;
     for offset in fast {

@@ -1,10 +1,9 @@
 //! Places the blocks of a map in the data.
 
-#[allow(unused_imports)]
-use crate::support::prelude::*;
 use crate::icu_trie_builder::error::BuildError;
 use crate::icu_trie_compaction::cell_store::CellStore;
 use crate::icu_trie_map::number_map::NumberMap;
+use crate::support::prelude::*;
 
 /// The greatest 18-bit offset of a block.
 pub(crate) const MAX_DATA_OFFSET: usize = 0x3ffff;

@@ -19,8 +19,6 @@
 //!
 //! The crate `icu_trie_compaction` places blocks and makes the index.
 
-#[allow(unused_imports)]
-use crate::support::prelude::*;
 mod amend;
 mod build;
 pub mod builder;

@@ -1,13 +1,12 @@
 //! The null block: a data block of one number, which a walk recognises by its offset and does not
 //! read.
 
-#[allow(unused_imports)]
-use crate::support::prelude::*;
 use crate::icu_trie_builder::error::BuildError;
 use crate::icu_trie_builder::filled_blocks::{filled_places, share_filled};
 use crate::icu_trie_builder::lengths::{FAST_BLOCK, SMALL_BLOCK};
 use crate::icu_trie_builder::used_numbers::most_used;
-use crate::support::{AllocError};
+use crate::support::AllocError;
+use crate::support::prelude::*;
 
 /// The offset of the null block, and its number.
 #[derive(Clone, Copy)]
@@ -86,11 +85,7 @@ fn find_either(
 /// Returns a block that has one number throughout, if there is one. It prefers a number that fills
 /// many blocks, and a block of 64 of that number.
 #[inline]
-fn choose(
-    cells: &[u32],
-    fast: &[u32],
-    small: &[u32],
-) -> Result<Option<FilledBlock>, AllocError> {
+fn choose(cells: &[u32], fast: &[u32], small: &[u32]) -> Result<Option<FilledBlock>, AllocError> {
     let used = most_used(cells, fast, small)?;
     match find_either(cells, fast, small, used) {
         Some(block) => Ok(Some(block)),

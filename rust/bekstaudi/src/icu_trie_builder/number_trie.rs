@@ -1,12 +1,11 @@
 //! Builds a whole trie of numbers.
 
-#[allow(unused_imports)]
-use crate::support::prelude::*;
+use crate::icu_trie::header::{CodePointTrieHeader, TrieType};
 use crate::icu_trie_builder::data::{PlacedData, place_data};
 use crate::icu_trie_builder::error::BuildError;
-use crate::icu_trie::header::{CodePointTrieHeader, TrieType};
 use crate::icu_trie_compaction::index::build_index;
 use crate::icu_trie_map::number_map::NumberMap;
+use crate::support::prelude::*;
 
 /// The parts of a trie whose values are numbers.
 pub(crate) struct NumberTrie {
@@ -38,13 +37,7 @@ pub(crate) fn build_numbers(
         small,
         null,
     } = place_data(numbers, error, default, trie_type, high_start)?;
-    let built = build_index(
-        trie_type,
-        high_start,
-        &fast,
-        &small,
-        null.offset as usize,
-    )?;
+    let built = build_index(trie_type, high_start, &fast, &small, null.offset as usize)?;
     let header = CodePointTrieHeader {
         high_start: high_start as u32,
         shifted12_high_start: high_start.div_ceil(0x1000) as u16,

@@ -1,11 +1,10 @@
 //! Estimates which number fills the most blocks. This is a heuristic: any result is correct, and no
 //! contract says which number it is.
 
-#[allow(unused_imports)]
-use crate::support::prelude::*;
 use crate::icu_trie_builder::lengths::{FAST_BLOCK, SMALL_BLOCK};
 use crate::icu_trie_builder::null_block::is_filled;
-use crate::support::{AllocError};
+use crate::support::AllocError;
+use crate::support::prelude::*;
 
 /// How many numbers are counted at the same time. Beyond that, a new number replaces the least used
 /// one.

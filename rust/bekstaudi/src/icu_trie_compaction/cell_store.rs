@@ -1,12 +1,11 @@
 //! Stores cells, finds blocks among them and appends blocks to them.
 
-#[allow(unused_imports)]
-use crate::support::prelude::*;
 use crate::icu_trie_compaction::blocks::overlap;
 use crate::icu_trie_compaction::error::BuildError;
 use crate::icu_trie_compaction::hashing::hash_of;
 use crate::icu_trie_compaction::window_table::WindowTable;
-use crate::support::{AllocError};
+use crate::support::AllocError;
+use crate::support::prelude::*;
 
 /// The cells stored so far, fewer than 2^30. A block can be found among them or appended.
 pub struct CellStore {
@@ -44,12 +43,14 @@ impl CellStore {
     }
 
     /// Returns the cells.
+    #[must_use]
     #[inline]
     pub fn cells(&self) -> &[u32] {
         &self.cells
     }
 
     /// Returns the cells as a list of their own.
+    #[must_use]
     #[inline]
     pub fn into_cells(self) -> Vec<u32> {
         self.cells
@@ -75,11 +76,7 @@ impl CellStore {
     ///
     /// - `TooLarge` if `wanted` does not occur and would start above `limit`.
     /// - `Memory` if an allocation fails.
-    pub(crate) fn place(
-        &mut self,
-        wanted: &[u32],
-        limit: usize,
-    ) -> Result<usize, BuildError> {
+    pub(crate) fn place(&mut self, wanted: &[u32], limit: usize) -> Result<usize, BuildError> {
         if let Some(at) = self.find(wanted)? {
             return Ok(at);
         }

@@ -5,7 +5,8 @@ use crate::icu_zerovec::memory::ApplyRefused;
 use crate::support::{AllocError, AllocFailed};
 
 /// The reasons why a trie could not be built.
-#[derive(Clone, Copy, Debug, PartialEq, Eq)]
+#[derive(Clone, Copy, Debug, PartialEq, Eq, Hash)]
+#[non_exhaustive]
 pub enum BuildError {
     /// The map has so many different blocks that an offset does not fit its cell.
     TooLarge,
@@ -45,8 +46,8 @@ impl core::fmt::Display for BuildError {
     #[inline]
     fn fmt(&self, f: &mut core::fmt::Formatter<'_>) -> core::fmt::Result {
         match self {
-            BuildError::TooLarge => write!(f, "too large"),
-            BuildError::Memory => write!(f, "no memory"),
+            BuildError::TooLarge => f.write_str("too large"),
+            BuildError::Memory => f.write_str("no memory"),
         }
     }
 }

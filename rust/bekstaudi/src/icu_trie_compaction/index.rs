@@ -1,8 +1,6 @@
 //! The index of a trie. It starts with the offsets of the blocks of 64 below the fast limit. For
 //! the code points from there on, index-1, the index-3 blocks and index-2 follow.
 
-#[allow(unused_imports)]
-use crate::support::prelude::*;
 use crate::icu_trie_compaction::cell_store::CellStore;
 use crate::icu_trie_compaction::error::BuildError;
 use crate::icu_trie_compaction::index2::{place_index2, with_unread};
@@ -10,8 +8,11 @@ pub use crate::icu_trie_compaction::index3::NO_INDEX3_NULL_OFFSET;
 use crate::icu_trie_compaction::index3::place_index3;
 use crate::icu_trie_compaction::lengths::INDEX_3_BLOCK;
 use crate::icu_trie_core::header::TrieType;
-use crate::icu_trie_core::impl_const::{CP_PER_INDEX_2_ENTRY, FAST_TYPE_DATA_BLOCK_LENGTH, SHIFT_1};
-use crate::support::{AllocError};
+use crate::icu_trie_core::impl_const::{
+    CP_PER_INDEX_2_ENTRY, FAST_TYPE_DATA_BLOCK_LENGTH, SHIFT_1,
+};
+use crate::support::AllocError;
+use crate::support::prelude::*;
 
 /// The number of code points that one index-1 cell covers.
 const CP_PER_INDEX_1_ENTRY: usize = 1 << SHIFT_1;

@@ -2,13 +2,12 @@
 //! stored once. A block may be anywhere among the index-3 and index-2 cells stored so far, and may
 //! overlap their tail.
 
-#[allow(unused_imports)]
-use crate::support::prelude::*;
 use crate::icu_trie_compaction::blocks::block_at;
 use crate::icu_trie_compaction::cell_store::CellStore;
 use crate::icu_trie_compaction::error::BuildError;
 use crate::icu_trie_compaction::lengths::INDEX_2_BLOCK;
-use crate::support::{AllocError};
+use crate::support::AllocError;
+use crate::support::prelude::*;
 
 /// A limit above every position of an index-2 block.
 const MOST_CELLS: usize = 0x10000;
@@ -16,10 +15,7 @@ const MOST_CELLS: usize = 0x10000;
 /// Returns the index-2 cells after `count` further cells that no look-up reads. These are copies of
 /// the first cell, so that they can often share storage.
 #[inline]
-pub(crate) fn with_unread(
-    cells: &[u32],
-    count: usize,
-) -> Result<Vec<u32>, AllocError> {
+pub(crate) fn with_unread(cells: &[u32], count: usize) -> Result<Vec<u32>, AllocError> {
     let mut all = try_vec![cells[0]; count]?;
     all.try_extend_from_slice(cells)?;
     Ok(all)
@@ -27,10 +23,7 @@ pub(crate) fn with_unread(
 
 /// Places the whole blocks of 32 cells, and returns the position of each in `store`.
 #[inline]
-fn place_whole(
-    store: &mut CellStore,
-    cells: &[u32],
-) -> Result<Vec<usize>, BuildError> {
+fn place_whole(store: &mut CellStore, cells: &[u32]) -> Result<Vec<usize>, BuildError> {
     let count = cells.len() / INDEX_2_BLOCK;
     let mut places = Vec::with_room(count + 1)?;
     for number in 0..count {
@@ -44,10 +37,7 @@ fn place_whole(
 /// Places all blocks of 32 cells, and returns the position of each in `store`. The last block may
 /// be shorter.
 #[inline]
-pub(crate) fn place_index2(
-    store: &mut CellStore,
-    cells: &[u32],
-) -> Result<Vec<usize>, BuildError> {
+pub(crate) fn place_index2(store: &mut CellStore, cells: &[u32]) -> Result<Vec<usize>, BuildError> {
     let mut places = place_whole(store, cells)?;
     let rest = cells.len() % INDEX_2_BLOCK;
     if rest > 0 {

@@ -3,13 +3,12 @@
 //! anywhere among the cells stored so far, and may overlap their tail. A 16-bit block may also be
 //! in the fast index.
 
-#[allow(unused_imports)]
-use crate::support::prelude::*;
 use crate::icu_trie_compaction::blocks::block_at;
 use crate::icu_trie_compaction::cell_store::CellStore;
 use crate::icu_trie_compaction::error::BuildError;
 use crate::icu_trie_compaction::lengths::INDEX_3_BLOCK;
 use crate::icu_trie_compaction::packing::pack;
+use crate::support::prelude::*;
 
 /// The index-3 offset that stands for "no null block". No block has this offset.
 pub const NO_INDEX3_NULL_OFFSET: u16 = 0x7fff;

@@ -1,8 +1,7 @@
 //! The 18-bit form of data offsets in an index-3 block: nine cells for eight offsets.
 
-#[allow(unused_imports)]
+use crate::support::AllocError;
 use crate::support::prelude::*;
-use crate::support::{AllocError};
 
 /// Returns bits 16 and 17 of an offset.
 #[inline]

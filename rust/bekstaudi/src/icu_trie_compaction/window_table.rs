@@ -1,10 +1,9 @@
 //! A hash table of the windows of some cells. Of equal windows it has the first one. The hash makes
 //! it unnecessary to compare a window with every other one.
 
-#[allow(unused_imports)]
-use crate::support::prelude::*;
 use crate::icu_trie_compaction::hashing::{hash_after, hash_of, leaving_factor_of};
-use crate::support::{AllocError};
+use crate::support::AllocError;
+use crate::support::prelude::*;
 
 /// The number of buckets of a new table.
 const FIRST_BUCKETS: usize = 256;
@@ -36,10 +35,7 @@ impl WindowTable {
     ///
     /// `AllocError` if the allocation fails.
     #[inline]
-    pub(crate) fn for_cells(
-        size: usize,
-        cells: usize,
-    ) -> Result<WindowTable, AllocError> {
+    pub(crate) fn for_cells(size: usize, cells: usize) -> Result<WindowTable, AllocError> {
         let buckets = cells.max(FIRST_BUCKETS).min(MOST_BUCKETS);
         WindowTable::with_buckets(size, buckets)
     }
@@ -120,7 +116,7 @@ impl WindowTable {
 
     /// Empties a full table and gives it more buckets.
     #[inline]
-    fn grow(&mut self, ) -> Result<(), AllocError> {
+    fn grow(&mut self) -> Result<(), AllocError> {
         let buckets = self.heads.len();
         if self.starts.len() > buckets && buckets < MOST_BUCKETS {
             *self = WindowTable::with_buckets(self.size, 4 * buckets)?;

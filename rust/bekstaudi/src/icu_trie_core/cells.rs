@@ -1,7 +1,5 @@
 //! The index and the data of a trie, cell by cell, with a count of the reads.
 
-use crate::support::{Blank, Book, Ledger, Share};
-
 /// The index and the data of a trie, wherever they are stored.
 ///
 /// [`look_up`](crate::icu_trie_core::lookup::look_up) reads a trie only through these methods, so their count is
@@ -48,29 +46,5 @@ pub trait Cells<T> {
             Some(cell) => cell,
             None => unreachable!(),
         }
-    }
-}
-
-/// A counter of steps that exists only in proofs and takes no bytes. Only [`tick`](Steps::tick)
-/// changes it.
-pub struct Steps<L: Ledger> {
-    book: Book<L>,
-    share: Share<L>,
-}
-
-impl<L: Ledger> Steps<L> {
-    /// Creates a counter at zero.
-    ///
-    /// `blank` is the unused counter of the ledger `L`, made by `Blank::new(1)`.
-    #[inline(always)]
-    pub(crate) fn new(blank: Blank) -> Self {
-        let (book, share) = blank.open::<L>();
-        Steps { book, share }
-    }
-
-    /// Adds one to the count.
-    #[inline(always)]
-    pub fn tick(&mut self) {
-        self.book.add(&mut self.share, 1);
     }
 }

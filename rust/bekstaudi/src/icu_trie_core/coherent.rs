@@ -4,8 +4,6 @@
 //! alone says whether the block is inside the data. Cells are read only in two cases: the header
 //! names the block as null, or the fast index continues above the high start.
 
-#[allow(unused_imports)]
-use crate::support::prelude::*;
 use crate::icu_trie_core::cells::Cells;
 use crate::icu_trie_core::header::CodePointTrieHeader;
 use crate::icu_trie_core::impl_const::{
@@ -145,7 +143,10 @@ fn is_cell<T: TrieValue, C: Cells<T>>(
 }
 
 /// Returns true if each block of 512 from the fast limit up to the high start passes `is_cell`.
-fn has_small_blocks<T: TrieValue, C: Cells<T>>(header: &CodePointTrieHeader, cells: &mut C) -> bool {
+fn has_small_blocks<T: TrieValue, C: Cells<T>>(
+    header: &CodePointTrieHeader,
+    cells: &mut C,
+) -> bool {
     let null_block = is_null_block(
         header,
         cells,
@@ -154,9 +155,9 @@ fn has_small_blocks<T: TrieValue, C: Cells<T>>(header: &CodePointTrieHeader, cel
     );
     let null_cell = is_null_cell(header, cells);
     let mut known = None;
-    for block in header.trie_type.fast_limit() / CP_PER_INDEX_2_ENTRY..header
-        .high_start
-        .div_ceil(CP_PER_INDEX_2_ENTRY) {
+    for block in header.trie_type.fast_limit() / CP_PER_INDEX_2_ENTRY
+        ..header.high_start.div_ceil(CP_PER_INDEX_2_ENTRY)
+    {
         let Some(cell) = index2_cell_of(header.trie_type, cells, block * CP_PER_INDEX_2_ENTRY)
         else {
             return false;
@@ -178,12 +179,14 @@ fn has_high_blocks<T: TrieValue, C: Cells<T>>(
 ) -> bool {
     let mut known = None;
     for block in header.high_start.div_ceil(FAST_TYPE_DATA_BLOCK_LENGTH)
-        ..header.trie_type.fast_limit() / FAST_TYPE_DATA_BLOCK_LENGTH {
+        ..header.trie_type.fast_limit() / FAST_TYPE_DATA_BLOCK_LENGTH
+    {
         let Some(offset) = cells.index_cell(block as usize) else {
             return false;
         };
         if known != Some(offset)
-            && !are_all(cells, u32::from(offset), FAST_TYPE_DATA_BLOCK_LENGTH, high) {
+            && !are_all(cells, u32::from(offset), FAST_TYPE_DATA_BLOCK_LENGTH, high)
+        {
             return false;
         }
         known = Some(offset);
@@ -233,7 +236,9 @@ fn has_coherent_blocks<T: TrieValue, C: Cells<T>>(
 /// not checked again.
 #[inline]
 pub fn is_coherent<T: TrieValue, C: Cells<T>>(header: &CodePointTrieHeader, cells: &mut C) -> bool {
-    if header.high_start % CP_PER_INDEX_2_ENTRY != 0 || header.high_start > CODE_POINT_LIMIT {
+    if !header.high_start.is_multiple_of(CP_PER_INDEX_2_ENTRY)
+        || header.high_start > CODE_POINT_LIMIT
+    {
         return false;
     }
     has_coherent_blocks(header, cells)

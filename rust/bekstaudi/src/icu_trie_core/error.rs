@@ -1,7 +1,8 @@
 //! Why the parts of a trie are rejected.
 
 /// The reasons why parts do not form a trie.
-#[derive(Clone, Copy, Debug, PartialEq)]
+#[derive(Clone, Copy, Debug, PartialEq, Eq, Hash)]
+#[non_exhaustive]
 pub enum CodePointTrieError {
     /// The contents of a file do not form a trie.
     FromDeserialized {
@@ -23,10 +24,10 @@ impl core::fmt::Display for CodePointTrieError {
     fn fmt(&self, f: &mut core::fmt::Formatter<'_>) -> core::fmt::Result {
         match self {
             CodePointTrieError::FromDeserialized { reason, .. } => write!(f, "Could not construct CodePointTrie from deserialized values: {reason}"),
-            CodePointTrieError::EmptyDataVector => write!(f, "CodePointTrie must be constructed from data vector with at least one element"),
-            CodePointTrieError::IndexTooShortForFastAccess => write!(f, "CodePointTrie must be constructed from index vector long enough to accommodate fast-path access"),
-            CodePointTrieError::DataTooShortForFastAccess => write!(f, "CodePointTrie must be constructed from data vector long enough to accommodate fast-path access"),
-            CodePointTrieError::InvalidNullValue => write!(f, "The null value is not a valid `T`"),
+            CodePointTrieError::EmptyDataVector => f.write_str("CodePointTrie must be constructed from data vector with at least one element"),
+            CodePointTrieError::IndexTooShortForFastAccess => f.write_str("CodePointTrie must be constructed from index vector long enough to accommodate fast-path access"),
+            CodePointTrieError::DataTooShortForFastAccess => f.write_str("CodePointTrie must be constructed from data vector long enough to accommodate fast-path access"),
+            CodePointTrieError::InvalidNullValue => f.write_str("The null value is not a valid `T`"),
         }
     }
 }

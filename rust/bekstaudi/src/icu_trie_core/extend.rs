@@ -5,8 +5,6 @@
 //! a walk sees nothing: a missing cell, or a block that is named as null if the null value does not
 //! exist.
 
-#[allow(unused_imports)]
-use crate::support::prelude::*;
 use crate::icu_trie_core::cells::Cells;
 use crate::icu_trie_core::header::CodePointTrieHeader;
 use crate::icu_trie_core::impl_const::{
@@ -26,6 +24,7 @@ pub(crate) fn blocks_end_of(header: &CodePointTrieHeader) -> u32 {
 }
 
 /// What a walk looks for: how far `value` extends in the trie with this header.
+#[derive(Clone)]
 pub(crate) struct Walk<'a, T> {
     /// The header of the trie.
     pub(crate) header: &'a CodePointTrieHeader,
@@ -113,7 +112,12 @@ impl<'a, T: TrieValue> Walk<'a, T> {
     /// Returns the first position in `range` of an index-3 block with another value, or the end of
     /// `range` if there is none. It goes through the blocks of 16.
     #[inline(never)]
-    fn extend_index3<C: Cells<T>>(&self, cells: &mut C, cell: u16, range: Range<u32>) -> Option<u32> {
+    fn extend_index3<C: Cells<T>>(
+        &self,
+        cells: &mut C,
+        cell: u16,
+        range: Range<u32>,
+    ) -> Option<u32> {
         let len = range.end;
         let mut remembered = None;
         let blocks = len.div_ceil(SMALL_DATA_BLOCK_LENGTH);

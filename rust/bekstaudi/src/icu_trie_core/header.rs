@@ -1,14 +1,12 @@
 //! The header of a trie.
 
-#[allow(unused_imports)]
-use crate::support::prelude::*;
 use crate::icu_trie_core::error::CodePointTrieError;
 use crate::icu_trie_core::impl_const::{
     BMP_INDEX_LENGTH, FAST_TYPE_FAST_INDEXING_MAX, SMALL_INDEX_LENGTH, SMALL_LIMIT,
 };
 
 /// The part of the code space that the fast index covers.
-#[derive(Clone, Copy, Debug, PartialEq, Eq)]
+#[derive(Clone, Copy, Debug, PartialEq, Eq, Hash)]
 pub enum TrieType {
     /// The whole BMP: a look-up below 0x10000 takes two reads. The tables are larger.
     Fast = 0,
@@ -19,8 +17,9 @@ pub enum TrieType {
 impl TrieType {
     /// Returns the fast limit: the first code point that the fast index does not cover, 0x10000 or
     /// 0x1000.
+    #[must_use]
     #[inline(always)]
-    pub fn fast_limit(self) -> u32 {
+    pub const fn fast_limit(self) -> u32 {
         match self {
             TrieType::Fast => FAST_TYPE_FAST_INDEXING_MAX + 1,
             TrieType::Small => SMALL_LIMIT,
@@ -29,8 +28,9 @@ impl TrieType {
 
     /// Returns the number of cells in the fast index, one for each block of 64 below the fast
     /// limit: 1,024 or 64.
+    #[must_use]
     #[inline(always)]
-    pub fn fast_index_len(self) -> usize {
+    pub const fn fast_index_len(self) -> usize {
         match self {
             TrieType::Fast => BMP_INDEX_LENGTH as usize,
             TrieType::Small => SMALL_INDEX_LENGTH as usize,
@@ -56,7 +56,7 @@ impl TryFrom<u8> for TrieType {
 }
 
 /// The header of a trie: what it stores besides its index and its data (ICU: `UCPTrie`).
-#[derive(Clone, Copy, Debug, PartialEq, Eq)]
+#[derive(Clone, Copy, Debug, PartialEq, Eq, Hash)]
 pub struct CodePointTrieHeader {
     /// All code points from this one on have the high value. In a built trie it is a multiple of
     /// 512.

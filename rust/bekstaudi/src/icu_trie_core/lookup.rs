@@ -34,7 +34,11 @@ fn long_offset_of(high: u16, low: u16, place: u32) -> u32 {
 /// Returns data offset number `place`, one of 32, of the index-3 block that an index-2 cell names.
 /// Takes at most two reads.
 #[inline]
-pub(crate) fn offset_of<T, C: Cells<T>>(cells: &mut C, index2_cell: u16, place: u32) -> Option<u32> {
+pub(crate) fn offset_of<T, C: Cells<T>>(
+    cells: &mut C,
+    index2_cell: u16,
+    place: u32,
+) -> Option<u32> {
     if index2_cell & 0x8000 == 0 {
         let offset = cells.index_cell(index2_cell as usize + place as usize)?;
         return Some(offset as u32);
@@ -70,7 +74,11 @@ pub(crate) fn high_cell_of(len: usize) -> Option<usize> {
 /// Returns `None` if `c` is above 0x10FFFF, if a cell of the index is missing, or if the high value
 /// is missing. Takes at most four reads. Public for the crates that build on this one.
 #[inline]
-pub fn cell_of<T, C: Cells<T>>(header: &CodePointTrieHeader, cells: &mut C, c: u32) -> Option<usize> {
+pub fn cell_of<T, C: Cells<T>>(
+    header: &CodePointTrieHeader,
+    cells: &mut C,
+    c: u32,
+) -> Option<usize> {
     if c < header.trie_type.fast_limit() {
         let offset = cells.index_cell((c >> FAST_TYPE_SHIFT) as usize)?;
         return Some(offset as usize + (c & FAST_TYPE_DATA_MASK) as usize);
@@ -106,7 +114,11 @@ pub fn look_up<T, C: Cells<T>>(header: &CodePointTrieHeader, cells: &mut C, c: u
 ///
 /// Public for the crates that build on this one.
 #[inline(always)]
-pub(crate) fn look_up_fast<T, C: Cells<T>>(header: &CodePointTrieHeader, cells: &mut C, c: u32) -> T {
+pub(crate) fn look_up_fast<T, C: Cells<T>>(
+    header: &CodePointTrieHeader,
+    cells: &mut C,
+    c: u32,
+) -> T {
     let offset = cells.index_at((c >> FAST_TYPE_SHIFT) as usize);
     cells.data_at(offset as usize + (c & FAST_TYPE_DATA_MASK) as usize)
 }
@@ -124,7 +136,11 @@ fn high_value_of<T, C: Cells<T>>(cells: &mut C) -> T {
 /// The fast index must be whole, which implies that the data have a high value. Public for the
 /// crates that build on this one.
 #[inline(always)]
-pub(crate) fn look_up_high<T, C: Cells<T>>(header: &CodePointTrieHeader, cells: &mut C, c: u32) -> T {
+pub(crate) fn look_up_high<T, C: Cells<T>>(
+    header: &CodePointTrieHeader,
+    cells: &mut C,
+    c: u32,
+) -> T {
     high_value_of(cells)
 }
 
@@ -133,7 +149,11 @@ pub(crate) fn look_up_high<T, C: Cells<T>>(header: &CodePointTrieHeader, cells: 
 /// Each case reads its own data cell, since one shared read at the end would cost each case an
 /// extra test and jump.
 #[inline(always)]
-pub(crate) fn look_up_far<T, C: Cells<T>>(header: &CodePointTrieHeader, cells: &mut C, c: u32) -> Option<T> {
+pub(crate) fn look_up_far<T, C: Cells<T>>(
+    header: &CodePointTrieHeader,
+    cells: &mut C,
+    c: u32,
+) -> Option<T> {
     if c > CODE_POINT_MAX {
         return None;
     }

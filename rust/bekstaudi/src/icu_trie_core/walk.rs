@@ -16,10 +16,9 @@ use crate::icu_trie_core::value::TrieValue;
 use crate::icu_zerovec::CODE_POINT_LIMIT;
 
 /// Returns true if two values are equal. Public for the crates that build on this one.
+#[must_use]
 #[inline]
 pub fn is_same<T: TrieValue>(x: T, y: T) -> bool {
-    x.shown();
-    y.shown();
     x == y
 }
 

@@ -1,16 +1,16 @@
 //! Reads and writes a trie as JSON: an object with a header, an index and data.
 
-#[allow(unused_imports)]
-use crate::support::prelude::*;
 use crate::icu_trie::cptrie::CodePointTrie;
 use crate::icu_trie::error::{CodePointTrieError, PartsError};
 use crate::icu_trie::header::{CodePointTrieHeader, TrieType};
 use crate::icu_trie::value::TrieValue;
 use crate::icu_zerovec::{MemoryError, ZeroSlice};
+use crate::support::prelude::*;
 use serde_json::{Value, json};
 
 /// Why a JSON value is not a trie.
-#[derive(Clone, Copy, Debug, PartialEq)]
+#[derive(Clone, Copy, Debug, PartialEq, Eq, Hash)]
+#[non_exhaustive]
 pub enum TrieJsonError {
     /// The member at this key is missing, or is not the required object, array or name of a trie
     /// type. The key is empty if the value itself is not an object.
@@ -179,7 +179,6 @@ fn trie_with<T: TrieValue>(
 fn numbers_json<T: TrieValue>(values: ZeroSlice<'_, T>) -> Result<Value, MemoryError> {
     let mut items = Vec::with_room(values.len())?;
     for value in values.iter() {
-        value.shown();
         items.try_push(Value::from(value.to_u32()))?;
     }
     Ok(Value::Array(items))
@@ -221,10 +220,14 @@ fn object_of(header: Value, index: Value, data: Value) -> Result<Value, MemoryEr
 /// string `Fast` or `Small`. `index` is an array of whole numbers up to 65535, and `data` is an
 /// array of the numbers of the values. Other keys are ignored.
 ///
-/// ```ignore
+/// ```
+/// use bekstaudi::codepointtrie::json::{from_json, to_json};
+/// use bekstaudi::codepointtrie::planes::get_planes_trie;
+///
 /// let value = to_json(&get_planes_trie())?;
 /// let trie = from_json::<u8>(&value)?;
-/// // trie.get32(0x1F600) is 1
+/// assert_eq!(trie.get32(0x1F600), 1);
+/// # Ok::<(), Box<dyn std::error::Error>>(())
 /// ```
 ///
 /// # Errors
@@ -246,9 +249,7 @@ fn object_of(header: Value, index: Value, data: Value) -> Result<Value, MemoryEr
 ///
 /// Returns `Memory` if an allocation fails.
 #[inline]
-pub fn from_json<T: TrieValue>(
-    value: &Value,
-) -> Result<CodePointTrie<'static, T>, TrieJsonError> {
+pub fn from_json<T: TrieValue>(value: &Value) -> Result<CodePointTrie<'static, T>, TrieJsonError> {
     if !value.is_object() {
         return Err(TrieJsonError::Shape(""));
     }
@@ -262,17 +263,19 @@ pub fn from_json<T: TrieValue>(
 /// Writes the trie as a JSON value that [`from_json`] can read: an object with the keys `header`,
 /// `index` and `data`.
 ///
-/// ```ignore
+/// ```
+/// use bekstaudi::codepointtrie::json::to_json;
+/// use bekstaudi::codepointtrie::planes::get_planes_trie;
+///
 /// let value = to_json(&get_planes_trie())?;
-/// // value["header"]["trie_type"] is "Small"
+/// assert_eq!(value["header"]["trie_type"], "Small");
+/// # Ok::<(), Box<dyn std::error::Error>>(())
 /// ```
 ///
 /// # Errors
 /// Returns `MemoryError` if an allocation fails.
 #[inline]
-pub fn to_json<T: TrieValue>(
-    trie: &CodePointTrie<'_, T>,
-) -> Result<Value, MemoryError> {
+pub fn to_json<T: TrieValue>(trie: &CodePointTrie<'_, T>) -> Result<Value, MemoryError> {
     let (header, index, values) = trie.parts();
     let header = header_json(header)?;
     let index = numbers_json(index)?;
@@ -285,11 +288,17 @@ impl core::fmt::Display for TrieJsonError {
     #[inline]
     fn fmt(&self, f: &mut core::fmt::Formatter<'_>) -> core::fmt::Result {
         match self {
-            TrieJsonError::Shape(_0) => write!(f, "no value of the right kind at the key `{_0}`"),
-            TrieJsonError::Number(_0) => write!(f, "no whole number in its range at the key `{_0}`"),
-            TrieJsonError::Value(_0) => write!(f, "cell {_0} of the data is the number of no value"),
-            TrieJsonError::Trie(_0) => write!(f, "{_0}"),
-            TrieJsonError::Memory => write!(f, "no memory"),
+            TrieJsonError::Shape(field) => {
+                write!(f, "no value of the right kind at the key `{field}`")
+            }
+            TrieJsonError::Number(field) => {
+                write!(f, "no whole number in its range at the key `{field}`")
+            }
+            TrieJsonError::Value(field) => {
+                write!(f, "cell {field} of the data is the number of no value")
+            }
+            TrieJsonError::Trie(field) => write!(f, "{field}"),
+            TrieJsonError::Memory => f.write_str("no memory"),
         }
     }
 }

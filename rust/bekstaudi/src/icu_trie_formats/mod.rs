@@ -10,5 +10,5 @@
 #[cfg(feature = "json")]
 pub mod json;
 pub mod planes;
-#[cfg(feature = "toml")]
+#[cfg(any(feature = "toml", feature = "serde"))]
 pub mod trie_toml;

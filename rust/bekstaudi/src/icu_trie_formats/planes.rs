@@ -1,7 +1,5 @@
 //! The trie of the planes: the value of the code point `c` is the number of its plane, `c >> 16`.
 
-#[allow(unused_imports)]
-use crate::support::prelude::*;
 mod table;
 
 use crate::icu_trie::cptrie::CodePointTrie;
@@ -32,10 +30,14 @@ fn data_cells() -> ZeroVec<'static, u8> {
 ///
 /// The trie borrows its cells from the program. Creating it allocates nothing.
 ///
-/// ```ignore
-/// let planes = get_planes_trie();
-/// // planes.get32(0x1F600) is 1, planes.get32(0x10FFFF) is 16
 /// ```
+/// use bekstaudi::codepointtrie::planes::get_planes_trie;
+///
+/// let planes = get_planes_trie();
+/// assert_eq!(planes.get32(0x1F600), 1);
+/// assert_eq!(planes.get32(0x10FFFF), 16);
+/// ```
+#[must_use]
 pub fn get_planes_trie() -> CodePointTrie<'static, u8> {
     let header = CodePointTrieHeader {
         high_start: 0x10_0000,

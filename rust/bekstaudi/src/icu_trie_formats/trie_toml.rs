@@ -1,18 +1,19 @@
 //! Reads a trie from TOML in the form that ICU4C exports: a table with the header, the index, and
 //! the data in one of three widths.
 
-#[allow(unused_imports)]
-use crate::support::prelude::*;
 use crate::icu_trie::cptrie::CodePointTrie;
 use crate::icu_trie::error::{CodePointTrieError, PartsError};
 use crate::icu_trie::header::{CodePointTrieHeader, TrieType};
 use crate::icu_trie::value::TrieValue;
 use crate::icu_zerovec::MemoryError;
-use crate::support::{AllocError};
+use crate::support::AllocError;
+use crate::support::prelude::*;
+#[cfg(feature = "toml")]
 use toml::value::{Table, Value};
 
 /// Why a table is rejected.
-#[derive(Clone, Copy, Debug, PartialEq, Eq)]
+#[derive(Clone, Copy, Debug, PartialEq, Eq, Hash)]
+#[non_exhaustive]
 pub enum TomlError {
     /// The value at this required key is missing.
     Missing(&'static str),
@@ -30,7 +31,8 @@ impl From<MemoryError> for TomlError {
 }
 
 /// Why the contents of a table are not a trie.
-#[derive(Clone, Copy, Debug, PartialEq)]
+#[derive(Clone, Copy, Debug, PartialEq, Eq, Hash)]
+#[non_exhaustive]
 pub enum TrieFromTomlError {
     /// The parts do not form a trie.
     Trie(CodePointTrieError),
@@ -67,7 +69,7 @@ impl From<TomlError> for TrieFromTomlError {
 }
 
 /// The data cells of a trie in a table, in their width there.
-#[derive(Clone, Copy, Debug)]
+#[derive(Clone, Copy, Debug, PartialEq, Eq)]
 pub enum CodePointDataSlice<'a> {
     /// 8-bit cells.
     U8(&'a [u8]),
@@ -79,41 +81,41 @@ pub enum CodePointDataSlice<'a> {
 
 /// The numbers of a table besides its arrays.
 #[derive(Clone, Copy, Debug)]
-struct TomlFields {
-    high_start: u32,
-    shifted12_high_start: u16,
-    trie_type: u8,
-    value_width: u8,
-    index3_null_offset: u16,
-    data_null_offset: u32,
-    null_value: u32,
+pub(crate) struct TomlFields {
+    pub(crate) high_start: u32,
+    pub(crate) shifted12_high_start: u16,
+    pub(crate) trie_type: u8,
+    pub(crate) value_width: u8,
+    pub(crate) index3_null_offset: u16,
+    pub(crate) data_null_offset: u32,
+    pub(crate) null_value: u32,
 }
 
 /// The contents of a TOML table with a trie, as ICU4C exports it.
-#[derive(Debug)]
+#[derive(Debug, Clone)]
 pub struct CodePointTrieToml {
-    index: Vec<u16>,
-    data_8: Option<Vec<u8>>,
-    data_16: Option<Vec<u16>>,
-    data_32: Option<Vec<u32>>,
-    fields: TomlFields,
+    pub(crate) index: Vec<u16>,
+    pub(crate) data_8: Option<Vec<u8>>,
+    pub(crate) data_16: Option<Vec<u16>>,
+    pub(crate) data_32: Option<Vec<u32>>,
+    pub(crate) fields: TomlFields,
 }
 
 /// Returns the number of a TOML value if it is a whole number of a value of this type.
-#[inline]
+#[cfg(feature = "toml")]
 fn number_of<N: TrieValue>(value: &Value) -> Option<N> {
     let number = u32::try_from(value.as_integer()?).ok()?;
     N::try_from_u32(number).ok()
 }
 
 /// Returns the value at a key.
-#[inline]
+#[cfg(feature = "toml")]
 fn value_at<'a>(table: &'a Table, key: &str) -> Option<&'a Value> {
     table.get(key)
 }
 
 /// Returns the number at a required key.
-#[inline]
+#[cfg(feature = "toml")]
 fn number_at<N: TrieValue>(table: &Table, key: &'static str) -> Result<N, TomlError> {
     let Some(value) = value_at(table, key) else {
         return Err(TomlError::Missing(key));
@@ -125,7 +127,7 @@ fn number_at<N: TrieValue>(table: &Table, key: &'static str) -> Result<N, TomlEr
 }
 
 /// Returns the items of an array.
-#[inline]
+#[cfg(feature = "toml")]
 fn items_of(value: &Value) -> Option<&[Value]> {
     match value.as_array() {
         Some(items) => Some(items.as_slice()),
@@ -134,10 +136,8 @@ fn items_of(value: &Value) -> Option<&[Value]> {
 }
 
 /// Returns the numbers of the items of an array, in their order.
-fn numbers_of_items<N: TrieValue>(
-    items: &[Value],
-    key: &'static str,
-) -> Result<Vec<N>, TomlError> {
+#[cfg(feature = "toml")]
+fn numbers_of_items<N: TrieValue>(items: &[Value], key: &'static str) -> Result<Vec<N>, TomlError> {
     let Ok(mut numbers) = Vec::with_room(items.len()) else {
         return Err(TomlError::Memory);
     };
@@ -153,7 +153,7 @@ fn numbers_of_items<N: TrieValue>(
 }
 
 /// Returns the numbers of the array at a key, or `None` if the key is missing.
-#[inline]
+#[cfg(feature = "toml")]
 fn optional_numbers_at<N: TrieValue>(
     table: &Table,
     key: &'static str,
@@ -169,11 +169,8 @@ fn optional_numbers_at<N: TrieValue>(
 }
 
 /// Returns the numbers of the array at a required key.
-#[inline]
-fn numbers_at<N: TrieValue>(
-    table: &Table,
-    key: &'static str,
-) -> Result<Vec<N>, TomlError> {
+#[cfg(feature = "toml")]
+fn numbers_at<N: TrieValue>(table: &Table, key: &'static str) -> Result<Vec<N>, TomlError> {
     let Some(numbers) = optional_numbers_at(table, key)? else {
         return Err(TomlError::Missing(key));
     };
@@ -181,7 +178,7 @@ fn numbers_at<N: TrieValue>(
 }
 
 /// Returns the numbers of a table besides its arrays.
-#[inline]
+#[cfg(feature = "toml")]
 fn fields_of(table: &Table) -> Result<TomlFields, TomlError> {
     Ok(TomlFields {
         high_start: number_at(table, "highStart")?,
@@ -195,17 +192,17 @@ fn fields_of(table: &Table) -> Result<TomlFields, TomlError> {
 }
 
 /// Returns the values whose numbers are in the cells.
-fn values_of<N: TrieValue, T: TrieValue>(
-    cells: &[N],
-) -> Result<Vec<T>, TrieFromTomlError> {
+fn values_of<N: TrieValue, T: TrieValue>(cells: &[N]) -> Result<Vec<T>, TrieFromTomlError> {
     let Ok(mut values) = Vec::with_room(cells.len()) else {
         return Err(TrieFromTomlError::Memory);
     };
     for cell in cells {
         let Ok(value) = T::try_from_u32(cell.to_u32()) else {
-            return Err(TrieFromTomlError::Trie(CodePointTrieError::FromDeserialized {
-                reason: "Could not parse data array to typed array",
-            }));
+            return Err(TrieFromTomlError::Trie(
+                CodePointTrieError::FromDeserialized {
+                    reason: "Could not parse data array to typed array",
+                },
+            ));
         };
         let Ok(()) = values.try_push(value) else {
             return Err(TrieFromTomlError::Memory);
@@ -226,9 +223,22 @@ impl CodePointTrieToml {
     ///
     /// Other keys are ignored.
     ///
-    /// ```ignore
-    /// let read = CodePointTrieToml::from_table(&toml::from_str(text)?)?;
+    /// ```
+    /// use bekstaudi::codepointtrie::CodePointTrie;
+    /// use bekstaudi::codepointtrie::trie_toml::CodePointTrieToml;
+    ///
+    /// // The value 7 for each code point.
+    /// let text = format!(
+    ///     "index = [{}]\ndata_8 = [{}]\nindexLength = 64\ndataLength = 128\n\
+    ///      highStart = 0\nshifted12HighStart = 0\ntype = 1\nvalueWidth = 2\n\
+    ///      index3NullOffset = 0x7fff\ndataNullOffset = 0\nnullValue = 7\n",
+    ///     "0, ".repeat(64),
+    ///     "7, ".repeat(128)
+    /// );
+    /// let read = CodePointTrieToml::from_table(&toml::from_str(&text)?)?;
     /// let trie = CodePointTrie::<u8>::try_from(&read)?;
+    /// assert_eq!(trie.get('a'), 7);
+    /// # Ok::<(), Box<dyn std::error::Error>>(())
     /// ```
     ///
     /// # Errors
@@ -239,7 +249,7 @@ impl CodePointTrieToml {
     /// - `OutOfRange` with the key if its value is of another kind, or a number is out of range.
     ///
     /// Returns `Memory` if an allocation fails.
-    #[inline]
+    #[cfg(feature = "toml")]
     pub fn from_table(table: &Table) -> Result<CodePointTrieToml, TomlError> {
         Ok(CodePointTrieToml {
             index: numbers_at(table, "index")?,
@@ -251,6 +261,7 @@ impl CodePointTrieToml {
     }
 
     /// Returns the cells of the index.
+    #[must_use]
     #[inline]
     pub fn index_slice(&self) -> &[u16] {
         self.index.as_slice()
@@ -347,9 +358,12 @@ impl core::fmt::Display for TomlError {
     #[inline]
     fn fmt(&self, f: &mut core::fmt::Formatter<'_>) -> core::fmt::Result {
         match self {
-            TomlError::Missing(_0) => write!(f, "no value at the key `{_0}`"),
-            TomlError::OutOfRange(_0) => write!(f, "the value at the key `{_0}` is of another kind or out of its range"),
-            TomlError::Memory => write!(f, "no memory"),
+            TomlError::Missing(field) => write!(f, "no value at the key `{field}`"),
+            TomlError::OutOfRange(field) => write!(
+                f,
+                "the value at the key `{field}` is of another kind or out of its range"
+            ),
+            TomlError::Memory => f.write_str("no memory"),
         }
     }
 }
@@ -360,9 +374,9 @@ impl core::fmt::Display for TrieFromTomlError {
     #[inline]
     fn fmt(&self, f: &mut core::fmt::Formatter<'_>) -> core::fmt::Result {
         match self {
-            TrieFromTomlError::Trie(_0) => write!(f, "{_0}"),
-            TrieFromTomlError::Table(_0) => write!(f, "{_0}"),
-            TrieFromTomlError::Memory => write!(f, "no memory"),
+            TrieFromTomlError::Trie(field) => write!(f, "{field}"),
+            TrieFromTomlError::Table(field) => write!(f, "{field}"),
+            TrieFromTomlError::Memory => f.write_str("no memory"),
         }
     }
 }

@@ -1,9 +1,8 @@
 //! The numbers of all code points, in blocks of 16.
 
-#[allow(unused_imports)]
-use crate::support::prelude::*;
 use crate::icu_zerovec::CODE_POINT_LIMIT;
-use crate::support::{AllocError};
+use crate::support::AllocError;
+use crate::support::prelude::*;
 
 /// The number of blocks of 16 code points.
 const BLOCK_COUNT: usize = CODE_POINT_LIMIT as usize / 16;
@@ -21,7 +20,7 @@ enum Block<'a> {
 }
 
 /// The numbers of all code points, in blocks of 16.
-#[derive(Debug)]
+#[derive(Debug, Clone)]
 pub(crate) struct Blocks {
     /// For each block, whether it is mixed, that is, has cells.
     mixed: Vec<bool>,
@@ -96,7 +95,7 @@ impl Blocks {
     /// that these are next to each other.
     fn mix_around(&mut self, c: usize) -> Result<(), AllocError> {
         let number = c / 16;
-        if c % 16 == 0 || self.mixed[number] {
+        if c.is_multiple_of(16) || self.mixed[number] {
             return Ok(());
         }
         if number >= FIRST_SINGLE {
@@ -139,7 +138,12 @@ impl Blocks {
     /// Writes a number to the code points `start..end`. All allocations happen before anything is
     /// written.
     #[inline]
-    pub(crate) fn write(&mut self, start: usize, end: usize, number: u32) -> Result<(), AllocError> {
+    pub(crate) fn write(
+        &mut self,
+        start: usize,
+        end: usize,
+        number: u32,
+    ) -> Result<(), AllocError> {
         self.mix_around(start)?;
         self.mix_around(end)?;
         self.write_blocks(start, end, number);
@@ -169,7 +173,13 @@ impl Blocks {
     #[inline(always)]
     fn other_in_block(&self, block: usize, from: usize, number: u32) -> usize {
         match self.block(block) {
-            Block::One(held) => if held == number { 16 } else { from },
+            Block::One(held) => {
+                if held == number {
+                    16
+                } else {
+                    from
+                }
+            }
             Block::Cells(cells) => {
                 for i in from..16 {
                     if cells[i] != number {

@@ -1,13 +1,12 @@
 //! The map from which a trie is built.
 
-#[allow(unused_imports)]
-use crate::support::prelude::*;
 use crate::icu_trie_map::blocks::Blocks;
 use crate::icu_zerovec::CODE_POINT_LIMIT;
-use crate::support::{AllocError};
+use crate::support::AllocError;
+use crate::support::prelude::*;
 
 /// The number of each code point.
-#[derive(Debug)]
+#[derive(Debug, Clone)]
 enum Numbers {
     /// All code points have this number.
     One(u32),
@@ -19,13 +18,14 @@ enum Numbers {
 ///
 /// It stores a single number until the first write, and then blocks of 16 code points. A block of
 /// one number stores only that number; a mixed block has 16 cells.
-#[derive(Debug)]
+#[derive(Debug, Clone)]
 pub struct NumberMap {
     numbers: Numbers,
 }
 
 impl NumberMap {
     /// Makes a map that has this number at every code point. It allocates nothing.
+    #[must_use]
     #[inline]
     pub fn new(number: u32) -> NumberMap {
         NumberMap {
@@ -37,7 +37,12 @@ impl NumberMap {
     ///
     /// # Errors
     /// Returns `AllocError` if an allocation fails. The map is then unchanged.
-    pub(crate) fn set_range(&mut self, start: usize, end: usize, number: u32) -> Result<(), AllocError> {
+    pub(crate) fn set_range(
+        &mut self,
+        start: usize,
+        end: usize,
+        number: u32,
+    ) -> Result<(), AllocError> {
         let numbers = &mut self.numbers;
         if start == end {
             return Ok(());
@@ -63,6 +68,7 @@ impl NumberMap {
     }
 
     /// Returns the number of the last code point.
+    #[must_use]
     #[inline]
     pub fn last(&self) -> u32 {
         self.get(CODE_POINT_LIMIT as usize - 1)
@@ -81,6 +87,7 @@ impl NumberMap {
 
     /// Returns the least multiple of 512 from which on all code points have the number of the last
     /// one.
+    #[must_use]
     #[inline]
     pub fn high_start(&self) -> usize {
         let Numbers::InBlocks(blocks) = &self.numbers else {

@@ -9,7 +9,7 @@ const ASCII_END: u32 = 0x80;
 
 /// A trie for looking up many values. If its data start with the values of ASCII, as ICU's builder
 /// and this library's builder write them, such a value takes a single read.
-#[derive(Debug)]
+#[derive(Debug, Clone)]
 pub(crate) struct AsciiInPlace<'a, T: TrieValue> {
     trie: &'a CodePointTrie<'a, T>,
     /// The data of the trie.
@@ -22,7 +22,7 @@ pub(crate) struct AsciiInPlace<'a, T: TrieValue> {
 /// Returns 0x80 if the first two blocks of the trie are the first two blocks of the data, and
 /// otherwise 0. The code points below the result have their values at their own index in the data.
 #[inline]
-fn ascii_end<T: TrieValue>(index: ZeroSlice<'_, u16>, values: ZeroSlice<'_, T>) -> u32 {
+pub(crate) fn ascii_end<T: TrieValue>(index: ZeroSlice<'_, u16>, values: ZeroSlice<'_, T>) -> u32 {
     if values.len() < ASCII_END as usize {
         return 0;
     }

@@ -1,9 +1,9 @@
 //! Finds the first character of a text whose value is accepted.
 
-use crate::icu_trie_text::found::Found;
-use crate::icu_trie_text::indices::value_indices_of;
 use crate::icu_trie::cptrie::CodePointTrie;
 use crate::icu_trie_core::value::TrieValue;
+use crate::icu_trie_text::found::Found;
+use crate::icu_trie_text::indices::value_indices_of;
 
 /// Returns the first character of the text whose value the closure accepts, with its byte offset
 /// and its value. Returns `None` if and only if the closure accepts no character's value.
@@ -12,9 +12,16 @@ use crate::icu_trie_core::value::TrieValue;
 ///
 /// Quick checks use this: a text is in a normalization form if no value says that it may not be.
 ///
-/// ```text
-/// // find_value(&categories, "ab1", |category| category == 9) is '1' at 2, with 9 (Nd)
 /// ```
+/// use bekstaudi::codepointtrie::{CodePointTrieBuilder, TrieType, text::find_value};
+///
+/// let mut builder = CodePointTrieBuilder::new(0u8, 9, TrieType::Fast);
+/// builder.set_range_value(0x30..=0x39, 1);
+/// let digits = builder.build();
+/// let found = find_value(&digits, "ab1", |value| value == 1).expect("a digit");
+/// assert_eq!((found.offset, found.character, found.value), (2, '1', 1));
+/// ```
+#[must_use]
 pub fn find_value<T: TrieValue, F: Fn(T) -> bool>(
     trie: &CodePointTrie<'_, T>,
     text: &str,
@@ -38,9 +45,15 @@ pub fn find_value<T: TrieValue, F: Fn(T) -> bool>(
 /// The length is a character boundary, so `&text[span_of_values(&trie, text, accepts)..]` is what
 /// follows.
 ///
-/// ```text
-/// // span_of_values(&categories, "ab1", |category| category == 2) is 2: "ab" are Ll
 /// ```
+/// use bekstaudi::codepointtrie::{CodePointTrieBuilder, TrieType, text::span_of_values};
+///
+/// let mut builder = CodePointTrieBuilder::new(0u8, 9, TrieType::Fast);
+/// builder.set_range_value(0x61..=0x7A, 2);
+/// let letters = builder.build();
+/// assert_eq!(span_of_values(&letters, "ab1", |value| value == 2), 2);
+/// ```
+#[must_use]
 #[inline]
 pub fn span_of_values<T: TrieValue, F: Fn(T) -> bool>(
     trie: &CodePointTrie<'_, T>,

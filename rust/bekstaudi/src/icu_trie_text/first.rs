@@ -1,7 +1,7 @@
 //! The first character of a text with its value, and what follows it.
 
-use crate::icu_trie_text::ascii::AsciiInPlace;
 use crate::icu_trie_core::value::TrieValue;
+use crate::icu_trie_text::ascii::AsciiInPlace;
 
 /// Returns the first character of a text, and what follows it. `None` if and only if the text is
 /// empty.
@@ -26,7 +26,8 @@ pub(crate) fn first_value<'t, T: TrieValue>(
     text: &'t str,
 ) -> Option<((char, T), &'t str)> {
     if let Some(lead) = text.as_bytes().first()
-        && let Some(value) = trie.ascii(u32::from(*lead)) {
+        && let Some(value) = trie.ascii(u32::from(*lead))
+    {
         return Some(((char::from(*lead), value), after_ascii(text)));
     }
     let (first, rest) = first_character(text)?;

@@ -16,6 +16,7 @@ fn is_low_surrogate(unit: u32) -> bool {
 /// no units.
 ///
 /// A surrogate that is not part of a pair is a code point of its own. ICU: `U16_NEXT`.
+#[must_use]
 #[inline(always)]
 pub fn first_code_point(units: &[u16]) -> Option<(u32, &[u16])> {
     let (first, rest) = units.split_first()?;

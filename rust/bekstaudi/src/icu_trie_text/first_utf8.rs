@@ -61,15 +61,15 @@ pub(crate) fn of_four(bytes: &[u8]) -> Option<char> {
 
 /// Returns true if these can be the upper ten bits of a three-byte character, which its first two
 /// bytes contain: they are not those of an overlong sequence or a surrogate.
-#[inline]
-fn is_high_of_three(high: u32) -> bool {
+#[inline(always)]
+pub(crate) fn is_high_of_three(high: u32) -> bool {
     0x20 <= high && (high < 0x360 || 0x380 <= high)
 }
 
 /// Returns true if these can be the upper nine bits of a four-byte character, which its first two
 /// bytes contain: they are not those of an overlong sequence or a number above 0x10FFFF.
-#[inline]
-fn is_high_of_four(high: u32) -> bool {
+#[inline(always)]
+pub(crate) fn is_high_of_four(high: u32) -> bool {
     0x10 <= high && high < 0x110
 }
 

@@ -1,14 +1,14 @@
 //! The value of each character of a text, with the character's byte offset.
 
-use crate::icu_trie_text::ascii::AsciiInPlace;
-use crate::icu_trie_text::first::first_value;
 use crate::icu_trie::cptrie::CodePointTrie;
 use crate::icu_trie_core::value::TrieValue;
+use crate::icu_trie_text::ascii::AsciiInPlace;
+use crate::icu_trie_text::first::first_value;
 
 /// An iterator over the characters of a text, each with its byte offset and its value in a trie.
 ///
 /// Created by [`value_indices_of`].
-#[derive(Debug)]
+#[derive(Debug, Clone)]
 pub struct ValueIndicesOf<'a, T: TrieValue> {
     trie: AsciiInPlace<'a, T>,
     rest: &'a str,
@@ -22,10 +22,15 @@ pub struct ValueIndicesOf<'a, T: TrieValue> {
 /// The characters and values are those of [`values_of`](crate::icu_trie_text::values::values_of), and the offsets
 /// are those of [`char_indices`](str::char_indices).
 ///
-/// ```ignore
-/// for (offset, c, category) in value_indices_of(&categories, "éB") {
-///     // 0 and 'é' with 2 (Ll), then 2 and 'B' with 1 (Lu)
-/// }
+/// ```
+/// use bekstaudi::codepointtrie::{CodePointTrieBuilder, TrieType, text::value_indices_of};
+///
+/// let mut builder = CodePointTrieBuilder::new(0u8, 9, TrieType::Fast);
+/// builder.set_value(0xE9, 2);
+/// builder.set_range_value(0x41..=0x5A, 1);
+/// let categories = builder.build();
+/// let values: Vec<_> = value_indices_of(&categories, "\u{E9}B").collect();
+/// assert_eq!(values, [(0, '\u{E9}', 2), (2, 'B', 1)]);
 /// ```
 #[inline]
 pub fn value_indices_of<'a, T: TrieValue>(

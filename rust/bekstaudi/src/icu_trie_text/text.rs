@@ -1,5 +1,7 @@
 //! Values of a trie along texts in UTF-8 and UTF-16.
 
+pub use crate::icu_trie_text::copy::copy_values;
+pub use crate::icu_trie_text::copy_parts::Copied;
 pub use crate::icu_trie_text::find::{find_value, span_of_values};
 pub use crate::icu_trie_text::found::Found;
 pub use crate::icu_trie_text::indices::{ValueIndicesOf, value_indices_of};

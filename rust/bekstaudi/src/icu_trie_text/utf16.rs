@@ -1,13 +1,13 @@
 //! The value of each code point of 16-bit units.
 
-use crate::icu_trie_text::first_utf16::first_code_point;
 use crate::icu_trie::cptrie::CodePointTrie;
 use crate::icu_trie_core::value::TrieValue;
+use crate::icu_trie_text::first_utf16::first_code_point;
 
 /// An iterator over the code points of 16-bit units, each with its value in a trie.
 ///
 /// Created by [`values_of_utf16`].
-#[derive(Debug)]
+#[derive(Debug, Clone)]
 pub struct ValuesOfUtf16<'a, T: TrieValue> {
     trie: &'a CodePointTrie<'a, T>,
     rest: &'a [u16],
@@ -17,15 +17,22 @@ pub struct ValuesOfUtf16<'a, T: TrieValue> {
 ///
 /// The values are those that [`get32`](CodePointTrie::get32) returns. The units may be ill-formed:
 /// a surrogate that is not part of a pair is a code point of its own, with the value that the trie
-/// has for it. ICU: a loop over `UCPTRIE_FAST_U16_NEXT`.
+/// has for it. ICU: a loop over `U16_NEXT` and `ucptrie_get`. `UCPTRIE_FAST_U16_NEXT` gives such a
+/// surrogate the error value.
 ///
-/// ```ignore
-/// for (c, category) in values_of_utf16(&categories, &[0xD835, 0xDC00, 0x31, 0xD835]) {
-///     // 0x1D400 with 1 (Lu), then 0x31 with 9 (Nd), then 0xD835 with 18 (Cs)
-/// }
+/// ```
+/// use bekstaudi::codepointtrie::{CodePointTrieBuilder, TrieType, text::values_of_utf16};
+///
+/// let mut builder = CodePointTrieBuilder::new(0u8, 9, TrieType::Fast);
+/// builder.set_range_value(0xD800..=0xDFFF, 18);
+/// builder.set_value(0x1D400, 1);
+/// let categories = builder.build();
+/// let values: Vec<_> = values_of_utf16(&categories, &[0xD835, 0xDC00, 0x31, 0xD835]).collect();
+/// // The last unit is a lone surrogate, which has the value of its code point.
+/// assert_eq!(values, [(0x1D400, 1), (0x31, 0), (0xD835, 18)]);
 /// ```
 #[inline]
-pub fn values_of_utf16<'a, T: TrieValue>(
+pub const fn values_of_utf16<'a, T: TrieValue>(
     trie: &'a CodePointTrie<'_, T>,
     units: &'a [u16],
 ) -> ValuesOfUtf16<'a, T> {

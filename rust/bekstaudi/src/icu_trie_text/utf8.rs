@@ -1,15 +1,15 @@
 //! The value of each character of bytes that may be ill-formed UTF-8.
 
-use crate::icu_trie_text::ascii::AsciiInPlace;
-use crate::icu_trie_text::first_utf8::{ill_formed_size, of_four, of_three, of_two};
 use crate::icu_trie::cptrie::CodePointTrie;
 use crate::icu_trie_core::value::TrieValue;
+use crate::icu_trie_text::ascii::AsciiInPlace;
+use crate::icu_trie_text::first_utf8::{ill_formed_size, of_four, of_three, of_two};
 
 /// An iterator over the characters of bytes that may be ill-formed UTF-8, each with its value in a
 /// trie.
 ///
 /// Created by [`values_of_utf8`].
-#[derive(Debug)]
+#[derive(Debug, Clone)]
 pub struct ValuesOfUtf8<'a, T: TrieValue> {
     trie: AsciiInPlace<'a, T>,
     rest: &'a [u8],
@@ -22,10 +22,14 @@ pub struct ValuesOfUtf8<'a, T: TrieValue> {
 /// Subparts" and table 3-7 in the Unicode Standard). A U+FFFD in the bytes has its own value. ICU:
 /// a loop over `UCPTRIE_FAST_U8_NEXT`, which returns the error value too.
 ///
-/// ```ignore
-/// for (c, category) in values_of_utf8(&categories, b"a\xF1\x80\x80b") {
-///     // 'a' with 2 (Ll), then U+FFFD with the error value, then 'b' with 2
-/// }
+/// ```
+/// use bekstaudi::codepointtrie::{CodePointTrieBuilder, TrieType, text::values_of_utf8};
+///
+/// let mut builder = CodePointTrieBuilder::new(0u8, 9, TrieType::Fast);
+/// builder.set_range_value(0x61..=0x7A, 2);
+/// let letters = builder.build();
+/// let values: Vec<_> = values_of_utf8(&letters, b"a\xF1\x80\x80b").collect();
+/// assert_eq!(values, [('a', 2), ('\u{FFFD}', 9), ('b', 2)]);
 /// ```
 #[inline]
 pub fn values_of_utf8<'a, T: TrieValue>(

@@ -1,14 +1,14 @@
 //! The value of each character of a text.
 
-use crate::icu_trie_text::ascii::AsciiInPlace;
-use crate::icu_trie_text::first::first_value;
 use crate::icu_trie::cptrie::CodePointTrie;
 use crate::icu_trie_core::value::TrieValue;
+use crate::icu_trie_text::ascii::AsciiInPlace;
+use crate::icu_trie_text::first::first_value;
 
 /// An iterator over the characters of a text, each with its value in a trie.
 ///
 /// Created by [`values_of`].
-#[derive(Debug)]
+#[derive(Debug, Clone)]
 pub struct ValuesOf<'a, T: TrieValue> {
     trie: AsciiInPlace<'a, T>,
     rest: &'a str,
@@ -19,13 +19,20 @@ pub struct ValuesOf<'a, T: TrieValue> {
 /// The values are those that [`get`](CodePointTrie::get) returns. ICU: a loop over
 /// `UCPTRIE_FAST_U8_NEXT` on well-formed text.
 ///
-/// ```ignore
-/// for (c, category) in values_of(&categories, "aB1") {
-///     // 'a' with 2 (Ll), then 'B' with 1 (Lu), then '1' with 9 (Nd)
-/// }
+/// ```
+/// use bekstaudi::codepointtrie::{CodePointTrieBuilder, TrieType, text::values_of};
+///
+/// let mut builder = CodePointTrieBuilder::new(0u8, 9, TrieType::Fast);
+/// builder.set_range_value(0x61..=0x7A, 2);
+/// let letters = builder.build();
+/// let values: Vec<_> = values_of(&letters, "aB").collect();
+/// assert_eq!(values, [('a', 2), ('B', 0)]);
 /// ```
 #[inline]
-pub fn values_of<'a, T: TrieValue>(trie: &'a CodePointTrie<'_, T>, text: &'a str) -> ValuesOf<'a, T> {
+pub fn values_of<'a, T: TrieValue>(
+    trie: &'a CodePointTrie<'_, T>,
+    text: &'a str,
+) -> ValuesOf<'a, T> {
     ValuesOf {
         trie: AsciiInPlace::new(trie),
         rest: text,

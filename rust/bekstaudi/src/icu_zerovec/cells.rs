@@ -1,10 +1,9 @@
 //! The work on packed bytes. A cell is the `WIDTH` bytes of one value.
 
-#[allow(unused_imports)]
-use crate::support::prelude::*;
-use crate::support::cells::{cell, proved_cell};
 use crate::icu_zerovec::ule::{AsULE, UleError};
-use crate::support::{AllocError};
+use crate::support::AllocError;
+use crate::support::cells::{cell, proved_cell};
+use crate::support::prelude::*;
 use core::cmp::Ordering;
 use core::hash::Hasher;
 
@@ -40,7 +39,7 @@ pub(crate) fn get<T: AsULE>(bytes: &[u8], i: usize) -> Option<T> {
 /// width, and otherwise the first cell that is not a value.
 #[inline]
 pub(crate) fn test<T: AsULE>(bytes: &[u8]) -> Result<(), UleError> {
-    if bytes.len() % T::WIDTH != 0 {
+    if !bytes.len().is_multiple_of(T::WIDTH) {
         return Err(UleError::Length);
     }
     for i in 0..count::<T>(bytes) {
@@ -54,13 +53,10 @@ pub(crate) fn test<T: AsULE>(bytes: &[u8]) -> Result<(), UleError> {
 /// Packs the values that an iterator yields. Allocates once if the iterator knows how many values
 /// it has.
 #[inline]
-pub(crate) fn pack<T: AsULE, I: Iterator<Item = T>>(
-    values: I,
-) -> Result<Vec<u8>, AllocError> {
+pub(crate) fn pack<T: AsULE, I: Iterator<Item = T>>(values: I) -> Result<Vec<u8>, AllocError> {
     let least = values.size_hint().0;
     let mut bytes = Vec::with_room(least.saturating_mul(T::WIDTH))?;
     for value in values {
-        value.shown();
         let cell = value.to_unaligned();
         bytes.try_extend_from_slice(&cell[..T::WIDTH])?;
     }
@@ -142,8 +138,6 @@ pub(crate) fn binary_search<T: AsULE + Ord>(bytes: &[u8], x: &T) -> Result<usize
 /// Returns true if two values have the same bytes.
 #[inline]
 fn alike<T: AsULE>(x: T, y: T) -> bool {
-    x.shown();
-    y.shown();
     x.to_unaligned() == y.to_unaligned()
 }
 
@@ -188,7 +182,6 @@ pub(crate) fn same<T: AsULE>(a: &[u8], b: &[u8]) -> bool {
 /// Feeds the bytes of a value to a hasher.
 #[inline]
 fn feed_one<T: AsULE, H: Hasher>(value: T, state: &mut H) {
-    value.shown();
     let cell = value.to_unaligned();
     state.write(&cell[..T::WIDTH]);
 }

@@ -1,7 +1,5 @@
 //! Code points as packed values of three bytes, lowest byte first.
 
-#[allow(unused_imports)]
-use crate::support::prelude::*;
 use crate::icu_zerovec::ule::AsULE;
 
 /// The exclusive end of the code space, 0x110000: one more than the last code point.
@@ -10,9 +8,12 @@ pub const CODE_POINT_LIMIT: u32 = 0x11_0000;
 /// A 24-bit number that may be a code point, such as one read from a file. It is stored in three
 /// bytes, and compared and hashed by its number.
 ///
-/// ```ignore
-/// let last = PotentialCodePoint::try_from(0x10ffff); // Ok
-/// // PotentialCodePoint::try_from(0x1000000) is Err(0x1000000)
+/// ```
+/// use bekstaudi::zerovec::PotentialCodePoint;
+///
+/// let last = PotentialCodePoint::try_from(0x10FFFF);
+/// assert_eq!(last.map(u32::from), Ok(0x10FFFF));
+/// assert_eq!(PotentialCodePoint::try_from(0x1000000), Err(0x1000000));
 /// ```
 #[derive(Clone, Copy, Debug, PartialEq, Eq, PartialOrd, Ord, Hash)]
 pub struct PotentialCodePoint {
@@ -65,8 +66,6 @@ impl AsULE for PotentialCodePoint {
             number: u32::from_le_bytes([bytes[0], bytes[1], bytes[2], 0]),
         })
     }
-
-    fn shown(self) {}
 }
 
 /// Three bytes are a `char` if their number is a Unicode scalar value: 0..=0xD7FF or
@@ -83,6 +82,4 @@ impl AsULE for char {
     fn from_unaligned(bytes: &[u8]) -> Option<char> {
         char::from_u32(u32::from_le_bytes([bytes[0], bytes[1], bytes[2], 0]))
     }
-
-    fn shown(self) {}
 }

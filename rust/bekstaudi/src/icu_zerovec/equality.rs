@@ -12,8 +12,7 @@ impl<'a, T: AsULE> PartialEq for ZeroVec<'a, T> {
     }
 }
 
-impl<'a, T: AsULE> Eq for ZeroVec<'a, T> {
-}
+impl<'a, T: AsULE> Eq for ZeroVec<'a, T> {}
 
 impl<'a, T: AsULE> Hash for ZeroVec<'a, T> {
     #[inline]

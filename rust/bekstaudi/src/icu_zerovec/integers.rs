@@ -15,8 +15,6 @@ impl AsULE for u8 {
     fn from_unaligned(bytes: &[u8]) -> Option<u8> {
         Some(bytes[0])
     }
-
-    fn shown(self) {}
 }
 
 impl AsULE for u16 {
@@ -32,8 +30,6 @@ impl AsULE for u16 {
     fn from_unaligned(bytes: &[u8]) -> Option<u16> {
         Some(u16::from_le_bytes([bytes[0], bytes[1]]))
     }
-
-    fn shown(self) {}
 }
 
 impl AsULE for u32 {
@@ -48,8 +44,6 @@ impl AsULE for u32 {
     fn from_unaligned(bytes: &[u8]) -> Option<u32> {
         Some(u32::from_le_bytes([bytes[0], bytes[1], bytes[2], bytes[3]]))
     }
-
-    fn shown(self) {}
 }
 
 impl AsULE for i8 {
@@ -65,8 +59,6 @@ impl AsULE for i8 {
     fn from_unaligned(bytes: &[u8]) -> Option<i8> {
         Some(i8::from_le_bytes([bytes[0]]))
     }
-
-    fn shown(self) {}
 }
 
 impl AsULE for i16 {
@@ -82,8 +74,6 @@ impl AsULE for i16 {
     fn from_unaligned(bytes: &[u8]) -> Option<i16> {
         Some(i16::from_le_bytes([bytes[0], bytes[1]]))
     }
-
-    fn shown(self) {}
 }
 
 impl AsULE for i32 {
@@ -98,6 +88,4 @@ impl AsULE for i32 {
     fn from_unaligned(bytes: &[u8]) -> Option<i32> {
         Some(i32::from_le_bytes([bytes[0], bytes[1], bytes[2], bytes[3]]))
     }
-
-    fn shown(self) {}
 }

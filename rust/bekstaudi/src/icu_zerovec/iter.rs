@@ -8,6 +8,7 @@ use core::marker::PhantomData;
 /// An iterator over the values of a packed vector. `ZeroVec::iter` and `ZeroSlice::iter` return it.
 ///
 /// It knows how many values are left.
+#[derive(Clone)]
 pub struct Iter<'a, T: AsULE> {
     bytes: &'a [u8],
     of: PhantomData<fn(T) -> T>,
@@ -57,3 +58,16 @@ impl<'a, T: AsULE + fmt::Debug> fmt::Debug for Iter<'a, T> {
             .finish()
     }
 }
+
+impl<T: AsULE> DoubleEndedIterator for Iter<'_, T> {
+    #[inline]
+    fn next_back(&mut self) -> Option<T> {
+        let place = self.bytes.len().checked_sub(T::WIDTH)?;
+        let (others, last) = self.bytes.split_at(place);
+        let value = T::from_unaligned(last)?;
+        self.bytes = others;
+        Some(value)
+    }
+}
+
+impl<T: AsULE> core::iter::FusedIterator for Iter<'_, T> {}

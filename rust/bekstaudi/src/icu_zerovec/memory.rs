@@ -30,7 +30,7 @@ impl<T> From<AllocFailed<T>> for MemoryError {
 ///
 /// It is defined here, next to [`MemoryError`], so that `?` converts it in every function that
 /// returns `MemoryError`.
-#[derive(Clone, Copy, Debug, PartialEq, Eq)]
+#[derive(Clone, Copy, Debug, PartialEq, Eq, Hash)]
 pub struct ApplyRefused(pub usize);
 
 /// Converts the error and drops the index.
@@ -45,7 +45,7 @@ impl core::fmt::Display for MemoryError {
     #[inline]
     fn fmt(&self, f: &mut core::fmt::Formatter<'_>) -> core::fmt::Result {
         match self {
-            MemoryError => write!(f, "no memory"),
+            MemoryError => f.write_str("no memory"),
         }
     }
 }
@@ -56,7 +56,7 @@ impl core::fmt::Display for ApplyRefused {
     #[inline]
     fn fmt(&self, f: &mut core::fmt::Formatter<'_>) -> core::fmt::Result {
         match self {
-            ApplyRefused(_0) => write!(f, "no memory for write {_0}"),
+            ApplyRefused(field) => write!(f, "no memory for write {field}"),
         }
     }
 }

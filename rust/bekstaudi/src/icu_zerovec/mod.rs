@@ -4,10 +4,6 @@
 //! represent a list of values. To read a data file, borrow its bytes: nothing is copied.
 //! [`ZeroVec::parse_bytes`] validates all bytes before any value is read.
 //!
-//! ```ignore
-//! let numbers = ZeroVec::<u16>::parse_bytes(&[0x34, 0x12, 0xff, 0])?;
-//! // numbers.get(0) is Some(0x1234), numbers.get(1) is Some(255), numbers.get(2) is None
-//! ```
 //!
 //! - `ule`: the trait of the values, [`AsULE`](ule::AsULE), and the error for invalid bytes
 //! - `integers`, `code_point`: the types that implement it: integers, `char`,

@@ -11,10 +11,14 @@ use core::marker::PhantomData;
 
 /// A view of a packed vector, with the queries of [`ZeroVec`]. It is `Copy`, like `&[T]`.
 ///
-/// ```ignore
+/// ```
+/// use bekstaudi::zerovec::ZeroVec;
+///
 /// let numbers = ZeroVec::<u16>::parse_bytes(&[1, 0, 2, 0])?;
 /// let view = numbers.as_slice();
-/// // view.last() is Some(2), and view.as_zerovec() == numbers
+/// assert_eq!(view.last(), Some(2));
+/// assert_eq!(view.as_zerovec(), numbers);
+/// # Ok::<(), Box<dyn std::error::Error>>(())
 /// ```
 ///
 /// Two views are equal if and only if their lists of values are equal. Equal views have equal
@@ -36,7 +40,7 @@ impl<'a, T: AsULE> Copy for ZeroSlice<'a, T> {}
 impl<'a, T: AsULE> ZeroSlice<'a, T> {
     /// Returns a view of bytes that have been validated.
     #[inline]
-    pub(crate) fn from_packed(bytes: &'a [u8]) -> Self {
+    pub(crate) const fn from_packed(bytes: &'a [u8]) -> Self {
         ZeroSlice {
             bytes,
             of: PhantomData,
@@ -44,12 +48,14 @@ impl<'a, T: AsULE> ZeroSlice<'a, T> {
     }
 
     /// Returns the number of values.
+    #[must_use]
     #[inline]
     pub fn len(&self) -> usize {
         cells::len::<T>(self.bytes)
     }
 
     /// Returns true if there are no values.
+    #[must_use]
     #[inline]
     pub fn is_empty(&self) -> bool {
         self.len() == 0
@@ -57,6 +63,7 @@ impl<'a, T: AsULE> ZeroSlice<'a, T> {
 
     /// Returns the value at index `i`, counted from 0, or `None` if `i` is not less than the
     /// length.
+    #[must_use]
     #[inline]
     pub fn get(&self, i: usize) -> Option<T> {
         cells::get(self.bytes, i)
@@ -70,12 +77,14 @@ impl<'a, T: AsULE> ZeroSlice<'a, T> {
     }
 
     /// Returns the first value, or `None` if there are no values.
+    #[must_use]
     #[inline]
     pub fn first(&self) -> Option<T> {
         self.get(0)
     }
 
     /// Returns the last value, or `None` if there are no values.
+    #[must_use]
     #[inline]
     pub fn last(&self) -> Option<T> {
         let len = self.len();
@@ -110,14 +119,16 @@ impl<'a, T: AsULE> ZeroSlice<'a, T> {
     ///
     /// If each value of the type has one encoding, as for all types of this crate, these are the
     /// bytes that the values pack to. Otherwise they are some bytes that unpack to the values.
+    #[must_use]
     #[inline]
-    pub fn as_bytes(&self) -> &'a [u8] {
+    pub const fn as_bytes(&self) -> &'a [u8] {
         self.bytes
     }
 
     /// Returns a vector with the same values that borrows the bytes.
+    #[must_use]
     #[inline]
-    pub fn as_zerovec(self) -> ZeroVec<'a, T> {
+    pub const fn as_zerovec(self) -> ZeroVec<'a, T> {
         ZeroVec::from_packed(self.bytes)
     }
 }
@@ -129,8 +140,7 @@ impl<'a, T: AsULE> PartialEq for ZeroSlice<'a, T> {
     }
 }
 
-impl<'a, T: AsULE> Eq for ZeroSlice<'a, T> {
-}
+impl<'a, T: AsULE> Eq for ZeroSlice<'a, T> {}
 
 impl<'a, T: AsULE> Hash for ZeroSlice<'a, T> {
     #[inline]

@@ -1,12 +1,11 @@
 //! Vectors of packed values that borrow or own their bytes.
 
-#[allow(unused_imports)]
-use crate::support::prelude::*;
 use crate::icu_zerovec::cells;
 use crate::icu_zerovec::iter::Iter;
 use crate::icu_zerovec::memory::MemoryError;
 use crate::icu_zerovec::slice::ZeroSlice;
 use crate::icu_zerovec::ule::{AsULE, UleError};
+use crate::support::prelude::*;
 use core::fmt;
 use core::marker::PhantomData;
 
@@ -20,7 +19,7 @@ enum Store<'a> {
 impl<'a> Store<'a> {
     /// Returns the bytes.
     #[inline(always)]
-    fn bytes(&self) -> &[u8] {
+    const fn bytes(&self) -> &[u8] {
         match self {
             Store::Borrowed(bytes) => bytes,
             Store::Owned(bytes) => bytes.as_slice(),
@@ -30,10 +29,16 @@ impl<'a> Store<'a> {
 
 /// A vector of values that are stored as bytes, which it borrows or owns.
 ///
-/// ```ignore
-/// let points = ZeroVec::<char>::parse_bytes(&[0x41, 0, 0, 0, 0xf6, 1])?;
-/// // points.first() is Some('A') and points.get(1) is Some('\u{1f600}')
-/// // ZeroVec::<char>::parse_bytes(&[0x41, 0, 0, 0, 0xd8, 0]) is Err(UleError::Cell(1)), since 0xD800 is a surrogate
+/// ```
+/// use bekstaudi::zerovec::{ZeroVec, ule::UleError};
+///
+/// let points = ZeroVec::<char>::parse_bytes(&[0x41, 0, 0, 0, 0xF6, 1])?;
+/// assert_eq!(points.first(), Some('A'));
+/// assert_eq!(points.get(1), Some('\u{1F600}'));
+/// // 0xD800 is a surrogate.
+/// let error = ZeroVec::<char>::parse_bytes(&[0x41, 0, 0, 0, 0xD8, 0]);
+/// assert_eq!(error, Err(UleError::Cell(1)));
+/// # Ok::<(), Box<dyn std::error::Error>>(())
 /// ```
 ///
 /// Two vectors are equal if and only if their lists of values are equal. Equal vectors have equal
@@ -75,7 +80,7 @@ impl<'a, T: AsULE> ZeroVec<'a, T> {
 
     /// Returns the vector with bytes that have been validated, which it borrows.
     #[inline]
-    pub(crate) fn from_packed(bytes: &'a [u8]) -> Self {
+    pub(crate) const fn from_packed(bytes: &'a [u8]) -> Self {
         ZeroVec {
             store: Store::Borrowed(bytes),
             of: PhantomData,
@@ -84,9 +89,12 @@ impl<'a, T: AsULE> ZeroVec<'a, T> {
 
     /// Returns a vector with these values that owns its bytes.
     ///
-    /// ```ignore
+    /// ```
+    /// use bekstaudi::zerovec::ZeroVec;
+    ///
     /// let numbers = ZeroVec::<u16>::alloc_from_slice(&[0x1234, 255])?;
-    /// // numbers.as_bytes() is [0x34, 0x12, 0xff, 0]
+    /// assert_eq!(numbers.as_bytes(), [0x34, 0x12, 0xFF, 0]);
+    /// # Ok::<(), Box<dyn std::error::Error>>(())
     /// ```
     ///
     /// # Errors
@@ -102,18 +110,19 @@ impl<'a, T: AsULE> ZeroVec<'a, T> {
     /// Each value is packed as it is yielded, so converting values needs no intermediate list. The
     /// iterator must be finite.
     ///
-    /// ```ignore
-    /// let codes = ZeroVec::<u32>::alloc_from_iter("AZ".chars().map(|c| u32::from(c)))?;
-    /// // codes.as_bytes() is [0x41, 0, 0, 0, 0x5a, 0, 0, 0]
+    /// ```
+    /// use bekstaudi::zerovec::ZeroVec;
+    ///
+    /// let codes = ZeroVec::<u32>::alloc_from_iter("AZ".chars().map(u32::from))?;
+    /// assert_eq!(codes.as_bytes(), [0x41, 0, 0, 0, 0x5A, 0, 0, 0]);
+    /// # Ok::<(), Box<dyn std::error::Error>>(())
     /// ```
     ///
     /// # Errors
     /// Returns `MemoryError` if an allocation fails. The iterator is then dropped with its
     /// remaining items.
     #[inline]
-    pub fn alloc_from_iter<I: Iterator<Item = T>>(
-        values: I,
-    ) -> Result<Self, MemoryError> {
+    pub fn alloc_from_iter<I: Iterator<Item = T>>(values: I) -> Result<Self, MemoryError> {
         let bytes = cells::pack(values)?;
         Ok(ZeroVec {
             store: Store::Owned(bytes),
@@ -157,17 +166,19 @@ impl<'a, T: AsULE> ZeroVec<'a, T> {
 impl<'a, T: AsULE> ZeroVec<'a, T> {
     /// Returns the bytes.
     #[inline(always)]
-    pub(crate) fn bytes(&self) -> &[u8] {
+    pub(crate) const fn bytes(&self) -> &[u8] {
         self.store.bytes()
     }
 
     /// Returns the number of values.
+    #[must_use]
     #[inline]
     pub fn len(&self) -> usize {
         cells::len::<T>(self.bytes())
     }
 
     /// Returns true if there are no values.
+    #[must_use]
     #[inline]
     pub fn is_empty(&self) -> bool {
         self.len() == 0
@@ -175,18 +186,21 @@ impl<'a, T: AsULE> ZeroVec<'a, T> {
 
     /// Returns the value at index `i`, counted from 0, or `None` if `i` is not less than the
     /// length.
+    #[must_use]
     #[inline]
     pub fn get(&self, i: usize) -> Option<T> {
         cells::get(self.bytes(), i)
     }
 
     /// Returns the first value, or `None` if there are no values.
+    #[must_use]
     #[inline]
     pub fn first(&self) -> Option<T> {
         self.get(0)
     }
 
     /// Returns the last value, or `None` if there are no values.
+    #[must_use]
     #[inline]
     pub fn last(&self) -> Option<T> {
         let len = self.len();
@@ -205,9 +219,13 @@ impl<'a, T: AsULE> ZeroVec<'a, T> {
     /// The values must be in ascending order. Otherwise the result is unspecified, but within the
     /// bounds of the vector.
     ///
-    /// ```ignore
+    /// ```
+    /// use bekstaudi::zerovec::ZeroVec;
+    ///
     /// let numbers = ZeroVec::<u32>::alloc_from_slice(&[10, 20, 30])?;
-    /// // numbers.binary_search(&20) is Ok(1), and numbers.binary_search(&25) is Err(2)
+    /// assert_eq!(numbers.binary_search(&20), Ok(1));
+    /// assert_eq!(numbers.binary_search(&25), Err(2));
+    /// # Ok::<(), Box<dyn std::error::Error>>(())
     /// ```
     ///
     /// # Errors
@@ -225,12 +243,14 @@ impl<'a, T: AsULE> ZeroVec<'a, T> {
     ///
     /// If each value of the type has one encoding, as for all types of this crate, these are the
     /// bytes that the values pack to. Otherwise they are some bytes that unpack to the values.
+    #[must_use]
     #[inline]
-    pub fn as_bytes(&self) -> &[u8] {
+    pub const fn as_bytes(&self) -> &[u8] {
         self.store.bytes()
     }
 
     /// Returns a view of the vector.
+    #[must_use]
     #[inline]
     pub fn as_slice(&self) -> ZeroSlice<'_, T> {
         ZeroSlice::from_packed(self.bytes())

@@ -266,7 +266,7 @@ fn damaged_bytes() {
     damage::<CodePointInversionList>(&bytes, is_set);
     let bytes = bincode::serialize(&texts_of(&["a", "", "ab", "\u{E9}x", "xyz"])).unwrap();
     let is_text_set = |it: &CodePointInversionListAndStringList| {
-        let strings = it.strings().as_slice().to_vec();
+        let strings = it.strings().to_vec();
         is_set(it.code_points())
             && CodePointInversionListAndStringList::try_from(it.code_points().clone(), strings).is_ok()
     };
@@ -330,7 +330,7 @@ fn damaged_json() {
 fn damaged_strings() {
     let strings_of = |strings: &[u8]| {
         let bytes = [with_length(&[]), with_length(strings)].concat();
-        read::<CodePointInversionListAndStringList>(&bytes).map(|it| it.strings().as_slice().to_vec())
+        read::<CodePointInversionListAndStringList>(&bytes).map(|it| it.strings().to_vec())
     };
     assert_eq!(strings_of(b"\x02\0\x02\0abcd").unwrap(), ["ab", "cd"]);
     for strings in [

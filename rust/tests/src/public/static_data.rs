@@ -236,6 +236,18 @@ fn both_tests_of_sets_agree() {
 }
 
 #[test]
+fn parts_of_sets_are_tested() {
+    static LETTERS: CodePointInversionList<'static> = CodePointInversionList::from_parts_unchecked(
+        zeroslice!(PotentialCodePoint as u32; [0x41, 0x5B]).as_zerovec(),
+        26,
+    );
+    assert_eq!(LETTERS.iter_ranges().collect::<Vec<_>>(), [0x41..=0x5A]);
+    let odd = ZeroVec::parse_bytes(&[0x41, 0, 0]).expect("no boundary");
+    let made = std::panic::catch_unwind(|| CodePointInversionList::from_parts_unchecked(odd, 0));
+    assert!(made.is_err());
+}
+
+#[test]
 #[should_panic(expected = "the boundaries are not an inversion list")]
 fn a_baked_set_is_tested() {
     CodePointInversionList::from_parts_unchecked([PotentialCodePoint::try_from(1).unwrap()].into_iter().collect(), 1);

@@ -9,7 +9,7 @@ const PART: usize = 128;
 
 /// A map that is sorted by its keys: sorted parts of few entries, one after another. No part is
 /// empty.
-#[derive(Debug)]
+#[derive(Clone, Debug)]
 pub struct BTreeMap<K, V> {
     parts: Vec<Vec<(K, V)>>,
     count: usize,
@@ -90,7 +90,11 @@ impl<K: Ord, V> BTreeMap<K, V> {
             }
             Err(found) => found,
         };
-        if self.parts.get(part).is_none_or(|entries| entries.len() >= PART) {
+        if self
+            .parts
+            .get(part)
+            .is_none_or(|entries| entries.len() >= PART)
+        {
             self.split(part)?;
             if place > PART / 2 {
                 part += 1;
@@ -164,7 +168,10 @@ impl<K: Copy + Eq + Into<u64>, V> HashMap<K, V> {
     fn place_of(places: &[Option<(K, V)>], key: K) -> usize {
         let mixed = key.into().wrapping_mul(0x9E37_79B9_7F4A_7C15) >> 32;
         let mut place = mixed as usize & (places.len() - 1);
-        while places[place].as_ref().is_some_and(|(other, _)| *other != key) {
+        while places[place]
+            .as_ref()
+            .is_some_and(|(other, _)| *other != key)
+        {
             place = (place + 1) & (places.len() - 1);
         }
         place

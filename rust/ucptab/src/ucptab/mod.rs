@@ -1,15 +1,15 @@
 //! Prints the values of a code point trie that is built of the rows on standard input.
 
-#[allow(unused_imports)]
-use crate::host::{HostRuntime, Text};
-#[allow(unused_imports)]
-use crate::support::prelude::*;
-use crate::host::Steps;
 use crate::host::env;
 use crate::host::io::{ErrorKind, Read, Write};
-use crate::support::Brand;
 use crate::host::process::ExitCode;
-use crate::support::{Blank, Ledger};
+#[allow(unused_imports)]
+use crate::host::{HostRuntime, Text};
+use crate::ledger::Brand;
+use crate::ledger::Steps;
+use crate::ledger::{Blank, Ledger};
+#[allow(unused_imports)]
+use crate::support::prelude::*;
 use crate::ucptab_table::fault::TableError;
 use crate::ucptab_table::streams::{Failed, Sink, Source};
 use crate::ucptab_table::text::write_fault;

@@ -17,9 +17,9 @@ use crate::ucptab_table::input::{read_all, read_rows};
 use crate::ucptab_table::streams::{Failed, Sink, Source};
 use crate::ucptab_table::text::{answers_text, ranges_text, write_fault};
 use crate::ucptab_table::words::{Request, asked_numbers, request_of};
-use bekstaudi::codepointtrie::try_build_from_writes;
-use bekstaudi::codepointtrie::Write;
 use bekstaudi::codepointtrie::TrieType;
+use bekstaudi::codepointtrie::Write;
+use bekstaudi::codepointtrie::try_build_from_writes;
 
 /// The arguments of the program.
 pub const USAGE: &str = "usage: ucptab fast|small DEFAULT ERROR [HEX ..]\n";
@@ -100,11 +100,7 @@ fn answer<S: Source, W: Sink>(
 ///
 /// The status is 0 if the values or the ranges are printed, 1 if the line of an error is, and 2 if
 /// the usage line is. It is the same if that line can't be written.
-pub fn run_words<S: Source, W: Sink>(
-    words: &[String],
-    reader: &mut S,
-    writer: &mut W,
-) -> u8 {
+pub fn run_words<S: Source, W: Sink>(words: &[String], reader: &mut S, writer: &mut W) -> u8 {
     let Some(request) = request_of(words) else {
         write_usage(writer);
         return 2;

@@ -2,11 +2,11 @@
 
 #[allow(unused_imports)]
 use crate::host::{HostRuntime, Text};
+use crate::support::AllocError;
 #[allow(unused_imports)]
 use crate::support::prelude::*;
 use crate::ucptab_table::digits::{decimal_number, hexadecimal};
 use bekstaudi::codepointtrie::TrieType;
-use crate::support::{AllocError};
 
 /// What the arguments ask for.
 #[derive(Clone, Copy)]

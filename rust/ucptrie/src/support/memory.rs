@@ -1,6 +1,8 @@
 //! Vectors and strings that report failed allocations, by Rust's own `try_reserve`.
 
+#[cfg(feature = "alloc")]
 use alloc::string::String;
+#[cfg(feature = "alloc")]
 use alloc::vec::Vec;
 
 /// An allocation failed.
@@ -71,6 +73,7 @@ pub(crate) trait TryVec<T>: Sized {
         T: Clone;
 }
 
+#[cfg(feature = "alloc")]
 impl<T> TryVec<T> for Vec<T> {
     #[inline]
     fn with_room(count: usize) -> Result<Self, AllocError> {
@@ -163,6 +166,7 @@ pub(crate) trait TryString: Sized {
     fn try_push_str(&mut self, text: &str) -> Result<(), AllocError>;
 }
 
+#[cfg(feature = "alloc")]
 impl TryString for String {
     fn from_str(text: &str) -> Result<Self, AllocError> {
         let mut made = <String as TryString>::with_room(text.len())?;

@@ -2,11 +2,14 @@
 //! allocations.
 
 pub(crate) mod cells;
-mod ledger;
+#[cfg(not(feature = "alloc"))]
+mod empty;
+#[cfg(feature = "alloc")]
 mod maps;
+#[cfg_attr(not(feature = "alloc"), allow(dead_code))]
 pub(crate) mod memory;
 
-pub(crate) use ledger::{Blank, Book, Brand, Ledger, Share};
+#[cfg(feature = "alloc")]
 pub use maps::{BTreeMap, HashMap};
 pub use memory::{AllocError, AllocFailed};
 
@@ -20,7 +23,11 @@ pub(crate) use try_json;
 
 /// What each module of the proved source imports.
 pub(crate) mod prelude {
+    #[cfg(not(feature = "alloc"))]
+    pub(crate) use super::empty::{String, Vec};
     pub(crate) use super::memory::{TryString, TryVec, try_vec};
+    #[cfg(feature = "alloc")]
     pub(crate) use alloc::string::String;
+    #[cfg(feature = "alloc")]
     pub(crate) use alloc::vec::Vec;
 }

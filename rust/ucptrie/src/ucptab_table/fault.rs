@@ -2,8 +2,8 @@
 
 #[allow(unused_imports)]
 use crate::host::{HostRuntime, Text};
-use bekstaudi::codepointtrie::BuildError;
 use crate::support::AllocError;
+use bekstaudi::codepointtrie::BuildError;
 use core::error::Error;
 use core::fmt;
 
@@ -73,7 +73,7 @@ impl From<BuildError> for TableError {
     fn from(error: BuildError) -> TableError {
         match error {
             BuildError::TooLarge => TableError::TooLarge,
-            BuildError::Memory => TableError::Memory,
+            _ => TableError::Memory,
         }
     }
 }

@@ -2,8 +2,6 @@
 
 #[allow(unused_imports)]
 use crate::host::{HostRuntime, Text};
-#[allow(unused_imports)]
-use crate::support::prelude::*;
 use crate::ucptab_table::digits::{decimal_number, hexadecimal};
 use crate::ucptab_table::fault::RowFault;
 use bekstaudi::codepointtrie::Write;

@@ -2,13 +2,13 @@
 
 #[allow(unused_imports)]
 use crate::host::{HostRuntime, Text};
+use crate::support::AllocError;
 #[allow(unused_imports)]
 use crate::support::prelude::*;
 use crate::ucptab_table::fault::TableError;
 use crate::ucptab_table::streams::{Failed, Sink};
-use bekstaudi::codepointtrie::CodePointTrie;
 use bekstaudi::codepointtrie::CodePointMapRange;
-use crate::support::{AllocError};
+use bekstaudi::codepointtrie::CodePointTrie;
 
 /// Appends the line of an asked number: the number, in at least four hexadecimal digits, and its
 /// value.
@@ -20,10 +20,7 @@ fn push_answer(text: &mut String, asked: u32, answer: u32) -> Result<(), AllocEr
 ///
 /// # Errors
 /// Returns [`AllocError`] if an allocation fails.
-pub fn answers_text<F: Fn(u32) -> u32>(
-    asked: &[u32],
-    answer: F,
-) -> Result<String, AllocError> {
+pub fn answers_text<F: Fn(u32) -> u32>(asked: &[u32], answer: F) -> Result<String, AllocError> {
     let mut text = String::new();
     for n in asked {
         push_answer(&mut text, *n, answer(*n))?;

@@ -9,9 +9,6 @@ mod names;
 mod words;
 
 use crate::context::{Context, Error, Result, anyhow};
-use clap::ArgMatches;
-use bekstaudi::codepointtrie::TrieType;
-use names::{module_name, name_of};
 use crate::host::io::{Read, Write};
 use crate::host::process::ExitCode;
 use crate::host::{env, fs, io};
@@ -25,6 +22,9 @@ use crate::ucptrie_tables::shown::{answered, shown};
 use crate::ucptrie_tables::table::{Table, TableOptions};
 use crate::ucptrie_tables::width::ValueWidth;
 use crate::ucptrie_tables::written::{Form, written};
+use bekstaudi::codepointtrie::TrieType;
+use clap::ArgMatches;
+use names::{module_name, name_of};
 use words::program_words;
 
 /// Returns the trie type that the arguments name.
@@ -51,7 +51,12 @@ fn refused(word: &str, why: &str) -> Error {
 
 /// Returns the form that the arguments name.
 fn form(matches: &ArgMatches) -> Result<Form<'_>> {
-    let name = name_of(matches.get_one::<String>("name").map(String::as_str).unwrap_or("table"))?;
+    let name = name_of(
+        matches
+            .get_one::<String>("name")
+            .map(String::as_str)
+            .unwrap_or("table"),
+    )?;
     Ok(match matches.get_one::<String>("as").map(String::as_str) {
         Some("icu") => Form::Icu,
         Some("toml") => Form::Toml,
@@ -106,7 +111,10 @@ fn bytes_at(rt: &HostRuntime, path: &str) -> Result<Vec<u8>> {
 
 /// Reads the table of the file that the argument `id` names.
 fn table_at(rt: &HostRuntime, matches: &ArgMatches, id: &str) -> Result<Table> {
-    let path = matches.get_one::<String>(id).map(String::as_str).context("no file")?;
+    let path = matches
+        .get_one::<String>(id)
+        .map(String::as_str)
+        .context("no file")?;
     let bytes = bytes_at(rt, path).context(path)?;
     let table = read_table(&bytes).context(path)?;
     Ok(table)
@@ -118,7 +126,10 @@ fn table_at(rt: &HostRuntime, matches: &ArgMatches, id: &str) -> Result<Table> {
 /// rows would make another table and are not written.
 fn convert(rt: &HostRuntime, matches: &ArgMatches) -> Result<Vec<u8>> {
     let form = form(matches)?;
-    let path = matches.get_one::<String>("file").map(String::as_str).context("no file")?;
+    let path = matches
+        .get_one::<String>("file")
+        .map(String::as_str)
+        .context("no file")?;
     let table = table_at(rt, matches, "file")?;
     if matches!(form, Form::Rows) && !table.trie.is_coherent() {
         let why = "not coherent, so its ranges may differ from its look-ups: no rows are written";

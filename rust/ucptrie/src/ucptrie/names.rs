@@ -1,8 +1,8 @@
 //! Names in source.
+use crate::context::Result;
 #[allow(unused_imports)]
 use crate::host::{HostRuntime, Text};
 use crate::ucptrie::refused;
-use crate::context::Result;
 use crate::ucptrie_tables::source::is_name;
 
 /// The words that cannot name a module in Rust: its keywords, including the reserved ones, and `_`.

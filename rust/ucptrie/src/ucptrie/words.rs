@@ -1,11 +1,11 @@
 //! The arguments of the program.
+use crate::formats::ValueParser;
 #[allow(unused_imports)]
 use crate::host::{HostRuntime, Text};
+use crate::support::AllocError;
 #[allow(unused_imports)]
 use crate::support::prelude::*;
-use crate::formats::ValueParser;
 use clap::{Arg, Command};
-use crate::support::{AllocError};
 
 /// How an argument is given.
 #[derive(Clone, Copy)]
@@ -188,9 +188,7 @@ fn placed(argument: Arg, row: &Argument) -> Arg {
 
 /// Returns the argument in clap's form.
 fn arg_of(row: &Argument) -> Arg {
-    let argument = Arg::new(row.id)
-        .required(row.required)
-        .help(row.help);
+    let argument = Arg::new(row.id).required(row.required).help(row.help);
     let named = with_value_name(argument, row);
     let tested = with_value_parser(named, row);
     placed(with_default(tested, row), row)

@@ -1,12 +1,12 @@
 //! The cells of a trie as numbers in a text.
 #[allow(unused_imports)]
 use crate::host::{HostRuntime, Text};
+use crate::support::AllocError;
 #[allow(unused_imports)]
 use crate::support::prelude::*;
 use crate::ucptrie_tables::pattern::{Number, push_number};
 use bekstaudi::codepointtrie::TrieValue;
 use bekstaudi::zerovec::ZeroSlice;
-use crate::support::AllocError;
 
 /// How many cells a line has.
 const CELLS_IN_LINE: usize = 16;

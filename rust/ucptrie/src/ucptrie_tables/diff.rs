@@ -2,16 +2,20 @@
 
 #[allow(unused_imports)]
 use crate::host::{HostRuntime, Text};
+use crate::support::AllocError;
 #[allow(unused_imports)]
 use crate::support::prelude::*;
-use bekstaudi::codepointtrie::CodePointTrie;
-use bekstaudi::codepointtrie::CodePointMapRange;
-use bekstaudi::zerovec::CODE_POINT_LIMIT;
-use crate::support::{AllocError};
 use crate::ucptab_table::text::push_dotted;
+use bekstaudi::codepointtrie::CodePointMapRange;
+use bekstaudi::codepointtrie::CodePointTrie;
+use bekstaudi::zerovec::CODE_POINT_LIMIT;
 
 /// Returns the values of the number `c` in two tries.
-fn values_at(first: &CodePointTrie<'_, u32>, second: &CodePointTrie<'_, u32>, c: u32) -> (u32, u32) {
+fn values_at(
+    first: &CodePointTrie<'_, u32>,
+    second: &CodePointTrie<'_, u32>,
+    c: u32,
+) -> (u32, u32) {
     (first.get32(c), second.get32(c))
 }
 

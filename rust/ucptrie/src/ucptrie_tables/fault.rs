@@ -2,15 +2,15 @@
 
 #[allow(unused_imports)]
 use crate::host::{HostRuntime, Text};
+use crate::support::AllocError;
+use crate::ucptab_table::fault::TableError;
 use crate::ucptrie_tables::width::ValueWidth;
-use bekstaudi::codepointtrie::binary::{BinaryError, SwappedError, WriteError};
 use bekstaudi::codepointtrie::BuildError;
+use bekstaudi::codepointtrie::binary::{BinaryError, SwappedError, WriteError};
 use bekstaudi::codepointtrie::json::TrieJsonError;
 use bekstaudi::codepointtrie::trie_toml::{TomlError, TrieFromTomlError};
 use bekstaudi::zerovec::MemoryError;
-use crate::support::AllocError;
 use core::{error, fmt};
-use crate::ucptab_table::fault::TableError;
 
 /// Why rows make no table, or why a table is not written.
 #[derive(Clone, Copy, Debug, PartialEq, Eq)]
@@ -66,7 +66,10 @@ pub struct TomlFault {
 impl TomlFault {
     /// Returns the fault of a text, with its line.
     pub(crate) fn new(error: crate::formats::TomlError) -> TomlFault {
-        TomlFault { line: error.line, error }
+        TomlFault {
+            line: error.line,
+            error,
+        }
     }
 }
 
@@ -109,7 +112,7 @@ impl From<SwappedError> for ReadFault {
     fn from(error: SwappedError) -> ReadFault {
         match error {
             SwappedError::Binary(error) => ReadFault::Binary(error),
-            SwappedError::Memory => ReadFault::Memory,
+            _ => ReadFault::Memory,
         }
     }
 }
@@ -147,9 +150,9 @@ impl From<TrieFromTomlError> for ReadFault {
 impl core::fmt::Display for BuildFault {
     fn fmt(&self, f: &mut core::fmt::Formatter<'_>) -> core::fmt::Result {
         match self {
-            BuildFault::Table(_0) => write!(f, "{_0}"),
-            BuildFault::Width(_0, _1) => write!(f, "value {_0} has more than {_1}"),
-            BuildFault::Binary(_0) => write!(f, "{_0}"),
+            BuildFault::Table(field) => write!(f, "{field}"),
+            BuildFault::Width(first, second) => write!(f, "value {first} has more than {second}"),
+            BuildFault::Binary(field) => write!(f, "{field}"),
         }
     }
 }
@@ -159,13 +162,13 @@ impl core::error::Error for BuildFault {}
 impl core::fmt::Display for ReadFault {
     fn fmt(&self, f: &mut core::fmt::Formatter<'_>) -> core::fmt::Result {
         match self {
-            ReadFault::Binary(_0) => write!(f, "{_0}"),
-            ReadFault::Text => write!(f, "neither a trie in the binary form nor a text in UTF-8"),
-            ReadFault::Json(_0) => write!(f, "{_0}"),
-            ReadFault::TrieJson(_0) => write!(f, "{_0}"),
-            ReadFault::Toml(_0) => write!(f, "not TOML: {_0}"),
-            ReadFault::TrieToml(_0) => write!(f, "{_0}"),
-            ReadFault::Memory => write!(f, "no memory"),
+            ReadFault::Binary(field) => write!(f, "{field}"),
+            ReadFault::Text => f.write_str("neither a trie in the binary form nor a text in UTF-8"),
+            ReadFault::Json(field) => write!(f, "{field}"),
+            ReadFault::TrieJson(field) => write!(f, "{field}"),
+            ReadFault::Toml(field) => write!(f, "not TOML: {field}"),
+            ReadFault::TrieToml(field) => write!(f, "{field}"),
+            ReadFault::Memory => f.write_str("no memory"),
         }
     }
 }

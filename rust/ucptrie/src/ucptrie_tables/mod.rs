@@ -46,11 +46,7 @@ use crate::ucptrie_tables::written::{Form, written};
 /// for a trie, and if an allocation fails. Returns [`BuildFault::Width`] for the first value that
 /// has more bits than the asked width. Returns [`BuildFault::Binary`] if ICU's binary form has no
 /// room for the trie.
-pub fn built(
-    rows: &[u8],
-    options: TableOptions,
-    form: Form<'_>,
-) -> Result<Vec<u8>, BuildFault> {
+pub fn built(rows: &[u8], options: TableOptions, form: Form<'_>) -> Result<Vec<u8>, BuildFault> {
     let table = table_of_rows(rows, options)?;
     written(&table, form)
 }

@@ -1,9 +1,9 @@
 //! Texts with places for a name and for numbers.
 #[allow(unused_imports)]
 use crate::host::{HostRuntime, Text};
+use crate::support::AllocError;
 #[allow(unused_imports)]
 use crate::support::prelude::*;
-use crate::support::AllocError;
 
 /// A number, and its digits.
 #[derive(Clone, Copy)]
@@ -41,7 +41,8 @@ pub(crate) fn push_pattern(
 ) -> Result<(), AllocError> {
     for (i, piece) in pattern.split('%').enumerate() {
         if i > 0
-            && let Some(number) = numbers.get(i - 1) {
+            && let Some(number) = numbers.get(i - 1)
+        {
             push_number(text, *number)?;
         }
         push_named(text, piece, name)?;

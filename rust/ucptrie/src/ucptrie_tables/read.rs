@@ -2,8 +2,6 @@
 
 #[allow(unused_imports)]
 use crate::host::{HostRuntime, Text};
-#[allow(unused_imports)]
-use crate::support::prelude::*;
 use crate::ucptrie_tables::fault::{ReadFault, TomlFault};
 use crate::ucptrie_tables::table::Table;
 use crate::ucptrie_tables::values::with_values_of;
@@ -27,7 +25,7 @@ fn widened<T: TrieValue>(
         Ok(trie) => Ok(Table { trie, width }),
         // The number of each value has at most 32 bits.
         Err(MapError::Closure(_)) => unreachable!(),
-        Err(MapError::Memory) => Err(ReadFault::Memory),
+        Err(_) => Err(ReadFault::Memory),
     }
 }
 

@@ -1,6 +1,7 @@
 //! A table as source in Rust.
 #[allow(unused_imports)]
 use crate::host::{HostRuntime, Text};
+use crate::support::AllocError;
 #[allow(unused_imports)]
 use crate::support::prelude::*;
 use crate::ucptrie_tables::cells::push_cells;
@@ -8,7 +9,6 @@ use crate::ucptrie_tables::pattern::Number::{Decimal, Hexadecimal};
 use crate::ucptrie_tables::pattern::push_pattern;
 use crate::ucptrie_tables::source::{index1_offset, push_sizes, type_code};
 use crate::ucptrie_tables::table::Table;
-use crate::support::{AllocError};
 
 /// The look-up, by the three stages of the format.
 const LOOK_UP: &str = "

@@ -1,13 +1,13 @@
 //! How many cells a built trie has at most.
 
+use crate::host::BTreeSet;
 #[allow(unused_imports)]
 use crate::host::{HostRuntime, Text};
+use crate::support::AllocError;
 #[allow(unused_imports)]
 use crate::support::prelude::*;
 use bekstaudi::codepointtrie::CodePointTrie;
 use bekstaudi::zerovec::CODE_POINT_LIMIT;
-use crate::support::{AllocError};
-use crate::host::BTreeSet;
 
 /// The most cells that a built trie of some values has.
 #[derive(Clone, Copy, Debug, PartialEq, Eq)]

@@ -1,13 +1,13 @@
 //! What the sources in C and in Rust have in common.
 #[allow(unused_imports)]
 use crate::host::{HostRuntime, Text};
+use crate::support::AllocError;
 #[allow(unused_imports)]
 use crate::support::prelude::*;
 use crate::ucptrie_tables::pattern::Number::{self, Decimal, Hexadecimal};
 use crate::ucptrie_tables::pattern::push_pattern;
 use crate::ucptrie_tables::table::Table;
 use bekstaudi::codepointtrie::TrieType;
-use crate::support::AllocError;
 
 /// Returns whether a text can be a name in C and in Rust: ASCII letters, digits and `_`, and not a
 /// digit first. Keywords of the two languages are not excluded.

@@ -2,14 +2,12 @@
 
 #[allow(unused_imports)]
 use crate::host::{HostRuntime, Text};
-#[allow(unused_imports)]
-use crate::support::prelude::*;
+use crate::ucptab_table::input::read_rows;
 use crate::ucptrie_tables::fault::BuildFault;
 use crate::ucptrie_tables::width::ValueWidth;
 use bekstaudi::codepointtrie::CodePointTrie;
 use bekstaudi::codepointtrie::TrieType;
 use bekstaudi::codepointtrie::try_build_from_writes;
-use crate::ucptab_table::input::read_rows;
 
 /// A trie over numbers, and how many bits a value has in a file.
 #[derive(Debug)]
@@ -45,12 +43,7 @@ fn first_wider(trie: &CodePointTrie<'_, u32>, width: ValueWidth) -> Option<u32> 
 /// trie's data that has more bits than the asked width.
 pub fn table_of_rows(rows: &[u8], options: TableOptions) -> Result<Table, BuildFault> {
     let writes = read_rows(rows)?;
-    let trie = try_build_from_writes(
-        options.default,
-        options.error,
-        options.trie_type,
-        &writes,
-    )?;
+    let trie = try_build_from_writes(options.default, options.error, options.trie_type, &writes)?;
     match first_wider(&trie, options.width) {
         Some(value) => Err(BuildFault::Width(value, options.width)),
         None => Ok(Table {

@@ -1,6 +1,7 @@
 //! A table in TOML, as ICU's usrc_writeUCPTrie writes it.
 #[allow(unused_imports)]
 use crate::host::{HostRuntime, Text};
+use crate::support::AllocError;
 #[allow(unused_imports)]
 use crate::support::prelude::*;
 use crate::ucptrie_tables::cells::push_cells;
@@ -8,7 +9,6 @@ use crate::ucptrie_tables::pattern::Number::Decimal;
 use crate::ucptrie_tables::pattern::push_pattern;
 use crate::ucptrie_tables::source::header_numbers;
 use crate::ucptrie_tables::table::Table;
-use crate::support::{AllocError};
 
 /// What follows the data: the numbers of the header.
 const HEADER: &str = "

@@ -2,8 +2,6 @@
 
 #[allow(unused_imports)]
 use crate::host::{HostRuntime, Text};
-#[allow(unused_imports)]
-use crate::support::prelude::*;
 use bekstaudi::codepointtrie::CodePointTrie;
 use bekstaudi::codepointtrie::MapError;
 use bekstaudi::codepointtrie::TrieValue;
@@ -25,5 +23,5 @@ fn same_number<T: TrieValue, P: TrieValue>(value: T) -> Result<P, u32> {
 pub(crate) fn with_values_of<P: TrieValue, T: TrieValue>(
     trie: &CodePointTrie<'_, T>,
 ) -> Result<CodePointTrie<'static, P>, MapError<u32>> {
-    trie.try_alloc_map_value(|value: T| same_number::<T, P>(value))
+    trie.try_alloc_map_value_fallible(|value: T| same_number::<T, P>(value))
 }

@@ -4,6 +4,8 @@
 use crate::host::{HostRuntime, Text};
 #[allow(unused_imports)]
 use crate::support::prelude::*;
+use crate::ucptab_table::fault::TableError;
+use crate::ucptab_table::text::ranges_text;
 use crate::ucptrie_tables::c_source::c_text;
 use crate::ucptrie_tables::fault::BuildFault;
 use crate::ucptrie_tables::rust_source::rust_text;
@@ -17,8 +19,6 @@ use bekstaudi::codepointtrie::TrieValue;
 use bekstaudi::codepointtrie::binary::to_binary;
 use bekstaudi::codepointtrie::json::to_json;
 use bekstaudi::zerovec::MemoryError;
-use crate::ucptab_table::fault::TableError;
-use crate::ucptab_table::text::ranges_text;
 
 /// The forms in which a table is written.
 #[derive(Clone, Copy, Debug, PartialEq, Eq)]
@@ -42,7 +42,7 @@ fn binary_over<P: TrieValue>(table: &Table) -> Result<Vec<u8>, BuildFault> {
     let narrowed: CodePointTrie<'static, P> = match with_values_of(&table.trie) {
         Ok(narrowed) => narrowed,
         Err(MapError::Closure(value)) => return Err(BuildFault::Width(value, table.width)),
-        Err(MapError::Memory) => return Err(BuildFault::Table(TableError::Memory)),
+        Err(_) => return Err(BuildFault::Table(TableError::Memory)),
     };
     Ok(to_binary(&narrowed)?)
 }

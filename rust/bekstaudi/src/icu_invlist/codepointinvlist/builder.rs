@@ -1,12 +1,11 @@
 //! The mutable set of code points.
 
-#[allow(unused_imports)]
-use crate::support::prelude::*;
 use crate::icu_invlist::codepointinvlist::cpinvlist::CodePointInversionList;
 use crate::icu_invlist::codepointinvlist::utils::RangeOf;
 use crate::icu_invlist::fill;
 use crate::icu_invlist::merge::{Difference, Intersection, SymmetricDifference, Union, change};
 use crate::icu_zerovec::{CODE_POINT_LIMIT, MemoryError};
+use crate::support::prelude::*;
 
 /// A mutable set of code points. [`build`](CodePointInversionListBuilder::build) turns it into a
 /// [`CodePointInversionList`].
@@ -15,16 +14,20 @@ use crate::icu_zerovec::{CODE_POINT_LIMIT, MemoryError};
 /// of the range and replaces the boundaries between them. Combining with another set merges both
 /// lists into a new one.
 ///
-/// If an allocation fails, the method returns `MemoryError` and leaves the set unchanged.
+/// If an allocation fails, a method panics. If its name starts with `try_`, it returns
+/// `MemoryError` instead and leaves the set unchanged.
 ///
-/// ```ignore
-/// let mut builder = CodePointInversionListBuilder::new();
-/// builder.try_add_range('A'..='Z')?;
-/// builder.try_remove_char('Q')?;
-/// let set = builder.try_build()?;
-/// // set.contains('P') is true, set.contains('Q') is false, and set.size() is 25
 /// ```
-#[derive(Debug)]
+/// use bekstaudi::codepointinvlist::CodePointInversionListBuilder;
+///
+/// let mut builder = CodePointInversionListBuilder::new();
+/// builder.add_range('A'..='Z');
+/// builder.remove_char('Q');
+/// let set = builder.build();
+/// assert!(set.contains('P') && !set.contains('Q'));
+/// assert_eq!(set.size(), 25);
+/// ```
+#[derive(Debug, PartialEq, Eq)]
 pub struct CodePointInversionListBuilder {
     ends: Vec<u32>,
 }
@@ -32,14 +35,14 @@ pub struct CodePointInversionListBuilder {
 impl CodePointInversionListBuilder {
     /// Returns a builder that holds the empty set.
     /// This does not allocate.
+    #[must_use]
     #[inline]
-    pub fn new() -> Self {
-        CodePointInversionListBuilder {
-            ends: Vec::new(),
-        }
+    pub const fn new() -> Self {
+        CodePointInversionListBuilder { ends: Vec::new() }
     }
 
     /// Returns true if the set contains no code points.
+    #[must_use]
     #[inline]
     pub fn is_empty(&self) -> bool {
         self.ends.is_empty()
@@ -51,6 +54,9 @@ impl CodePointInversionListBuilder {
     /// Returns `MemoryError` if an allocation fails. The builder is dropped in any case.
     #[inline]
     pub fn try_build(self) -> Result<CodePointInversionList<'static>, MemoryError> {
+        if self.is_empty() {
+            return Ok(CodePointInversionList::none());
+        }
         CodePointInversionList::from_valid_slice(&self.ends)
     }
 
@@ -95,7 +101,10 @@ impl CodePointInversionListBuilder {
     /// # Errors
     /// Returns `MemoryError` if an allocation fails. The set is then unchanged.
     #[inline]
-    pub fn try_add_range<R: core::ops::RangeBounds<char>>(&mut self, range: R) -> Result<(), MemoryError> {
+    pub fn try_add_range<R: core::ops::RangeBounds<char>>(
+        &mut self,
+        range: R,
+    ) -> Result<(), MemoryError> {
         let (from, till) = range.deconstruct();
         fill::add(&mut self.ends, from, till)
     }
@@ -108,9 +117,10 @@ impl CodePointInversionListBuilder {
     /// # Errors
     /// Returns `MemoryError` if an allocation fails. The set is then unchanged.
     #[inline]
-    pub fn try_add_range32<R: core::ops::RangeBounds<u32>>(&mut self, range: R) -> Result<(), MemoryError> {
-        // Reading the field gives the proof the invariant: the set is valid.
-        let _ = &self.ends;
+    pub fn try_add_range32<R: core::ops::RangeBounds<u32>>(
+        &mut self,
+        range: R,
+    ) -> Result<(), MemoryError> {
         let (start, end) = range.deconstruct();
         if end > CODE_POINT_LIMIT {
             return Ok(());
@@ -124,6 +134,9 @@ impl CodePointInversionListBuilder {
     /// Returns `MemoryError` if an allocation fails. The builder is then unchanged.
     #[inline]
     pub fn try_add_set(&mut self, set: &CodePointInversionList<'_>) -> Result<(), MemoryError> {
+        if set.is_empty() {
+            return Ok(());
+        }
         change::<Union>(&mut self.ends, set)
     }
 }
@@ -157,7 +170,10 @@ impl CodePointInversionListBuilder {
     /// Returns `MemoryError` if an allocation fails. The set is then unchanged. This allocates only
     /// if it splits a range of the set in two.
     #[inline]
-    pub fn try_remove_range<R: core::ops::RangeBounds<char>>(&mut self, range: R) -> Result<(), MemoryError> {
+    pub fn try_remove_range<R: core::ops::RangeBounds<char>>(
+        &mut self,
+        range: R,
+    ) -> Result<(), MemoryError> {
         let (from, till) = range.deconstruct();
         fill::remove(&mut self.ends, from, till)
     }
@@ -169,7 +185,10 @@ impl CodePointInversionListBuilder {
     /// # Errors
     /// Returns `MemoryError` if an allocation fails. The set is then unchanged.
     #[inline]
-    pub fn try_remove_range32<R: core::ops::RangeBounds<u32>>(&mut self, range: R) -> Result<(), MemoryError> {
+    pub fn try_remove_range32<R: core::ops::RangeBounds<u32>>(
+        &mut self,
+        range: R,
+    ) -> Result<(), MemoryError> {
         let (start, end) = range.deconstruct();
         fill::remove(&mut self.ends, start, end)
     }
@@ -180,6 +199,9 @@ impl CodePointInversionListBuilder {
     /// Returns `MemoryError` if an allocation fails. The builder is then unchanged.
     #[inline]
     pub fn try_remove_set(&mut self, set: &CodePointInversionList<'_>) -> Result<(), MemoryError> {
+        if set.is_empty() {
+            return Ok(());
+        }
         change::<Difference>(&mut self.ends, set)
     }
 }
@@ -265,7 +287,10 @@ impl CodePointInversionListBuilder {
     /// # Errors
     /// Returns `MemoryError` if an allocation fails. The set is then unchanged.
     #[inline]
-    pub fn try_complement_range<R: core::ops::RangeBounds<char>>(&mut self, range: R) -> Result<(), MemoryError> {
+    pub fn try_complement_range<R: core::ops::RangeBounds<char>>(
+        &mut self,
+        range: R,
+    ) -> Result<(), MemoryError> {
         let (from, till) = range.deconstruct();
         fill::flip(&mut self.ends, from, till)
     }
@@ -277,7 +302,10 @@ impl CodePointInversionListBuilder {
     /// # Errors
     /// Returns `MemoryError` if an allocation fails. The set is then unchanged.
     #[inline]
-    pub fn try_complement_range32<R: core::ops::RangeBounds<u32>>(&mut self, range: R) -> Result<(), MemoryError> {
+    pub fn try_complement_range32<R: core::ops::RangeBounds<u32>>(
+        &mut self,
+        range: R,
+    ) -> Result<(), MemoryError> {
         let (start, end) = range.deconstruct();
         fill::flip(&mut self.ends, start, end)
     }
@@ -288,7 +316,13 @@ impl CodePointInversionListBuilder {
     /// # Errors
     /// Returns `MemoryError` if an allocation fails. The builder is then unchanged.
     #[inline]
-    pub fn try_complement_set(&mut self, set: &CodePointInversionList<'_>) -> Result<(), MemoryError> {
+    pub fn try_complement_set(
+        &mut self,
+        set: &CodePointInversionList<'_>,
+    ) -> Result<(), MemoryError> {
+        if set.is_empty() {
+            return Ok(());
+        }
         change::<SymmetricDifference>(&mut self.ends, set)
     }
 }

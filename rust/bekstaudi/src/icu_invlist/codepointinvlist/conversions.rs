@@ -1,7 +1,5 @@
 //! Sets made from ranges.
 
-#[allow(unused_imports)]
-use crate::support::prelude::*;
 use crate::icu_invlist::codepointinvlist::builder::CodePointInversionListBuilder;
 use crate::icu_invlist::codepointinvlist::cpinvlist::CodePointInversionList;
 use crate::icu_invlist::codepointinvlist::error::{RangeError, TryRangeError};

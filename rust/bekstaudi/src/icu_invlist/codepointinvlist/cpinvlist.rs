@@ -1,29 +1,37 @@
 //! The immutable set of code points, stored as an inversion list.
 
-#[allow(unused_imports)]
 use crate::support::prelude::*;
 mod packing;
 mod places;
 mod subsets;
 
 use crate::icu_invlist::codepointinvlist::error::{InvalidSetError, SetError};
-use crate::icu_invlist::codepointinvlist::iter::{IterChars, IterRanges, IterRangesComplemented, start_of_gap};
+use crate::icu_invlist::codepointinvlist::iter::{
+    IterChars, IterRanges, IterRangesComplemented, start_of_gap,
+};
 use crate::icu_invlist::codepointinvlist::utils::{RangeOf, is_valid_slice, is_valid_zv};
 use crate::icu_zerovec::ule::AsULE;
 use crate::icu_zerovec::{CODE_POINT_LIMIT, MemoryError, PotentialCodePoint, ZeroSlice, ZeroVec};
-use packing::{cut_to_points, pack, unpacked};
 use core::ops::RangeInclusive;
+use packing::{cut_to_points, pack, unpacked};
 
 /// An immutable set of code points, which may include surrogates. It borrows or owns the list of
 /// its boundaries.
 ///
-/// ```ignore
-/// let letters = CodePointInversionList::try_from_u32_inversion_list_slice(&[0x41, 0x5B, 0x61, 0x7B])?;
-/// // letters.contains32(0x5A) is true, and letters.contains32(0x5B) is false
+/// ```
+/// use bekstaudi::codepointinvlist::CodePointInversionList;
+///
+/// let ends = [0x41, 0x5B, 0x61, 0x7B];
+/// let letters = CodePointInversionList::try_from_u32_inversion_list_slice(&ends)?;
+/// assert!(letters.contains('Z') && letters.contains32(0x61));
+/// assert!(!letters.contains32(0x5B));
+/// assert_eq!(letters.iter_ranges().last(), Some(0x61..=0x7A));
+/// assert_eq!(letters, ('A'..='Z').chain('a'..='z').collect());
+/// # Ok::<(), Box<dyn std::error::Error>>(())
 /// ```
 #[derive(Debug)]
 pub struct CodePointInversionList<'data> {
-    ends: ZeroVec<'data, PotentialCodePoint>,
+    pub(crate) ends: ZeroVec<'data, PotentialCodePoint>,
 }
 
 /// Constructors and copies.
@@ -36,7 +44,7 @@ impl<'data> CodePointInversionList<'data> {
     /// - `SetError::Memory` if `ends` is not an inversion list and allocating that copy fails. A
     ///   valid list needs no allocation.
     #[inline]
-    pub fn try_from_inversion_list(
+    pub fn try_from_inversion_list_fallible(
         ends: ZeroVec<'data, PotentialCodePoint>,
     ) -> Result<Self, SetError> {
         if is_valid_zv(&ends) {
@@ -52,7 +60,7 @@ impl<'data> CodePointInversionList<'data> {
     ///   numbers, with 0xFFFFFF in place of any number above it.
     /// - `SetError::Memory` if an allocation fails.
     #[inline]
-    pub fn try_from_u32_inversion_list_slice(ends: &[u32]) -> Result<Self, SetError> {
+    pub fn try_from_u32_inversion_list_slice_fallible(ends: &[u32]) -> Result<Self, SetError> {
         if !is_valid_slice(ends) {
             return Err(SetError::Invalid(InvalidSetError(cut_to_points(ends)?)));
         }
@@ -63,7 +71,7 @@ impl<'data> CodePointInversionList<'data> {
     ///
     /// `ends` must be an inversion list: of even length, strictly ascending, and with no number
     /// above 0x110000. If that is not known, use
-    /// [`try_from_u32_inversion_list_slice`](Self::try_from_u32_inversion_list_slice), which checks
+    /// [`try_from_u32_inversion_list_slice_fallible`](Self::try_from_u32_inversion_list_slice_fallible), which checks
     /// it.
     ///
     /// # Errors
@@ -80,23 +88,31 @@ impl<'data> CodePointInversionList<'data> {
         }
     }
 
+    /// Returns the empty set. This does not allocate.
+    #[inline]
+    pub(crate) fn none() -> CodePointInversionList<'static> {
+        CodePointInversionList {
+            ends: ZeroVec::from_packed(&[]),
+        }
+    }
+
     /// Returns the set of all code points, 0 to 0x10FFFF inclusive, with surrogates. This does not
     /// allocate.
+    #[must_use]
     #[inline]
-    pub fn all() -> CodePointInversionList<'static> {
-        match ZeroVec::parse_bytes(&[0, 0, 0, 0, 0, 0x11]) {
-            Ok(ends) => CodePointInversionList { ends },
-            Err(_) => unreachable!(),
+    pub const fn all() -> CodePointInversionList<'static> {
+        CodePointInversionList {
+            ends: ZeroVec::from_packed(&[0, 0, 0, 0, 0, 0x11]),
         }
     }
 
     /// Returns the set of all code points of the Basic Multilingual Plane, 0 to 0xFFFF inclusive,
     /// with surrogates. This does not allocate.
+    #[must_use]
     #[inline]
-    pub fn bmp() -> CodePointInversionList<'static> {
-        match ZeroVec::parse_bytes(&[0, 0, 0, 0, 0, 0x1]) {
-            Ok(ends) => CodePointInversionList { ends },
-            Err(_) => unreachable!(),
+    pub const fn bmp() -> CodePointInversionList<'static> {
+        CodePointInversionList {
+            ends: ZeroVec::from_packed(&[0, 0, 0, 0, 0, 0x1]),
         }
     }
 
@@ -149,14 +165,23 @@ impl<'data> CodePointInversionList<'data> {
     /// Returns a view of the boundaries as they are stored, packed in three bytes each. This does
     /// not allocate.
     ///
-    /// [`try_from_inversion_list`](Self::try_from_inversion_list) turns such a view back into an
+    /// [`try_from_inversion_list_fallible`](Self::try_from_inversion_list_fallible) turns such a view back into an
     /// equal set.
     ///
-    /// ```ignore
-    /// let ends = letters.as_inversion_list();
-    /// let same = CodePointInversionList::try_from_inversion_list(ends.as_zerovec())?;
-    /// // same == letters, and ends.as_bytes() is what a file keeps of it
     /// ```
+    /// use bekstaudi::codepointinvlist::CodePointInversionList;
+    /// use bekstaudi::zerovec::ZeroVec;
+    ///
+    /// let letters = CodePointInversionList::try_from('a'..='z')?;
+    /// let ends = letters.as_inversion_list();
+    /// // What a file stores of the set, and the set that borrows it.
+    /// let bytes = ends.as_bytes();
+    /// assert_eq!(bytes, [0x61, 0, 0, 0x7B, 0, 0]);
+    /// let same = CodePointInversionList::try_from_inversion_list(ZeroVec::parse_bytes(bytes)?)?;
+    /// assert_eq!(same, letters);
+    /// # Ok::<(), Box<dyn std::error::Error>>(())
+    /// ```
+    #[must_use]
     #[inline]
     pub fn as_inversion_list(&self) -> ZeroSlice<'_, PotentialCodePoint> {
         self.ends.as_slice()
@@ -188,12 +213,14 @@ impl<'data> CodePointInversionList<'data> {
 
     /// Returns true if the set contains the code point `c`. Returns false for any number above
     /// 0x10FFFF.
+    #[must_use]
     #[inline]
     pub fn contains32(&self, c: u32) -> bool {
         self.place_of(c) % 2 == 1
     }
 
     /// Returns true if the set contains the character `c`.
+    #[must_use]
     #[inline]
     pub fn contains(&self, c: char) -> bool {
         self.contains32(u32::from(c))
@@ -201,6 +228,7 @@ impl<'data> CodePointInversionList<'data> {
 
     /// Returns true if `range` is not empty and the set contains all code points in it, including
     /// any surrogates between its start and its end.
+    #[must_use]
     #[inline]
     pub fn contains_range<R: core::ops::RangeBounds<char>>(&self, range: R) -> bool {
         let (start, end) = range.deconstruct();
@@ -209,17 +237,18 @@ impl<'data> CodePointInversionList<'data> {
     }
 
     /// Returns true if `other` is a subset of this set. The empty set is a subset of every set.
+    #[must_use]
     pub fn contains_set(&self, other: &CodePointInversionList<'_>) -> bool {
-        // Reading the field gives the proof the invariant: the set is valid.
-        let _ = &self.ends;
-        let count = other.count();
-        if count == 0 {
+        if other.is_empty() {
             return true;
         }
         if !self.spans(other) {
             return false;
         }
-        if count < self.count() / 16 {
+        let count = other.count();
+        if self.ends.as_bytes() == other.ends.as_bytes() {
+            true
+        } else if count < self.count() / 16 {
             self.holds_each(other)
         } else {
             self.holds_in_order(other)
@@ -231,6 +260,7 @@ impl<'data> CodePointInversionList<'data> {
     ///
     /// The index is the number of smaller code points in the set, and is less than
     /// [`size`](Self::size).
+    #[must_use]
     #[inline]
     pub fn position(&self, c: char) -> Option<usize> {
         self.position32(u32::from(c))
@@ -241,10 +271,11 @@ impl<'data> CodePointInversionList<'data> {
     ///
     /// The index is the number of smaller code points in the set, and is less than
     /// [`size`](Self::size). For any number above 0x10FFFF the result is `None`.
+    #[must_use]
     #[inline]
     pub fn position32(&self, c: u32) -> Option<usize> {
         let place = self.place_of(c);
-        if place % 2 == 0 {
+        if place.is_multiple_of(2) {
             return None;
         }
         let mut before = 0;
@@ -257,6 +288,9 @@ impl<'data> CodePointInversionList<'data> {
     }
 
     /// Returns the number of code points in the set, including surrogates.
+    ///
+    /// Takes time linear in the number of ranges, as the number is not stored.
+    #[must_use]
     #[inline]
     pub fn size(&self) -> usize {
         let count = self.count();
@@ -270,6 +304,7 @@ impl<'data> CodePointInversionList<'data> {
     }
 
     /// Returns true if the set contains no code points.
+    #[must_use]
     #[inline]
     pub fn is_empty(&self) -> bool {
         self.ends.is_empty()
@@ -279,6 +314,7 @@ impl<'data> CodePointInversionList<'data> {
 /// Ranges and characters.
 impl<'data> CodePointInversionList<'data> {
     /// Returns the number of ranges in the set. Two ranges never touch.
+    #[must_use]
     #[inline]
     pub fn get_range_count(&self) -> usize {
         self.ends.len() / 2
@@ -286,12 +322,16 @@ impl<'data> CodePointInversionList<'data> {
 
     /// Returns the range at `index`, counted from 0, or `None` if there are not that many ranges.
     /// The range includes its last code point.
+    #[must_use]
     #[inline]
     pub fn get_nth_range(&self, index: usize) -> Option<RangeInclusive<u32>> {
         if index >= self.count() / 2 {
             return None;
         }
-        Some(RangeInclusive::new(self.end_at(2 * index), self.end_at(2 * index + 1) - 1))
+        Some(RangeInclusive::new(
+            self.end_at(2 * index),
+            self.end_at(2 * index + 1) - 1,
+        ))
     }
 
     /// Returns an iterator over the ranges of the set, in ascending order: for `[0x41, 0x44, 0x61,
@@ -328,6 +368,7 @@ impl<'data> CodePointInversionList<'data> {
     ///
     /// The result is a character boundary, so `&text[set.span(text, true)..]` is the rest of the
     /// text.
+    #[must_use]
     #[inline]
     pub fn span(&self, text: &str, held: bool) -> usize {
         let mut length = 0;
@@ -345,11 +386,11 @@ impl<'data> CodePointInversionList<'data> {
     ///
     /// The result is a character boundary, so `&text[..set.span_back(text, true)]` is the text
     /// before that suffix.
+    #[must_use]
     #[inline]
     pub fn span_back(&self, text: &str, held: bool) -> usize {
         let mut start = text.len();
         for c in text.chars().rev() {
-            c.shown();
             if self.contains(c) != held {
                 return start;
             }

@@ -13,8 +13,7 @@ impl<'data> PartialEq for CodePointInversionList<'data> {
     }
 }
 
-impl<'data> Eq for CodePointInversionList<'data> {
-}
+impl<'data> Eq for CodePointInversionList<'data> {}
 
 impl<'data> Hash for CodePointInversionList<'data> {
     #[inline]

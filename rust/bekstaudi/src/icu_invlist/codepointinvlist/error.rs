@@ -1,16 +1,16 @@
 //! Errors for invalid lists, ranges and JSON values.
 
-#[allow(unused_imports)]
-use crate::support::prelude::*;
 use crate::icu_zerovec::{MemoryError, PotentialCodePoint};
+use crate::support::prelude::*;
 
 /// The list that was rejected because it is not an inversion list: its length is odd, it is not
 /// strictly ascending, or it has a number above 0x110000.
-#[derive(Debug, PartialEq)]
+#[derive(Debug, PartialEq, Clone, Eq, Hash)]
 pub struct InvalidSetError(pub Vec<PotentialCodePoint>);
 
 /// The error of the constructors that take a list of boundaries.
-#[derive(Debug, PartialEq)]
+#[derive(Debug, PartialEq, Clone, Eq, Hash)]
+#[non_exhaustive]
 pub enum SetError {
     /// The list is not an inversion list.
     Invalid(InvalidSetError),
@@ -26,11 +26,12 @@ impl From<MemoryError> for SetError {
 }
 
 /// The inclusive start and the exclusive end of a range that is empty or reversed.
-#[derive(Clone, Copy, Debug, PartialEq, Eq)]
+#[derive(Clone, Copy, Debug, PartialEq, Eq, Hash)]
 pub struct RangeError(pub u32, pub u32);
 
 /// The error of the conversion from a range to a set.
-#[derive(Clone, Copy, Debug, PartialEq, Eq)]
+#[derive(Clone, Copy, Debug, PartialEq, Eq, Hash)]
+#[non_exhaustive]
 pub enum TryRangeError {
     /// The range is empty or reversed.
     Invalid(RangeError),
@@ -46,7 +47,8 @@ impl From<MemoryError> for TryRangeError {
 }
 
 /// The error of the conversion from JSON to a set.
-#[derive(Clone, Copy, Debug, PartialEq, Eq)]
+#[derive(Clone, Copy, Debug, PartialEq, Eq, Hash)]
+#[non_exhaustive]
 pub enum SetJsonError {
     /// The value is not an array.
     NotAnArray,
@@ -71,7 +73,7 @@ impl core::fmt::Display for InvalidSetError {
     #[inline]
     fn fmt(&self, f: &mut core::fmt::Formatter<'_>) -> core::fmt::Result {
         match self {
-            InvalidSetError(_0) => write!(f, "Invalid set"),
+            InvalidSetError(_) => f.write_str("Invalid set"),
         }
     }
 }
@@ -82,8 +84,8 @@ impl core::fmt::Display for SetError {
     #[inline]
     fn fmt(&self, f: &mut core::fmt::Formatter<'_>) -> core::fmt::Result {
         match self {
-            SetError::Invalid(_0) => core::fmt::Display::fmt(_0, f),
-            SetError::Memory => write!(f, "no memory"),
+            SetError::Invalid(field) => core::fmt::Display::fmt(field, f),
+            SetError::Memory => f.write_str("no memory"),
         }
     }
 }
@@ -101,7 +103,7 @@ impl core::fmt::Display for RangeError {
     #[inline]
     fn fmt(&self, f: &mut core::fmt::Formatter<'_>) -> core::fmt::Result {
         match self {
-            RangeError(_0, _1) => write!(f, "Invalid range: {_0}..{_1}"),
+            RangeError(first, second) => write!(f, "Invalid range: {first}..{second}"),
         }
     }
 }
@@ -112,8 +114,8 @@ impl core::fmt::Display for TryRangeError {
     #[inline]
     fn fmt(&self, f: &mut core::fmt::Formatter<'_>) -> core::fmt::Result {
         match self {
-            TryRangeError::Invalid(_0) => core::fmt::Display::fmt(_0, f),
-            TryRangeError::Memory => write!(f, "no memory"),
+            TryRangeError::Invalid(field) => core::fmt::Display::fmt(field, f),
+            TryRangeError::Memory => f.write_str("no memory"),
         }
     }
 }
@@ -131,11 +133,11 @@ impl core::fmt::Display for SetJsonError {
     #[inline]
     fn fmt(&self, f: &mut core::fmt::Formatter<'_>) -> core::fmt::Result {
         match self {
-            SetJsonError::NotAnArray => write!(f, "no array"),
-            SetJsonError::NotAString(_0) => write!(f, "item {_0} is no string"),
-            SetJsonError::NotARange(_0) => write!(f, "item {_0} is no range"),
-            SetJsonError::InvalidSet => write!(f, "the ranges are no set"),
-            SetJsonError::Memory => write!(f, "no memory"),
+            SetJsonError::NotAnArray => f.write_str("no array"),
+            SetJsonError::NotAString(field) => write!(f, "item {field} is no string"),
+            SetJsonError::NotARange(field) => write!(f, "item {field} is no range"),
+            SetJsonError::InvalidSet => f.write_str("the ranges are no set"),
+            SetJsonError::Memory => f.write_str("no memory"),
         }
     }
 }

@@ -8,7 +8,7 @@ use core::ops::RangeInclusive;
 /// [`iter_ranges`](crate::icu_invlist::codepointinvlist::CodePointInversionList::iter_ranges) returns it.
 ///
 /// It knows how many ranges are left.
-#[derive(Debug)]
+#[derive(Debug, Clone)]
 pub struct IterRanges<'a> {
     ends: Iter<'a, PotentialCodePoint>,
 }
@@ -48,7 +48,7 @@ impl<'a> ExactSizeIterator for IterRanges<'a> {
 /// An iterator over the ranges of code points that are not in a set, in ascending order.
 /// [`iter_ranges_complemented`](crate::icu_invlist::codepointinvlist::CodePointInversionList::iter_ranges_complemented)
 /// returns it.
-#[derive(Debug)]
+#[derive(Debug, Clone)]
 pub struct IterRangesComplemented<'a> {
     start: Option<u32>,
     ends: Iter<'a, PotentialCodePoint>,
@@ -96,7 +96,7 @@ impl<'a> Iterator for IterRangesComplemented<'a> {
 
 /// An iterator over the characters in a set, in ascending order.
 /// [`iter_chars`](crate::icu_invlist::codepointinvlist::CodePointInversionList::iter_chars) returns it.
-#[derive(Debug)]
+#[derive(Debug, Clone)]
 pub struct IterChars<'a> {
     next: u32,
     end: u32,
@@ -115,18 +115,35 @@ impl<'a> IterChars<'a> {
     }
 }
 
+/// Does what [`take_char`] does if `next` is no character: passes all surrogates in one step.
+#[cold]
+fn take_past_surrogates(next: &mut u32, end: u32) -> Option<char> {
+    if *next < 0xE000 {
+        *next = 0xE000;
+    }
+    if end <= *next {
+        return None;
+    }
+    let c = char::from_u32(*next);
+    *next += 1;
+    c
+}
+
 /// Returns the first character from `next` to `end` exclusive and moves `next` past it. Skips
 /// surrogates.
-#[inline]
+///
+/// There is no loop here: LLVM vectorises one, as if it had far to search for each character.
+#[inline(always)]
 fn take_char(next: &mut u32, end: u32) -> Option<char> {
-    while *next < end {
-        let c = char::from_u32(*next);
-        *next += 1;
-        if c.is_some() {
-            return c;
-        }
+    if *next >= end {
+        return None;
     }
-    None
+    let c = char::from_u32(*next);
+    if c.is_none() {
+        return take_past_surrogates(next, end);
+    }
+    *next += 1;
+    c
 }
 
 impl<'a> Iterator for IterChars<'a> {
@@ -144,5 +161,14 @@ impl<'a> Iterator for IterChars<'a> {
             self.next = u32::from(start);
             self.end = u32::from(end);
         }
+    }
+}
+
+impl DoubleEndedIterator for IterRanges<'_> {
+    #[inline]
+    fn next_back(&mut self) -> Option<RangeInclusive<u32>> {
+        let end = self.ends.next_back()?;
+        let start = self.ends.next_back()?;
+        Some(RangeInclusive::new(u32::from(start), u32::from(end) - 1))
     }
 }

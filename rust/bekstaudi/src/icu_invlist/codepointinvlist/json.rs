@@ -1,12 +1,11 @@
 //! Conversion of sets to and from JSON.
 
-#[allow(unused_imports)]
-use crate::support::prelude::*;
 use crate::icu_invlist::codepointinvlist::cpinvlist::CodePointInversionList;
 use crate::icu_invlist::codepointinvlist::error::SetJsonError;
 use crate::icu_invlist::codepointinvlist::utils::is_valid_slice;
 use crate::icu_invlist::spelling::{range_of, text_of_range};
 use crate::icu_zerovec::MemoryError;
+use crate::support::prelude::*;
 use serde_json::Value;
 
 /// Appends the two boundaries of a range.
@@ -83,9 +82,7 @@ impl<'data> CodePointInversionList<'data> {
     ///   gaps between them.
     /// - `SetJsonError::Memory` if an allocation fails.
     #[inline]
-    pub fn from_json(
-        value: &Value,
-    ) -> Result<CodePointInversionList<'static>, SetJsonError> {
+    pub fn from_json(value: &Value) -> Result<CodePointInversionList<'static>, SetJsonError> {
         let ends = ends_of_value(value)?;
         if !is_valid_slice(&ends) {
             return Err(SetJsonError::InvalidSet);

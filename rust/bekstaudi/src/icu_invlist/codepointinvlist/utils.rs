@@ -10,7 +10,10 @@ pub trait RangePoint: Copy {
 
     /// Returns true if `range` was iterated to its end: it is empty, although its start is not
     /// above its end.
-    fn is_used_up(range: &RangeInclusive<Self>) -> bool;
+    #[doc(hidden)]
+    fn is_used_up(_: &RangeInclusive<Self>) -> bool {
+        false
+    }
 }
 
 impl RangePoint for char {
@@ -50,6 +53,7 @@ pub trait RangeOf<X: RangePoint> {
 ///
 /// A missing start is 0, and a missing end is 0x110000. An included end of `u32::MAX` has no
 /// successor and becomes the exclusive end itself: `0..=u32::MAX` gives `(0, u32::MAX)`.
+#[must_use]
 #[inline]
 pub fn deconstruct_range<X: RangePoint, R: core::ops::RangeBounds<X>>(range: R) -> (u32, u32) {
     range.deconstruct()
@@ -59,8 +63,9 @@ pub fn deconstruct_range<X: RangePoint, R: core::ops::RangeBounds<X>>(range: R) 
 /// no number is above 0x110000.
 ///
 /// `[0x41, 0x5B]` and the empty list are inversion lists, and `[1, 2, 2, 3]` is not.
+#[must_use]
 pub fn is_valid_zv(ends: &ZeroVec<'_, PotentialCodePoint>) -> bool {
-    if ends.len() % 2 != 0 {
+    if !ends.len().is_multiple_of(2) {
         return false;
     }
     let mut next = 0;
@@ -78,7 +83,7 @@ pub fn is_valid_zv(ends: &ZeroVec<'_, PotentialCodePoint>) -> bool {
 /// are not packed yet.
 #[inline]
 pub(crate) fn is_valid_slice(ends: &[u32]) -> bool {
-    if ends.len() % 2 != 0 {
+    if !ends.len().is_multiple_of(2) {
         return false;
     }
     let mut next = 0;

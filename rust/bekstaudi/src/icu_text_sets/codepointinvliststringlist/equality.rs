@@ -11,5 +11,4 @@ impl<'data> PartialEq for CodePointInversionListAndStringList<'data> {
     }
 }
 
-impl<'data> Eq for CodePointInversionListAndStringList<'data> {
-}
+impl<'data> Eq for CodePointInversionListAndStringList<'data> {}

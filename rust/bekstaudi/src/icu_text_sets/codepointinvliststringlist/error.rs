@@ -1,13 +1,12 @@
 //! Errors for invalid lists of strings and JSON values.
 
-#[allow(unused_imports)]
-use crate::support::prelude::*;
 use crate::icu_invlist::codepointinvlist::SetJsonError;
 use crate::icu_zerovec::MemoryError;
+use crate::support::prelude::*;
 
 /// The error for a list that cannot be the strings of a set. Each variant contains the strings at
 /// fault.
-#[derive(Debug, PartialEq)]
+#[derive(Debug, PartialEq, Clone, Eq, Hash)]
 pub enum InvalidStringList {
     /// The string has exactly one code point, so it belongs among the code points.
     InvalidStringLength(String),
@@ -18,7 +17,8 @@ pub enum InvalidStringList {
 }
 
 /// The error of the conversion from JSON to a set.
-#[derive(Debug, PartialEq)]
+#[derive(Debug, PartialEq, Clone, Eq, Hash)]
+#[non_exhaustive]
 pub enum StringListJsonError {
     /// The value is not an object, if the text is empty. Otherwise the object does not have this
     /// key, or the value at `str_list` is not an array.
@@ -56,9 +56,16 @@ impl core::fmt::Display for InvalidStringList {
     #[inline]
     fn fmt(&self, f: &mut core::fmt::Formatter<'_>) -> core::fmt::Result {
         match self {
-            InvalidStringList::InvalidStringLength(_0) => write!(f, "Invalid string length for string: {_0}"),
-            InvalidStringList::StringListNotUnique(_0) => write!(f, "String list has duplicate: {_0}"),
-            InvalidStringList::StringListNotSorted(_0, _1) => write!(f, "Strings in string list not in sorted order: ({_0}, {_1})"),
+            InvalidStringList::InvalidStringLength(field) => {
+                write!(f, "Invalid string length for string: {field}")
+            }
+            InvalidStringList::StringListNotUnique(field) => {
+                write!(f, "String list has duplicate: {field}")
+            }
+            InvalidStringList::StringListNotSorted(first, second) => write!(
+                f,
+                "Strings in string list not in sorted order: ({first}, {second})"
+            ),
         }
     }
 }
@@ -69,11 +76,16 @@ impl core::fmt::Display for StringListJsonError {
     #[inline]
     fn fmt(&self, f: &mut core::fmt::Formatter<'_>) -> core::fmt::Result {
         match self {
-            StringListJsonError::Shape(_0) => write!(f, "no object with arrays `cp_inv_list` and `str_list`, at the key `{_0}`"),
-            StringListJsonError::Set(_0) => write!(f, "code points: {_0}"),
-            StringListJsonError::NotAString(_0) => write!(f, "item {_0} of the strings is no string"),
-            StringListJsonError::Strings(_0) => core::fmt::Display::fmt(_0, f),
-            StringListJsonError::Memory => write!(f, "no memory"),
+            StringListJsonError::Shape(field) => write!(
+                f,
+                "no object with arrays `cp_inv_list` and `str_list`, at the key `{field}`"
+            ),
+            StringListJsonError::Set(field) => write!(f, "code points: {field}"),
+            StringListJsonError::NotAString(field) => {
+                write!(f, "item {field} of the strings is no string")
+            }
+            StringListJsonError::Strings(field) => core::fmt::Display::fmt(field, f),
+            StringListJsonError::Memory => f.write_str("no memory"),
         }
     }
 }

@@ -1,11 +1,10 @@
 //! Conversion of sets of code points and strings to and from JSON.
 
-#[allow(unused_imports)]
-use crate::support::prelude::*;
+use crate::icu_invlist::codepointinvlist::{CodePointInversionList, SetJsonError};
 use crate::icu_text_sets::codepointinvliststringlist::error::StringListJsonError;
 use crate::icu_text_sets::codepointinvliststringlist::set::CodePointInversionListAndStringList;
-use crate::icu_invlist::codepointinvlist::{CodePointInversionList, SetJsonError};
 use crate::icu_zerovec::MemoryError;
+use crate::support::prelude::*;
 use serde_json::{Value, json};
 
 /// Returns the strings as JSON strings, in order.
@@ -21,7 +20,9 @@ fn items_of(strings: &[String]) -> Result<Vec<Value>, MemoryError> {
 /// Returns the JSON object of a set, from its code points and strings in JSON.
 #[inline]
 fn object_of(code_points: Value, strings: Vec<Value>) -> Result<Value, MemoryError> {
-    Ok(crate::support::try_json!({ "cp_inv_list": code_points, "str_list": Value::Array(strings) })?)
+    Ok(
+        crate::support::try_json!({ "cp_inv_list": code_points, "str_list": Value::Array(strings) })?,
+    )
 }
 
 /// Returns the strings in the items, in order.
@@ -66,8 +67,13 @@ impl<'data> CodePointInversionListAndStringList<'data> {
     /// [`CodePointInversionList::to_json`] writes them, and `str_list` has the array of the
     /// strings, in order.
     ///
-    /// ```text
-    /// // the set of "a" and "abc": {"cp_inv_list":["a"],"str_list":["abc"]}
+    /// ```
+    /// use bekstaudi::codepointinvliststringlist::CodePointInversionListAndStringList;
+    ///
+    /// let set: CodePointInversionListAndStringList = ["a", "abc"].into_iter().collect();
+    /// let text = set.to_json()?.to_string();
+    /// assert_eq!(text, r#"{"cp_inv_list":["a"],"str_list":["abc"]}"#);
+    /// # Ok::<(), Box<dyn std::error::Error>>(())
     /// ```
     ///
     /// # Errors
@@ -83,10 +89,13 @@ impl<'data> CodePointInversionListAndStringList<'data> {
     /// Returns the set in a JSON object of the form that [`to_json`](Self::to_json) writes. Other
     /// keys are ignored.
     ///
-    /// ```ignore
-    /// let value = Value::from_str(r#"{"cp_inv_list":["a"],"str_list":["abc"]}"#)?;
+    /// ```
+    /// use bekstaudi::codepointinvliststringlist::CodePointInversionListAndStringList;
+    ///
+    /// let value = serde_json::json!({"cp_inv_list": ["a"], "str_list": ["abc"]});
     /// let set = CodePointInversionListAndStringList::from_json(&value)?;
-    /// // set.contains('a') and set.contains_str("abc") are true
+    /// assert!(set.contains('a') && set.contains_str("abc"));
+    /// # Ok::<(), Box<dyn std::error::Error>>(())
     /// ```
     ///
     /// # Errors

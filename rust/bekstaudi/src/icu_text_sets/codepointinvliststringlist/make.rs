@@ -1,11 +1,12 @@
 //! Constructors of sets of code points and strings.
 
-#[allow(unused_imports)]
-use crate::support::prelude::*;
-use crate::icu_text_sets::codepointinvliststringlist::error::InvalidStringList;
-use crate::icu_text_sets::codepointinvliststringlist::set::{CodePointInversionListAndStringList, only_char};
 use crate::icu_invlist::codepointinvlist::{CodePointInversionList, CodePointInversionListBuilder};
+use crate::icu_text_sets::codepointinvliststringlist::error::InvalidStringList;
+use crate::icu_text_sets::codepointinvliststringlist::set::{
+    CodePointInversionListAndStringList, only_char,
+};
 use crate::icu_zerovec::MemoryError;
+use crate::support::prelude::*;
 use core::cmp::Ordering;
 
 /// The fault of a string in a list.
@@ -82,8 +83,9 @@ impl<'data> CodePointInversionListAndStringList<'data> {
     #[inline]
     pub fn try_from(
         cp_inv_list: CodePointInversionList<'data>,
-        str_list: Vec<String>,
+        str_list: impl Into<Vec<String>>,
     ) -> Result<Self, InvalidStringList> {
+        let str_list = str_list.into();
         match first_fault(&str_list) {
             None => Ok(CodePointInversionListAndStringList {
                 cp_inv_list,
@@ -98,10 +100,14 @@ impl<'data> CodePointInversionListAndStringList<'data> {
     /// The texts may be in any order and may repeat. A text of exactly one character becomes a code
     /// point, and any other text becomes a string. The iterator must be finite.
     ///
-    /// ```ignore
+    /// ```
+    /// use bekstaudi::codepointinvliststringlist::CodePointInversionListAndStringList;
+    ///
     /// let texts = ["a", "abc", "xyz", "abc"];
-    /// let set = CodePointInversionListAndStringList::try_from_iter(texts.iter().copied())?;
-    /// // set.contains('a') is true, and set.strings() is ["abc", "xyz"]
+    /// let set = CodePointInversionListAndStringList::try_from_iter(texts.into_iter())?;
+    /// assert!(set.contains('a'));
+    /// assert_eq!(set.strings(), ["abc", "xyz"]);
+    /// # Ok::<(), Box<dyn std::error::Error>>(())
     /// ```
     ///
     /// # Errors

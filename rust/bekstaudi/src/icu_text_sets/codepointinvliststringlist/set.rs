@@ -1,9 +1,8 @@
 //! The set of code points and strings, and its queries.
 
-#[allow(unused_imports)]
-use crate::support::prelude::*;
 use crate::icu_invlist::codepointinvlist::CodePointInversionList;
 use crate::icu_zerovec::MemoryError;
+use crate::support::prelude::*;
 
 /// A set of code points, which may include surrogates, and of strings, like ICU's UnicodeSet. A
 /// string is any text, even the empty one, that does not have exactly one code point.
@@ -11,9 +10,14 @@ use crate::icu_zerovec::MemoryError;
 /// It borrows or owns its code points, and owns its strings. The strings are sorted by their bytes,
 /// without duplicates.
 ///
-/// ```ignore
-/// let set = CodePointInversionListAndStringList::try_from_iter(["a", "abc", "xyz", "abc"].into_iter())?;
-/// // set.contains('a') and set.contains_str("abc") are true, and set.size() is 3
+/// ```
+/// use bekstaudi::codepointinvliststringlist::CodePointInversionListAndStringList;
+///
+/// let texts = ["a", "abc", "xyz", "abc"];
+/// let set: CodePointInversionListAndStringList = texts.into_iter().collect();
+/// assert!(set.contains('a') && set.contains_str("abc"));
+/// assert!(!set.contains_str("ab"));
+/// assert_eq!(set.size(), 3);
 /// ```
 #[derive(Debug)]
 pub struct CodePointInversionListAndStringList<'data> {
@@ -54,9 +58,7 @@ impl<'data> CodePointInversionListAndStringList<'data> {
     /// # Errors
     /// Returns `MemoryError` if an allocation fails.
     #[inline]
-    pub fn try_clone(
-        &self,
-    ) -> Result<CodePointInversionListAndStringList<'static>, MemoryError> {
+    pub fn try_clone(&self) -> Result<CodePointInversionListAndStringList<'static>, MemoryError> {
         Ok(CodePointInversionListAndStringList {
             cp_inv_list: self.cp_inv_list.try_clone()?,
             str_list: copied(&self.str_list)?,
@@ -68,19 +70,22 @@ impl<'data> CodePointInversionListAndStringList<'data> {
 impl<'data> CodePointInversionListAndStringList<'data> {
     /// Returns the number of members of the set: its code points, including surrogates, and its
     /// strings.
+    #[must_use]
     #[inline]
     pub fn size(&self) -> usize {
         self.cp_inv_list.size() + self.str_list.len()
     }
 
     /// Returns true if the set has at least one string.
+    #[must_use]
     #[inline]
-    pub fn has_strings(&self) -> bool {
+    pub const fn has_strings(&self) -> bool {
         !self.str_list.is_empty()
     }
 
     /// Returns true if the set contains the text: as a code point if it has exactly one character,
     /// and otherwise as a string.
+    #[must_use]
     #[inline]
     pub fn contains_str(&self, text: &str) -> bool {
         match only_char(text) {
@@ -91,6 +96,7 @@ impl<'data> CodePointInversionListAndStringList<'data> {
 
     /// Returns true if `bytes` are the UTF-8 of a text that the set contains, as defined by
     /// [`contains_str`](Self::contains_str). Returns false if they are not valid UTF-8.
+    #[must_use]
     #[inline]
     pub fn contains_utf8(&self, bytes: &[u8]) -> bool {
         match str::from_utf8(bytes) {
@@ -101,26 +107,30 @@ impl<'data> CodePointInversionListAndStringList<'data> {
 
     /// Returns true if the set contains the code point `cp`. Returns false for any number above
     /// 0x10FFFF.
+    #[must_use]
     #[inline]
     pub fn contains32(&self, cp: u32) -> bool {
         self.cp_inv_list.contains32(cp)
     }
 
     /// Returns true if the set contains the character `ch`.
+    #[must_use]
     #[inline]
     pub fn contains(&self, ch: char) -> bool {
         self.cp_inv_list.contains(ch)
     }
 
     /// Returns a reference to the code points of the set.
+    #[must_use]
     #[inline]
-    pub fn code_points(&self) -> &CodePointInversionList<'data> {
+    pub const fn code_points(&self) -> &CodePointInversionList<'data> {
         &self.cp_inv_list
     }
 
     /// Returns a reference to the strings of the set, sorted by their bytes.
+    #[must_use]
     #[inline]
-    pub fn strings(&self) -> &[String] {
+    pub const fn string_slice(&self) -> &[String] {
         self.str_list.as_slice()
     }
 }

@@ -1,9 +1,8 @@
 //! Packing and unpacking of boundaries.
 
-#[allow(unused_imports)]
-use crate::support::prelude::*;
 use crate::icu_zerovec::ule::AsULE;
 use crate::icu_zerovec::{MemoryError, PotentialCodePoint, ZeroVec};
+use crate::support::prelude::*;
 
 /// Copies packed boundaries into a vector.
 pub(super) fn unpacked(
@@ -30,9 +29,7 @@ pub(super) fn pack(ends: &[u32]) -> Result<Vec<u8>, MemoryError> {
 
 /// Copies the numbers, with 0xFFFFFF in place of any number that needs more than 24 bits. That is
 /// not a valid boundary either.
-pub(super) fn cut_to_points(
-    ends: &[u32],
-) -> Result<Vec<PotentialCodePoint>, MemoryError> {
+pub(super) fn cut_to_points(ends: &[u32]) -> Result<Vec<PotentialCodePoint>, MemoryError> {
     let mut points = Vec::with_room(ends.len())?;
     for end in ends {
         points.try_push(PotentialCodePoint::from_u24((*end).min(0xFF_FFFF)))?;

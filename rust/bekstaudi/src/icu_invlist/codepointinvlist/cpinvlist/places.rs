@@ -9,17 +9,11 @@ impl<'data> CodePointInversionList<'data> {
     /// compiler unrolls the loop.
     #[inline(always)]
     fn place_between(&self, low: usize, size: usize, c: u32) -> usize {
-        // Reading the field gives the proof the invariant: the set is valid.
-        let _ = &self.ends;
         let mut low = low;
         let mut size = size;
         while size > 1 {
             let half = size / 2;
-            low = if self.end_at(low + half) <= c {
-                low + half
-            } else {
-                low
-            };
+            low = core::hint::select_unpredictable(self.end_at(low + half) <= c, low + half, low);
             size -= half;
         }
         if size == 1 && self.end_at(low) <= c {
@@ -96,8 +90,6 @@ impl<'data> CodePointInversionList<'data> {
     /// Returns true if the set contains all code points from a start to `end` exclusive. `place` is
     /// the number of boundaries that are at most that start.
     pub(super) fn reaches(&self, place: usize, end: u32) -> bool {
-        // Reading the field gives the proof the invariant: the set is valid.
-        let _ = &self.ends;
         place % 2 == 1 && end <= self.end_at(place)
     }
 }

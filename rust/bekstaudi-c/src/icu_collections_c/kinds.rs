@@ -1,0 +1,128 @@
+//! What a span tests characters for: that they are in a set, or that they are outside it.
+
+use crate::icu_collections_c::frozen::{PLACE_WORDS, contains, place_of, word};
+use crate::icu_zerovec::CODE_POINT_LIMIT;
+
+/// The code points in a set, or those outside it.
+pub(crate) trait Kind {
+    /// Returns true if the code point is of this kind.
+    fn has(&mut self, c: u32) -> bool;
+
+    /// Returns true if the ASCII character is of this kind.
+    fn has_ascii(&mut self, c: u32) -> bool;
+}
+
+/// A kind by the words of a frozen set.
+pub(crate) struct FrozenKind<'a> {
+    table: &'a [u64],
+    held: bool,
+    /// A bit for each ASCII character: whether it is of this kind.
+    ascii: [u64; 2],
+}
+
+/// Returns the word if `held` is true, and otherwise the word with each bit the other way.
+#[inline(always)]
+fn turned(word: u64, held: bool) -> u64 {
+    if held { word } else { !word }
+}
+
+impl<'a> FrozenKind<'a> {
+    /// Returns the kind by the frozen set at the start of the words.
+    #[inline(always)]
+    pub(crate) fn new(table: &'a [u64], held: bool) -> FrozenKind<'a> {
+        let first = PLACE_WORDS + place_of(table, 0);
+        let ascii = [
+            turned(word(table, first), held),
+            turned(word(table, first + 1), held),
+        ];
+        FrozenKind { table, held, ascii }
+    }
+}
+
+impl<'a> Kind for FrozenKind<'a> {
+    #[inline(always)]
+    fn has(&mut self, c: u32) -> bool {
+        contains(self.table, c) == self.held
+    }
+
+    #[inline(always)]
+    fn has_ascii(&mut self, c: u32) -> bool {
+        (self.ascii[(c / 64) as usize] >> (c % 64)) & 1 == 1
+    }
+}
+
+/// The code points between two boundaries of a set that follow one another, and whether they are of
+/// a kind.
+#[derive(Clone, Copy)]
+pub(crate) struct RangeOfKind {
+    /// The first code point.
+    from: u32,
+    /// The code point after the last one.
+    to: u32,
+    /// Whether they are of the kind.
+    is_of_kind: bool,
+}
+
+/// Returns the boundary before index `i`, or 0 if there is none.
+#[inline(always)]
+fn boundary_before(ends: &[u32], i: usize) -> u32 {
+    if i > 0 { ends[i - 1] } else { 0 }
+}
+
+/// Returns the boundary at index `i`, or the end of the code space if there is none.
+#[inline(always)]
+fn boundary_at(ends: &[u32], i: usize) -> u32 {
+    if i < ends.len() {
+        ends[i]
+    } else {
+        CODE_POINT_LIMIT
+    }
+}
+
+/// Returns the range that contains the code point. As the boundaries ascend, at most `c + 1` of
+/// them are not above `c`.
+#[inline(never)]
+fn range_at(ends: &[u32], held: bool, c: u32) -> RangeOfKind {
+    let most = ends.len().min(c as usize + 1);
+    let before = ends[..most].partition_point(|end| *end <= c);
+    RangeOfKind {
+        from: boundary_before(ends, before),
+        to: boundary_at(ends, before),
+        is_of_kind: (before % 2 == 1) == held,
+    }
+}
+
+/// A kind by the boundaries of a set. It remembers the range that it searched last.
+pub(crate) struct EndsKind<'a> {
+    ends: &'a [u32],
+    held: bool,
+    range: RangeOfKind,
+}
+
+impl<'a> EndsKind<'a> {
+    /// Returns the kind by the set with these boundaries. No range is known yet.
+    #[inline(always)]
+    pub(crate) fn new(ends: &'a [u32], held: bool) -> EndsKind<'a> {
+        let range = RangeOfKind {
+            from: 0,
+            to: 0,
+            is_of_kind: false,
+        };
+        EndsKind { ends, held, range }
+    }
+}
+
+impl<'a> Kind for EndsKind<'a> {
+    #[inline(always)]
+    fn has(&mut self, c: u32) -> bool {
+        if c < self.range.from || c >= self.range.to {
+            self.range = range_at(self.ends, self.held, c);
+        }
+        self.range.is_of_kind
+    }
+
+    #[inline(always)]
+    fn has_ascii(&mut self, c: u32) -> bool {
+        self.has(c)
+    }
+}

@@ -1,0 +1,80 @@
+//! Subsets, and the code points of a set by their index.
+
+/// Returns the index of the first boundary from index `from` on that is above `c`, or the number of
+/// boundaries if there is none.
+#[inline]
+fn place_from(ends: &[u32], from: usize, c: u32) -> usize {
+    let mut place = from;
+    while place < ends.len() && ends[place] <= c {
+        place += 1;
+    }
+    place
+}
+
+/// Returns whether the boundary at this index ends a range of the set, and is `end` or above.
+#[inline]
+fn reaches(ends: &[u32], place: usize, end: u32) -> bool {
+    place % 2 == 1 && place < ends.len() && end <= ends[place]
+}
+
+/// Returns whether the set with the boundaries `a` contains all code points of the one with the
+/// boundaries `b`. The result is unspecified (but memory-safe) if
+/// [`bks_set_test`](crate::icu_collections_c::sets::bks_set_test) returns false for one of the lists. Takes linear
+/// time, and allocates nothing.
+///
+/// ICU: `uset_containsAll`.
+pub fn bks_set_contains_all(a: &[u32], b: &[u32]) -> bool {
+    let mut place = 0;
+    let mut i = 0;
+    while i + 1 < b.len() {
+        place = place_from(a, place, b[i]);
+        if !reaches(a, place, b[i + 1]) {
+            return false;
+        }
+        i += 2;
+    }
+    true
+}
+
+/// Finds the index of a code point among those of the set, in ascending order from 0 on. Returns
+/// true and stores it in `index`. Returns false if the set does not contain `c`; `index` is then
+/// unchanged. What is returned and stored is unspecified (but memory-safe) if
+/// [`bks_set_test`](crate::icu_collections_c::sets::bks_set_test) returns false.
+///
+/// ICU: `uset_indexOf`.
+pub fn bks_set_index_of(ends: &[u32], c: u32, index: &mut u32) -> bool {
+    let mut before: u32 = 0;
+    let mut i = 0;
+    while i + 1 < ends.len() && ends[i] <= c {
+        let (start, end) = (ends[i], ends[i + 1]);
+        if c < end {
+            *index = before.saturating_add(c - start);
+            return true;
+        }
+        before = before.saturating_add(end.saturating_sub(start));
+        i += 2;
+    }
+    false
+}
+
+/// Finds the code point at index `n` of the set, in ascending order from 0 on. Returns true and
+/// stores it in `c`. Returns false if the set has no more than `n` code points; `c` is then
+/// unchanged. What is returned and stored is unspecified (but memory-safe) if
+/// [`bks_set_test`](crate::icu_collections_c::sets::bks_set_test) returns false.
+///
+/// ICU: `uset_charAt`.
+pub fn bks_set_nth(ends: &[u32], n: u32, c: &mut u32) -> bool {
+    let mut left = n;
+    let mut i = 0;
+    while i + 1 < ends.len() {
+        let (start, end) = (ends[i], ends[i + 1]);
+        let size = end.saturating_sub(start);
+        if left < size {
+            *c = start + left;
+            return true;
+        }
+        left -= size;
+        i += 2;
+    }
+    false
+}

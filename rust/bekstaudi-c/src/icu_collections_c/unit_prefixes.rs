@@ -1,0 +1,92 @@
+//! All keys of a unit trie that are prefixes of a text.
+
+use crate::icu_collections_c::status::Refusal;
+use crate::icu_collections_c::units::trie_in;
+
+/// The most prefixes that can be returned: `i64::MAX`.
+const MOST: usize = 0x7FFF_FFFF_FFFF_FFFF;
+
+/// A key that is a prefix of a text.
+#[repr(C)]
+#[derive(Clone, Copy)]
+pub struct Prefix {
+    /// How many units of the text it takes, or bytes if the text is UTF-8.
+    pub length: usize,
+    pub value: i32,
+}
+
+/// Writes a prefix at index `i` if the slice has that index.
+#[inline(always)]
+fn write_at(found: &mut [Prefix], i: usize, prefix: Prefix) {
+    if i < found.len() {
+        found[i] = prefix;
+    }
+}
+
+/// Writes a prefix to index `count` if it has a value and fits. Returns how many prefixes with a
+/// value there are then.
+#[inline(always)]
+fn put(found: &mut [Prefix], count: usize, length: usize, value: Option<i32>) -> usize {
+    let Some(value) = value else {
+        return count;
+    };
+    write_at(found, count, Prefix { length, value });
+    count + 1
+}
+
+/// Writes all keys that are prefixes of a text to the start of a buffer, as many as fit, the
+/// shortest first. Returns how many there are. The empty key is a prefix of every text.
+///
+/// Reads no more units of the text than some key continues with.
+///
+/// ICU: a loop over `UCharsTrie::next` and `getValue` that ends when `USTRINGTRIE_HAS_NEXT` is
+/// false.
+pub fn bks_units_prefixes(units: &[u8], text: &[u16], found: &mut [Prefix]) -> usize {
+    let trie = trie_in(units);
+    let mut cursor = trie.cursor();
+    let value = cursor.value();
+    let mut count = put(found, 0, 0, value);
+    for i in 0..text.len() {
+        if cursor.is_empty() {
+            return count;
+        }
+        cursor.step16(text[i]);
+        let value = cursor.value();
+        count = put(found, count, i + 1, value);
+    }
+    count
+}
+
+/// Writes all keys that are prefixes of a text. The length of each is in bytes of the text.
+fn prefixes_of(units: &[u8], text: &str, found: &mut [Prefix]) -> usize {
+    let trie = trie_in(units);
+    let mut cursor = trie.cursor();
+    let value = cursor.value();
+    let mut count = put(found, 0, 0, value);
+    let mut end = 0;
+    for c in text.chars() {
+        if cursor.is_empty() {
+            return count;
+        }
+        cursor.step(c);
+        end += c.len_utf8();
+        let value = cursor.value();
+        count = put(found, count, end, value);
+    }
+    count
+}
+
+/// Writes all keys that are prefixes of a UTF-8 text to the start of a buffer, as many as fit, the
+/// shortest first. Returns how many there are. The length of each is in bytes of the text, and ends
+/// at a character boundary: only keys are found that are the UTF-16 form of the first characters of
+/// the text.
+///
+/// # Errors
+/// Returns the number of [`Refusal::NoText`] if the text is not UTF-8. The buffer is then
+/// unchanged.
+pub fn bks_units_prefixes_utf8(units: &[u8], text: &[u8], found: &mut [Prefix]) -> i64 {
+    match str::from_utf8(text) {
+        Ok(text) => prefixes_of(units, text, found).min(MOST) as i64,
+        Err(_) => Refusal::NoText.number(),
+    }
+}

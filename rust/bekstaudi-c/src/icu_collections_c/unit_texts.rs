@@ -1,0 +1,75 @@
+//! Unit tries whose keys are texts in UTF-8: look-ups and building.
+
+use crate::icu_collections_c::status::Refusal;
+use crate::icu_collections_c::unit_building::{bks_units_build, has_units};
+use crate::icu_collections_c::unit_keys::transcoded;
+use crate::icu_collections_c::units::{give, trie_in};
+use core::fmt::Write;
+
+/// Looks up a key in UTF-8, by its UTF-16 units. Returns true and stores its value in `value`.
+/// Returns false if the key is not UTF-8 or the trie does not have it; `value` is then unchanged.
+///
+/// ICU: `UCharsTrie::reset`, `nextForCodePoint` for each character, and `getValue`.
+pub fn bks_units_get_utf8(units: &[u8], key: &[u8], value: &mut i32) -> bool {
+    let Ok(text) = str::from_utf8(key) else {
+        return false;
+    };
+    let trie = trie_in(units);
+    let mut cursor = trie.cursor();
+    let Ok(()) = cursor.write_str(text) else {
+        unreachable!();
+    };
+    give(cursor.value(), value)
+}
+
+/// Returns whether each key is UTF-8. Each one is the next `length` of the bytes.
+#[inline]
+fn are_texts(keys: &[u8], lengths: &[usize]) -> bool {
+    let mut rest = keys;
+    for length in lengths {
+        let (key, after) = rest.split_at(*length);
+        let Ok(_text) = str::from_utf8(key) else {
+            return false;
+        };
+        rest = after;
+    }
+    true
+}
+
+/// Builds a unit trie from entries whose keys are texts in UTF-8, in any order, and returns how
+/// many bytes its units take, two for each unit. The bytes are in the buffer if all of them fit;
+/// otherwise the buffer is unchanged.
+///
+/// The key of entry `i` is the UTF-16 units of the next `lengths[i]` bytes of `keys`, which may be
+/// none, and its value is `values[i]`. If the keys of E entries have B bytes, the unit trie takes
+/// at most 4 B + 32 E bytes, and none if there is no entry.
+///
+/// ICU: `UCharsTrieBuilder::add` and `buildUnicodeString`, with `UnicodeString::fromUTF8`.
+///
+/// # Errors
+/// Returns the number of the first of these that applies, and leaves the buffer unchanged:
+///
+/// - [`Refusal::NoEntries`] if `values` and `lengths` have different lengths, or the keys need more
+///   bytes than `keys` has
+/// - [`Refusal::NoText`] if a key is not UTF-8 on its own
+/// - [`Refusal::LongKey`] if a key has more than 65,535 units
+/// - [`Refusal::SameKey`] if two entries have the same key
+/// - [`Refusal::TooLarge`] if 2 U + 16 E is above 0x7FFFFFFF, for U units in all keys
+/// - [`Refusal::NoMemory`] if an allocation fails, which may come before the last three
+pub fn bks_units_build_utf8(
+    keys: &[u8],
+    lengths: &[usize],
+    values: &[i32],
+    bytes: &mut [u8],
+) -> i64 {
+    if lengths.len() != values.len() || !has_units(keys.len(), lengths) {
+        return Refusal::NoEntries.number();
+    }
+    if !are_texts(keys, lengths) {
+        return Refusal::NoText.number();
+    }
+    match transcoded(keys, lengths) {
+        Ok(given) => bks_units_build(&given.units, &given.lengths, values, bytes),
+        Err(_) => Refusal::NoMemory.number(),
+    }
+}

@@ -1,0 +1,98 @@
+//! The value of each character of bytes that may be ill-formed UTF-8, copied to a buffer.
+
+use crate::icu_trie::cptrie::CodePointTrie;
+use crate::icu_trie_core::value::TrieValue;
+use crate::icu_trie_text::ascii::ascii_end;
+use crate::icu_trie_text::copy_parts::{Copied, PartValues, copy_parts};
+use crate::icu_zerovec::ZeroSlice;
+
+/// A trie with its cells at hand.
+struct TrieCells<'a, T: TrieValue> {
+    trie: &'a CodePointTrie<'a, T>,
+    index: ZeroSlice<'a, u16>,
+    values: ZeroSlice<'a, T>,
+    /// 0x80 if the data start with the values of ASCII, and otherwise 0.
+    ascii_end: u8,
+    /// The number of blocks of 64 code points in the fast index.
+    blocks: u32,
+}
+
+impl<'a, T: TrieValue> TrieCells<'a, T> {
+    /// Borrows the trie.
+    #[inline(always)]
+    fn new(trie: &'a CodePointTrie<'_, T>) -> TrieCells<'a, T> {
+        let (header, index, values) = trie.parts();
+        TrieCells {
+            trie,
+            index,
+            values,
+            ascii_end: ascii_end(index, values) as u8,
+            blocks: header.trie_type.fast_index_len() as u32,
+        }
+    }
+}
+
+impl<'a, T: TrieValue> PartValues<T> for TrieCells<'a, T> {
+    #[inline(always)]
+    fn ascii_end(&self) -> u8 {
+        self.ascii_end
+    }
+
+    #[inline(always)]
+    fn blocks(&self) -> u32 {
+        self.blocks
+    }
+
+    #[inline(always)]
+    fn ascii(&self, c: u8) -> T {
+        self.values.at(c as usize)
+    }
+
+    #[inline(always)]
+    fn near(&self, block: u32, place: u32) -> T {
+        let offset = self.index.at(block as usize);
+        self.values.at(offset as usize + place as usize)
+    }
+
+    #[inline(always)]
+    fn far(&self, c: u32) -> T {
+        self.trie.get32(c)
+    }
+
+    #[inline(always)]
+    fn error(&self) -> T {
+        self.trie.error_value()
+    }
+}
+
+/// Writes the value of each character of the bytes to the start of a buffer, in order and as many
+/// as fit.
+///
+/// The values are those of [`values_of_utf8`](crate::icu_trie_text::text::values_of_utf8): each maximal subpart of
+/// an ill-formed sequence has the trie's error value. Returns how many values it wrote and how many
+/// bytes these are for. The rest of the buffer is unchanged. It stops only if the buffer is full or
+/// the bytes end, so call it again with the bytes that are left.
+///
+/// It takes less time than a loop over `values_of_utf8`. ICU: a loop over `UCPTRIE_FAST_U8_NEXT`.
+///
+/// ```
+/// use bekstaudi::codepointtrie::{CodePointTrieBuilder, TrieType, text::copy_values};
+///
+/// let mut builder = CodePointTrieBuilder::new(0u8, 99, TrieType::Fast);
+/// builder.set_range_value(0x61..=0x7A, 2);
+/// builder.set_range_value(0x41..=0x5A, 1);
+/// let categories = builder.build();
+/// let mut buffer = [0; 4];
+/// let copied = copy_values(&categories, b"a\xF1\x80\x80B1 ", &mut buffer);
+/// // The space did not fit.
+/// assert_eq!((copied.values, copied.bytes), (4, 6));
+/// assert_eq!(buffer, [2, 99, 1, 0]);
+/// ```
+#[inline]
+pub fn copy_values<T: TrieValue>(
+    trie: &CodePointTrie<'_, T>,
+    bytes: &[u8],
+    values: &mut [T],
+) -> Copied {
+    copy_parts(&TrieCells::new(trie), bytes, values)
+}
