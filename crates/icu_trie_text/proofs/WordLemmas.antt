@@ -18,7 +18,7 @@ module _ (f : ℕ → ℕ) (bytes : (k : ℕ) → f k < 256) where
       let same : 8 * suc i + 7 - 8 ≡ 8 * i + 7 = omega arith in
       bit_at_cat_high (digits f (suc k) n) 8 (f k) (8 * suc i + 7) b (omega arith) ∙ ap (λ j. bit_at (digits f (suc k) n) j) same
 
-  -- The highest bit of byte i is that of its place in the number.
+  -- The highest bit of byte i is bit 8 * i + 7 of the number.
   top_of : (n k i : ℕ) → i < n → bit_at (digits f k n) (8 * i + 7) ≡ bit_at (f (k + i)) 7
   top_of zero k i l = absurd (omega arith)
   top_of (suc n) k zero l = let same : k + 0 ≡ k = omega arith in top_of_first k n ∙ ap (λ j. bit_at (f j) 7) (sym same)
