@@ -40,8 +40,8 @@ private:
     bks_status status_;
 };
 
-// Thrown if the numbers are not the boundaries of a set, or if a text is ill-formed where it is
-// read.
+// Thrown if the numbers are not the boundaries of a set, or if the part of a text that is read is
+// ill-formed.
 class set_refused : public std::invalid_argument {
 public:
     using std::invalid_argument::invalid_argument;

@@ -25,7 +25,7 @@ struct trie {
     size_t size() const { return 2 * units.size(); }
 };
 
-/* The entries that ICU lists from where it is in the trie, their keys without what it passed. Where
+/* The entries that ICU lists from its position in the trie, their keys without what it passed. If
    nothing matched there are none: ICU 72 then reads by a null pointer. */
 static std::vector<entry> by_icu(const icu::UCharsTrie &from, size_t most) {
     UErrorCode error = U_ZERO_ERROR;

@@ -1,6 +1,6 @@
 -- What the kinds of a span remember: the bits of ASCII, and the range between two boundaries.
-use Rattle.std.proofs.Common.{◌≡◌, ◌∙◌, sym, ap, refl, ℕ, zero, suc, ◌+◌, ◌-◌, ◌*◌, ◌/◌, ◌%◌, ◌^◌, ◌<◌, ◌≤◌, Bool, true, false, List, [], ◌∷◌, length, take, get_or, arith, inl, inr, w64}
-use Rattle.std.specs.Prelude.{nat_le, nat_eq, ◌==◌, not, ◌&&◌, if◌then◌else◌}
+use Rattle.std.proofs.Common.{◌≡◌, ◌∙◌, sym, ap, refl, ℕ, zero, suc, ◌+◌, ◌-◌, ◌/◌, ◌%◌, ◌^◌, ◌<◌, ◌≤◌, Bool, true, false, List, [], ◌∷◌, length, take, get_or, arith, inl, inr, w64}
+use Rattle.std.specs.Prelude.{nat_le, ◌==◌, ◌&&◌}
 use Rattle.std.specs.Int.{bit_at, bit_not}
 use mathlib.Core.Bool.{beq}
 use Rattle.std.specs.List.{AllWithin}
@@ -10,9 +10,9 @@ use Rattle.std.proofs.lemmas.Grind.{get_or_default_zero}
 use Rattle.std.proofs.lemmas.List.{get_or-take, length-take-le}
 use Rattle.std.proofs.lemmas.Nat.Bits.{bit_at-lt, bit_at_not}
 use Rattle.icu_zerovec.specs.CodePoints.{code_point_limit}
-use Rattle.icu_invlist.specs.InversionList.{IsValid, ends_up_to, holds, is_odd}
+use Rattle.icu_invlist.specs.InversionList.{ends_up_to, holds, is_odd}
 use Rattle.icu_collections_c.specs.Frozen.{bit_in, is_held, place_in}
-use Rattle.icu_collections_c.specs.Inside.Kinds.{HasAscii, IsRangeOfKind}
+use Rattle.icu_collections_c.specs.Inside.Kinds.{HasAscii}
 use Rattle.icu_collections_c.proofs.SetLemmas.{count-at, rises}
 
 -- ---- between two boundaries

@@ -13,7 +13,7 @@ use Rattle.std.proofs.lemmas.Str.{IsCharBoundary-from_drop, IsCharBoundary-from_
 use Rattle.icu_trie_text.specs.Utf8.{EndsWithNoChar, IsLastCharacter}
 use Rattle.icu_trie_text.specs.Utf16.{code_points_of}
 use Rattle.icu_trie_text.proofs.CallerLemmas.{last_same, length-code_points}
-use Rattle.icu_collections_c.specs.Spans.{AllHeld, AnswersSpan, AnswersSpanBack, AnswersTextSpan, AnswersTextSpanBack, IsSpan, IsSpanBack, unit_count, unit_span}
+use Rattle.icu_collections_c.specs.Spans.{AllHeld, AnswersSpan, AnswersSpanBack, AnswersTextSpan, AnswersTextSpanBack, IsSpan, IsSpanBack, unit_count}
 use Rattle.icu_collections_c.specs.Status.{refused}
 use Rattle.icu_collections_c.specs.declared.status.Refusal.TheVariants.{NoText}
 
@@ -86,19 +86,15 @@ module _ (is_in : ℕ → Bool) (held : Bool) where
 
   later_held : (xs ys : List ℕ) → IsUtf8 xs → IsUtf8 ys → AllHeld is_in held (xs ++ ys) → AllHeld is_in held ys
   later_held xs ys u v a =
-      let whole : All IsAlike (chars xs ++ chars ys) = rw (chars-append xs ys u) at a.1 in (
-        v,
-        rw (drop_at (chars xs) (chars ys) (length (chars xs)) refl) at (All-drop IsAlike (length (chars xs))
-            (chars xs ++ chars ys) whole),
-      )
+      let whole : All IsAlike (chars xs ++ chars ys) = rw (chars-append xs ys u) at a.1 in
+      let rest = All-drop IsAlike (length (chars xs)) (chars xs ++ chars ys) whole in
+      (v, rw (drop_at (chars xs) (chars ys) (length (chars xs)) refl) at rest)
 
   earlier_held : (xs ys : List ℕ) → IsUtf8 xs → AllHeld is_in held (xs ++ ys) → AllHeld is_in held xs
   earlier_held xs ys u a =
-      let whole : All IsAlike (chars xs ++ chars ys) = rw (chars-append xs ys u) at a.1 in (
-        u,
-        rw (take_at (chars xs) (chars ys) (length (chars xs)) refl) at (All-take IsAlike (length (chars xs))
-            (chars xs ++ chars ys) whole),
-      )
+      let whole : All IsAlike (chars xs ++ chars ys) = rw (chars-append xs ys u) at a.1 in
+      let front = All-take IsAlike (length (chars xs)) (chars xs ++ chars ys) whole in
+      (u, rw (take_at (chars xs) (chars ys) (length (chars xs)) refl) at front)
 
   head_alike : (bytes more : List ℕ) (c : ℕ) → AllHeld is_in held bytes → bytes ≡ encode_utf8 c ++ more → IsAlike c
   head_alike bytes more c a e = All-head IsAlike c (chars more) (rw (chars_past_char bytes more c a.0 e) at a.1)
@@ -275,10 +271,8 @@ module _ (is_in : ℕ → Bool) (held : Bool) where
 
   pub starts_back : (bytes : List ℕ) → AllHeld is_in held (drop (length bytes) bytes)
   starts_back bytes =
-      let none : drop (length bytes) bytes ≡ [] = nil_from_length (drop (length bytes) bytes) (omega (
-        arith,
-        length-drop (length bytes) bytes,
-      )) in
+      let none : drop (length bytes) bytes ≡ [] =
+      nil_from_length (drop (length bytes) bytes) (omega (arith, length-drop (length bytes) bytes)) in
       rw none none_held
 
 -- ---- what is found out about a character

@@ -10,8 +10,7 @@ use Rattle.icu_collections_c.specs.Status.{refused}
 use Rattle.icu_collections_c.specs.declared.status.Refusal.TheVariants.{NoText}
 
 module _ (is_in : ℕ → Bool) (held : Bool) where
-  -- The bytes are UTF-8. All their characters are in the set or, if `held` is false, all outside
-  -- it.
+  -- The bytes are UTF-8. All their characters are in the set or, if `held` is false, outside it.
   abbrev pub AllHeld : List ℕ → Type 0
   AllHeld bytes = IsUtf8 bytes × All (λ c. is_in c ≡ held) (chars bytes)
 
@@ -43,8 +42,7 @@ module _ (is_in : ℕ → Bool) (held : Bool) where
       ⊎ (¬ ((0 < length bytes) × EndsWithNoChar bytes)
       × ((n : ℕ) × (returned ≡ pos n) × IsSpanBack bytes n))
 
-  -- For UTF-8: the size of the longest prefix of such characters, which ends at a character
-  -- boundary.
+  -- For UTF-8: the size of the longest prefix of such characters. It ends at a character boundary.
   abbrev pub AnswersTextSpan : List ℕ → ℤ → Type 0
   AnswersTextSpan bytes returned = IsUtf8 bytes → (n : ℕ) × (returned ≡ pos n)
       × (n ≡ length (encode_utf8_all (take_while (λ c. beq (is_in c) held) (chars bytes))))

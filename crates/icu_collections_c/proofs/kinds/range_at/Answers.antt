@@ -1,5 +1,5 @@
 -- The search counts the boundaries that are not above the number.
-use Rattle.std.proofs.Common.{◌≡◌, ◌≤◌, ◌∙◌, ap, arith, length, take, ℕ, Bool, List, rules, sym}
+use Rattle.std.proofs.Common.{◌≤◌, ap, arith, length, take, ℕ, Bool, List, rules, sym}
 use Rattle.std.specs.Prelude.{nat_le}
 use mathlib.Core.Bool.{beq}
 use Rattle.std.proofs.lemmas.List.{length-take-le}

@@ -1,4 +1,4 @@
-use Rattle.icu_collections_c.proofs.KindLemmas.{same_word, turned_word}
+use Rattle.icu_collections_c.proofs.KindLemmas.{turned_word}
 use Rattle.icu_collections_c.proofs.kinds.turned.Goals as goal
 
 pub returns-else-held : goal.returns-else-held

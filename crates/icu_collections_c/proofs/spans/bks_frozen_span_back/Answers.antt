@@ -1,5 +1,4 @@
 use Rattle.std.proofs.Common.{Bool, List, of_z, rules, subst, to_z, w64, ℕ}
-use Rattle.icu_invlist.specs.InversionList.{holds}
 use Rattle.icu_collections_c.specs.Frozen.{is_held}
 use Rattle.icu_collections_c.specs.Spans.{AnswersSpanBack}
 use Rattle.icu_collections_c.proofs.FrozenLemmas.{front_of_set}

@@ -1,5 +1,5 @@
 -- The loop passes ASCII, and then one character at a time.
-use Rattle.std.proofs.Common.{◌≡◌, ◌∙◌, ◌+◌, ◌^◌, ◌<◌, ◌≤◌, ◌++◌, ap, arith, drop, encode_utf8, length, refl, rules, sym, to_z, w64, ℕ, List}
+use Rattle.std.proofs.Common.{◌≡◌, ◌∙◌, ◌+◌, ◌^◌, ◌<◌, ◌≤◌, ◌++◌, ap, arith, drop, encode_utf8, length, refl, rules, sym, w64, ℕ, List}
 use Rattle.std.proofs.lemmas.Int.{to_z_pos}
 use Rattle.std.proofs.lemmas.List.{drop-drop, take_rest}
 use Rattle.std.proofs.lemmas.Str.{length-encode}

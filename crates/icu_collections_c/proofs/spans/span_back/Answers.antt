@@ -1,7 +1,6 @@
 -- The loop passes one character at a time, from the end on.
-use Rattle.std.proofs.Common.{◌≡◌, ◌∙◌, ◌-◌, ◌^◌, ◌<◌, ◌≤◌, ◌++◌, ap, arith, drop, encode_utf8, length, refl, rules, sym, take, to_z, w64, ℕ, List}
+use Rattle.std.proofs.Common.{◌≡◌, ◌∙◌, ◌-◌, ◌^◌, ◌<◌, arith, length, refl, rules, sym, take, w64, ℕ, List}
 use Rattle.std.proofs.lemmas.Int.{to_z_pos}
-use Rattle.std.proofs.lemmas.List.{length-take-le, take-take}
 use mathlib.Core.Bool.{beq}
 use Rattle.icu_collections_c.proofs.SpanLemmas.{back_fault, back_other, back_start, is_alike, is_other, last_part, one_less, starts_back}
 use Rattle.icu_collections_c.proofs.spans.span_back.Goals as goal
