@@ -246,7 +246,7 @@ fn is_trie<T: TrieValue>(trie: &CodePointTrie<'_, T>) -> bool {
     let (header, index, data) = trie.parts();
     let data = ZeroVec::parse_bytes(data.as_bytes());
     for c in [0, 0xFFF, 0x1000, 0x10_FFFF, u32::MAX] {
-        trie.get32(c);
+        let _ = trie.get32(c);
     }
     data.is_ok_and(|data| CodePointTrie::<T>::try_new(header, index.as_zerovec(), data).is_ok())
 }
