@@ -1,7 +1,5 @@
 //! The values of bytes that may be ill-formed UTF-8, copied to a buffer.
-use super::support::{
-    ERROR, HIGH, ascii_in_place, six_bits, trie_in_place, trie_of_bits,
-};
+use super::support::{ERROR, HIGH, ascii_in_place, six_bits, trie_in_place, trie_of_bits};
 use super::utf8::ROWS;
 use crate::tests::{expect_same, say};
 use icu_trie::cptrie::CodePointTrie;
@@ -9,6 +7,7 @@ use icu_trie_text::text::copy_values;
 
 /// The number of bytes of a text, and the index at which its row starts.
 const SIZE: usize = 160;
+
 const START: usize = 40;
 
 /// What the buffer has before the call.
@@ -57,7 +56,11 @@ fn are_copied(trie: &CodePointTrie<'_, u8>, text: &[u8], wanted: &[u8], count: u
         if !written.eq(wanted.iter().take(copied.values)) {
             return false;
         }
-        if !values.iter().skip(copied.values).all(|value| *value == UNCHANGED) {
+        if !values
+            .iter()
+            .skip(copied.values)
+            .all(|value| *value == UNCHANGED)
+        {
             return false;
         }
     }
@@ -77,7 +80,12 @@ fn ill_formed_copied_quiet(rt: HostRuntime) {
         let right = are_copied(&trie, &text, &wanted, count);
         expect_same(&rt, (*bytes, right), (*bytes, true), "the values");
         let right = are_copied(&quick, &text, &wanted, count);
-        expect_same(&rt, (*bytes, right), (*bytes, true), "the values, ASCII in place");
+        expect_same(
+            &rt,
+            (*bytes, right),
+            (*bytes, true),
+            "the values, ASCII in place",
+        );
     }
     say(&rt, "done");
 }
