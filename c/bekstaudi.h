@@ -13,10 +13,10 @@
  * A code point is any 32-bit number. Above 0x10FFFF a trie returns its error value, and no set
  * contains the number. A `count` is a number of items, a `size` a number of bytes, and `room` the
  * length of an output buffer in items. The bytes of tries, unit tries and texts may be at any
- * address; numbers of 16, 32 and 64 bits have to be aligned as in C. If a count or a size is 0, the
- * pointer beside it may be NULL; no other pointer may be. An output buffer may not overlap an
- * input. All functions may be called from several threads at once, as long as nobody changes what
- * they read.
+ * address; numbers of 16, 32 and 64 bits have to be aligned as in C. If a count, a size or a room
+ * is 0, the pointer beside it may be NULL; no other pointer may be. An output buffer may not
+ * overlap an input. All functions may be called from several threads at once, as long as nobody
+ * changes what they read.
  *
  * Functions marked [inline] are in this header, at its end; they are tested, not proved. All others
  * are in the library, and are proved (README.md says what is). Those marked [m] allocate with
@@ -72,7 +72,7 @@ enum bks_status {
 enum bks_refusal {
     BKS_NO_MEMORY = -1,  /* an allocation failed */
     BKS_NO_TRIE = -2,    /* the trie was not made by bks_trie_open, or the units are not a trie */
-    BKS_NO_TEXT = -3,    /* the text is not UTF-8 */
+    BKS_NO_TEXT = -3,    /* the text is not UTF-8; of spans: not at their start */
     BKS_NO_KEY = -4,     /* no key of a unit trie is a prefix of the text */
     BKS_NO_FORM = -5,    /* the type or the width does not exist */
     BKS_WIDE_VALUE = -6, /* a value has more bits than the width */
@@ -208,8 +208,11 @@ int64_t bks_trie32_get_utf8(const bks_trie *trie, const char *text, size_t size,
  * fit. An ill-formed part gets the error value: each part that the Unicode Standard replaces by one
  * U+FFFD (U+FFFD Substitution of Maximal Subparts). Returns how many values it wrote, and stores in
  * *taken how many bytes they stand for; it stops where the buffer or the text ends. So a long text
- * goes piece by piece: call it again with what follows these bytes. The fastest way to the values
- * of a text. ICU: UCPTRIE_FAST_U8_NEXT in a loop. */
+ * goes piece by piece: call it again with what follows these bytes. If the text itself comes in
+ * pieces, a character that is cut off at the end of one counts as ill-formed: keep up to three
+ * bytes for the next piece. Only an error value that no character has tells ill-formed parts apart.
+ * With room 1, *taken is the size of the first character. The fastest way to the values of a text.
+ * ICU: UCPTRIE_FAST_U8_NEXT in a loop. */
 size_t bks_trie8_copy_utf8(const bks_trie *trie, const char *text, size_t size, uint8_t *values,
                            size_t room, size_t *taken);
 size_t bks_trie16_copy_utf8(const bks_trie *trie, const char *text, size_t size, uint16_t *values,
@@ -294,8 +297,8 @@ int64_t bks_set_size(const uint32_t *ends, size_t count);
  * the set or, if `held` is false, all outside it. It ends at a character boundary. An ill-formed
  * sequence ends it too. Error: BKS_NO_TEXT, exactly if the text is not empty and does not start
  * with a character. So spans with true and false in turn reach the end of the text, or BKS_NO_TEXT
- * at its first ill-formed sequence. Reads no further than the character after the span.
- * Unspecified (but memory-safe) if bks_set_test returns false. ICU: uset_spanUTF8. */
+ * at its first ill-formed sequence; skip a byte to go on. Reads no further than the character after
+ * the span. Unspecified (but memory-safe) if bks_set_test returns false. ICU: uset_spanUTF8. */
 int64_t bks_set_span(const uint32_t *ends, size_t count, const char *text, size_t size, bool held);
 
 /* Returns the offset in bytes of the longest suffix of a text in UTF-8 whose characters are all in
@@ -308,8 +311,7 @@ int64_t bks_set_span_back(const uint32_t *ends, size_t count, const char *text, 
 /* Returns how many 16-bit units the longest prefix of a text in UTF-16 has whose code points are
  * all in the set or, if `held` is false, all outside it. A high surrogate and the low surrogate
  * after it are one code point. Each other unit is a code point of its own, even an unpaired
- * surrogate.
- * Unspecified (but memory-safe) if bks_set_test returns false. ICU: uset_span. */
+ * surrogate. Unspecified (but memory-safe) if bks_set_test returns false. ICU: uset_span. */
 size_t bks_set_span_utf16(const uint32_t *ends, size_t count, const uint16_t *text, size_t units,
                           bool held);
 
@@ -401,7 +403,7 @@ int64_t bks_units_longest(const void *units, size_t size, const uint16_t *text, 
 /* Finds the longest key that is a prefix of a UTF-8 text. Returns how many bytes of the text it
  * takes, and stores its value in *value. A key that ends within a character does not count.
  * Errors: BKS_NO_KEY, BKS_NO_TEXT; *value is then unchanged. All of the text is validated first: of
- * a long text, pass no more than the longest key takes. */
+ * a long text, pass no more than the longest key takes, up to the end of a character. */
 int64_t bks_units_longest_utf8(const void *units, size_t size, const char *text, size_t text_size,
                                int32_t *value);
 
@@ -471,7 +473,7 @@ size_t bks_units_prefixes(const void *units, size_t size, const uint16_t *text, 
 
 /* The same for a UTF-8 text, with lengths in bytes. A key that ends within a character does not
  * count. Returns how many there are, or BKS_NO_TEXT. All of the text is validated first: of a long
- * text, pass no more than the longest key takes. */
+ * text, pass no more than the longest key takes, up to the end of a character. */
 int64_t bks_units_prefixes_utf8(const void *units, size_t size, const char *text, size_t text_size,
                                 bks_prefix *found, size_t room);
 

@@ -698,8 +698,8 @@ public:
     }
 
     // Returns the longest key that is a prefix of a UTF-8 text, or nothing if no key is. All of the
-    // text is validated first: of a long text, pass no more than the longest key takes. Throws
-    // set_refused if the text is not UTF-8.
+    // text is validated first: of a long text, pass no more than the longest key takes, up to the
+    // end of a character. Throws set_refused if the text is not UTF-8.
     std::optional<match> longest(std::string_view text) const {
         std::int32_t value = 0;
         view<char> bytes(text);
