@@ -186,7 +186,8 @@ static void sets(const library *l) {
     PUT(ASK(bks_set_span, SLICE(a, n), SLICE(text, size), held));
     PUT(ASK(bks_set_span_back, SLICE(a, n), SLICE(text, size), held));
     for (size_t i = 0; i < 64; i++) units[i] = (uint16_t)(any(4) ? point() : 0xD7F0 + any(0x820));
-    PUT(ASK(bks_set_span_utf16, SLICE(a, n), SLICE(units, any(64)), held));
+    size_t count = any(65);
+    PUT(ASK(bks_set_span_utf16, SLICE(a, n), SLICE(units, count), held));
     for (int i = 0; i < 30; i++) PUT(ASK(bks_set_contains, a, n, point()));
 #define JOIN(name)                                                                       \
     FILLED(ends), PUT(ASK(name, SLICE(a, n), SLICE(b, m), SLICE(ends, room))), put(ends, sizeof ends)
@@ -201,7 +202,7 @@ static void sets(const library *l) {
     for (int i = 0; i < 30; i++) PUT(ASK(bks_frozen_contains, SLICE(table, room), point()));
     PUT(ASK(bks_frozen_span, SLICE(table, room), SLICE(text, size), held));
     PUT(ASK(bks_frozen_span_back, SLICE(table, room), SLICE(text, size), held));
-    PUT(ASK(bks_frozen_span_utf16, SLICE(table, room), SLICE(units, any(64)), held));
+    PUT(ASK(bks_frozen_span_utf16, SLICE(table, room), SLICE(units, count), held));
 }
 
 static void keys(const library *l, const uint8_t *bytes, size_t size) {
