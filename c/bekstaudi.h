@@ -489,6 +489,26 @@ int64_t bks_units_next(const void *units, size_t size, const bks_cursor *cursor,
  * for branches of six units and more. */
 int64_t bks_units_unique(const void *units, size_t size, const bks_cursor *cursor, int32_t *value);
 
+/* [m] Lists the entries whose keys start with `prefix`, a text in UTF-8, in unit order, without the
+ * first `skipped` of them. It writes as many as fit and stops there. Returns how many it wrote, and
+ * stores in *texts_size how many bytes their texts take. A text is a whole key, as in
+ * bks_units_list. Errors: BKS_NO_TEXT, BKS_NO_MEMORY; nothing is then written.
+ *
+ * If it returns `words_room`, more entries may follow: call it again with `skipped` larger by that
+ * number. If it returns less and *texts_size is at most texts_room, no entry is left. If it returns
+ * less and *texts_size is above texts_room, the next text did not fit. *texts_size then includes
+ * that text, so texts of that size hold one more entry:
+ *     while ((n = bks_units_list_below(units, size, "ab", 2, skipped, words, 64, texts, room,
+ *                                      &used)) > 0 || (n == 0 && used > room))
+ *         if (n > 0) skipped += (uint64_t)n; // and use the words; else get `used` bytes of room
+ *
+ * A call takes time for the entries that it skips and writes, not for those that follow. For each
+ * of them it opens at most as many nodes as there are units, also of an untrusted unit trie.
+ * ICU: UCharsTrie::Iterator of a trie that is not at its root. */
+int64_t bks_units_list_below(const void *units, size_t size, const char *prefix, size_t prefix_size,
+                             uint64_t skipped, bks_word *words, size_t words_room, char *texts,
+                             size_t texts_room, size_t *texts_size);
+
 /* ---- Inline functions ------------------------------------------------------------------------ */
 /* They read without a test what the proved functions guarantee. The README of
  * crates/icu_collections_c lists each such read and the guarantee. */

@@ -241,6 +241,13 @@ static void units(const library *l, const uint8_t *bytes, size_t size, bool is_s
     static char texts[4096];
     static bks_word words[64];
     for (int turn = 0; turn < 10; turn++) keys(l, bytes, size);
+    static char prefix[8];
+    size_t page = any(65), page_room = any(9) ? any(4097) : 0, used = 55, start = text_of(prefix, 12, any(9) == 0);
+    if (any(3) == 0 && size > 1) prefix[0] = (char)bytes[any(size / 2) * 2], start = 1;
+    FILLED(words), FILLED(texts);
+    PUT(ASK(bks_units_list_below, SLICE(bytes, size), SLICE(prefix, start), any(2) ? 0 : any(is_short ? 0 : 900), SLICE(words, page), SLICE(texts, page_room), &used));
+    PUT(used), put(texts, sizeof texts);
+    for (int i = 0; i < 64; i++) PUT(words[i].start), PUT(words[i].size), PUT(words[i].value);
     int64_t count = ASK(bks_units_count, SLICE(bytes, size));
     PUT(count);
     if (!is_short && (count < 0 || count > 3000)) return;

@@ -198,10 +198,40 @@ static void doubled(void) {
     CHECK(levels(80, true) == INT64_MAX && levels(80, false) == BKS_NO_TRIE);
 }
 
+/* Pages below a prefix: a text that does not fit, the last entry, and a trie of 2^60 entries. */
+static void pages(void) {
+    uint16_t units[4 * 60 + 1];
+    bks_word words[3];
+    char texts[256];
+    size_t size = STAYS;
+    uint8_t three[MOST];
+    size_t n = read_units("30 61 B0 62 8002", three);
+    CHECK(bks_units_list_below(three, n, "a", 1, 0, words, 3, texts, 2, &size) == 1 && size == 3);
+    CHECK(bks_units_list_below(three, n, "a", 1, 1, words, 3, texts, 1, &size) == 0 && size == 2);
+    CHECK(bks_units_list_below(three, n, "a", 1, 1, words, 3, texts, 2, &size) == 1 && size == 2);
+    CHECK(bks_units_list_below(three, n, "a", 1, 0, words, 1, texts, 9, &size) == 1 && size == 1);
+    CHECK(bks_units_list_below(three, n, "a", 1, 2, words, 3, texts, 9, &size) == 0 && size == 0);
+    CHECK(bks_units_list_below(three, n, "b", 1, 0, words, 3, texts, 9, &size) == 0 && size == 0);
+    size = STAYS;
+    CHECK(bks_units_list_below(three, n, "\xE4\xB8", 2, 0, words, 3, texts, 9, &size) == BKS_NO_TEXT);
+    CHECK(size == STAYS);
+    for (size_t k = 0; k < 60; k++) {
+        static const uint16_t level[] = {1, 'a', 1, 'b'};
+        memcpy(units + 4 * k, level, sizeof level);
+    }
+    units[240] = 0x8005;
+    CHECK(bks_units_list_below(units, sizeof units, "ab", 2, 3, words, 3, texts, 256, &size) == 3);
+    CHECK(size == 180 && words[2].start == 120 && words[2].size == 60 && words[2].value == 5);
+    CHECK(memcmp(texts + 1, "b", 1) == 0 && memcmp(texts + 57, "abb", 3) == 0);
+    /* the same without the value: 2^60 ways that reach no entry */
+    CHECK(bks_units_list_below(units, 480, "", 0, 0, words, 3, texts, 256, &size) == 0 && size == 0);
+}
+
 int main(void) {
     for (size_t i = 0; i < sizeof rows / sizeof rows[0]; i++) is_row(rows + i);
     refused();
     texts_refused();
+    pages();
     listings();
     counts();
     doubled();

@@ -1,6 +1,6 @@
 /* Unit tries whose keys are texts, compared with ICU4C: look-ups and building in UTF-8, the keys
-   that are prefixes of a text, the units that can come next, and the one value of all keys ahead,
-   over the units of each file.
+   that are prefixes of a text, the units that can come next, the one value of all keys ahead, and
+   listings below a prefix, over the units of each file.
    Usage: icu_unit_texts STEP UNITS.., to ask about every 9 * STEP-th entry. */
 #include "parts.h"
 #include <set>
@@ -128,6 +128,42 @@ static void nodes_as_icu(const trie &t, const std::u16string &key, size_t most) 
     }
 }
 
+/* Lists the entries below a text in pages of these sizes, and compares the first ones with ICU. */
+static void pages_as_icu(const trie &t, const std::u16string &prefix, size_t most, size_t page,
+                         size_t room) {
+    icu::UCharsTrie icu(t.units.data());
+    for (char16_t unit : prefix) icu.next(unit);
+    std::vector<entry> wanted = by_icu(icu, most);
+    std::string front = text_of(prefix);
+    std::vector<bks_word> words(page + 1);
+    std::string texts(room + 1, '~');
+    size_t at = 0, used = 0;
+    for (bool ends = false; !ends && at < wanted.size();) {
+        words[page] = {77, 77, 77};
+        int64_t n = bks_units_list_below(t.data(), t.size(), front.data(), front.size(), at,
+                                         words.data(), page, &texts[0], room, &used);
+        CHECK(n >= 0 && (size_t)n <= page && texts[room] == '~' && words[page].start == 77);
+        size_t start = 0;
+        for (size_t i = 0; i < (size_t)n && at + i < wanted.size(); i++) {
+            std::string text = text_of(prefix + wanted[at + i].key);
+            CHECK(words[i].start == start && words[i].size == text.size());
+            CHECK(words[i].value == wanted[at + i].value);
+            CHECK(texts.compare(start, text.size(), text) == 0);
+            start += text.size();
+        }
+        at += (size_t)n;
+        if ((size_t)n == page) continue;
+        ends = used <= room;
+        if (ends) CHECK(at == wanted.size() || wanted.size() == most);
+        if (ends || n > 0) continue;
+        CHECK(used == text_of(prefix + wanted[at].key).size());
+        room = used, texts.resize(room + 1, '~'), texts[room] = '~';
+    }
+    if (wanted.size() < most) CHECK(at == wanted.size());
+    CHECK(bks_units_list_below(t.data(), t.size(), front.data(), front.size(), UINT64_MAX,
+                               words.data(), page, &texts[0], room, &used) == 0 && used == 0);
+}
+
 /* What is built of the texts among the keys, and of their units, is the same, byte for byte. */
 static size_t built(const trie &t) {
     std::string keys;
@@ -170,7 +206,14 @@ static void compared(const char *name, size_t step) {
         for (const std::u16string &text : {key, key + u"S", key + key, other})
             prefixes_as_icu(t, text);
         if (i % (101 * step) == 0) nodes_as_icu(t, i % 2 ? key : other, 2000);
+        std::u16string front = key.substr(0, i % (key.size() + 1));
+        if (i % (61 * step) == 0 && is_text(front)) {
+            pages_as_icu(t, front, 300, 1 + i % 70, 1 + i % 900);
+            pages_as_icu(t, front + u"\uFFFE", 300, 9, 90);
+        }
     }
+    pages_as_icu(t, u"", SIZE_MAX, t.all.size() / 3 + 1, size);
+    pages_as_icu(t, u"", SIZE_MAX, t.all.size(), 64 * t.all.size());
     printf("%s: %zu entries, %zu texts. ", name, t.all.size(), built(t));
 }
 

@@ -91,6 +91,13 @@ static int64_t unique(void) {
     CHECK(value == 0x77777777 && one <= 0);
     return one;
 }
+static int64_t listed_below(void) {
+    size_t size = 0x77777777;
+    int64_t count = bks_units_list_below(units, sizeof units, "a", 1, 0, (bks_word *)ends, 4,
+                                         (char *)(ends + 64), 64, &size);
+    CHECK(size == (count < 0 ? 0x77777777 : 3));
+    return count;
+}
 
 /* The number of allocations of the function, each of which failed once. */
 static long refused_in_turn(call tried) {
@@ -113,7 +120,7 @@ static long refused_in_turn(call tried) {
 int main(int count, char **words) {
     static const call calls[] = {set_of, set_of_none, size, span, both, either, without, one_of,
                                  of_ranges, of_points, frozen, built, units_built, counted, listed,
-                                 texts_built, next_units, unique};
+                                 texts_built, next_units, unique, listed_below};
     long made = 0;
     for (int i = 1; i < count; i++) {
         size_t bytes;

@@ -65,6 +65,7 @@ static void empty_units(void) {
     cursor = (bks_cursor){0, 0};
     CHECK(bks_units_next(NULL, 0, &cursor, NULL, 0) == 0);
     CHECK(bks_units_unique(NULL, 0, &cursor, &value) == 0 && value == 77);
+    CHECK(bks_units_list_below(NULL, 0, NULL, 0, 0, NULL, 0, NULL, 0, &size) == 0 && size == 0);
     CHECK(bks_units_build_utf8(NULL, 0, NULL, 0, NULL, 0, NULL, 0) == 0);
 }
 

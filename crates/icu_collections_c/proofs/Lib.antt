@@ -20,3 +20,4 @@ mod UnitLemmas
 mod UnitBuildingLemmas
 mod UnitTextLemmas
 mod UnitPrefixLemmas
+mod UnitPageLemmas

@@ -67,7 +67,7 @@ fitting-push words bytes (x ∷ es) e = by (nat_lt 0 words && nat_le (length x.0
         ap (λ b. cond b (e ∷ []) []) (sym none)
 
 -- If there is enough room, all items fit.
-fitting-all : (words bytes : ℕ) (es : List Item) → length es ≤ words → length (texts_of es) ≤ bytes → fitting words bytes es ≡ es
+pub fitting-all : (words bytes : ℕ) (es : List Item) → length es ≤ words → length (texts_of es) ≤ bytes → fitting words bytes es ≡ es
 fitting-all words bytes [] l m = refl
 fitting-all words bytes (x ∷ es) l m =
     let long = long_texts x es 0 in
@@ -75,10 +75,10 @@ fitting-all words bytes (x ∷ es) l m =
     ap (λ b. cond b (x ∷ fitting (words - 1) (bytes - length x.0) es) []) yes
     ∙ ap (λ zs. x ∷ zs) (fitting-all (words - 1) (bytes - length x.0) es (omega (arith, l)) (omega (arith, m, long)))
 
-abbrev word_at : ℕ → Item → Word
+abbrev pub word_at : ℕ → Item → Word
 word_at start e = record { start = start; size = length e.0; value = e.1 }
 
-words-push : (start : ℕ) (es : List Item) (e : Item)
+pub words-push : (start : ℕ) (es : List Item) (e : Item)
     → words_from start (es ++ e ∷ []) ≡ words_from start es ++ word_at (start + length (texts_of es)) e ∷ []
 words-push start [] e = ap (λ n. word_at n e ∷ []) (omega arith)
 words-push start (x ∷ es) e =

@@ -7,5 +7,6 @@ pub mod Listed
 pub mod NumberLaws
 pub mod Operations
 pub mod PackedPlaces
+pub mod Pages
 pub mod SetPlaces
 pub mod TextCells

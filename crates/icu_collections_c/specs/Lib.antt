@@ -14,6 +14,7 @@ pub mod Spans
 pub mod Status
 pub mod UnitBuilding
 pub mod UnitNodes
+pub mod UnitPages
 pub mod UnitPrefixes
 pub mod UnitTexts
 pub mod UnitTries

@@ -22,6 +22,7 @@
 //! - `unit_prefixes`: the keys that are prefixes of a text
 //! - `unit_nodes`: the units that can come next, and the one value of all keys from there on
 //! - `unit_building`: builds unit tries from entries; `listing`: lists the entries of a unit trie
+//! - `unit_pages`: lists the entries below a prefix, page by page
 //! - `cells`: the cells of tries, in bytes at any address
 //! - `status`: the errors of functions that return a count
 //! - `version`: the version of the library
@@ -48,6 +49,7 @@ pub mod tries;
 pub mod unit_building;
 mod unit_keys;
 pub mod unit_nodes;
+pub mod unit_pages;
 pub mod unit_prefixes;
 pub mod unit_texts;
 pub mod unit_tries;
