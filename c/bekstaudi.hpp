@@ -677,6 +677,31 @@ public:
         return all;
     }
 
+    // Returns the entries whose keys start with a UTF-8 text, in unit order, each key whole, as in
+    // entries(). A few untrusted units can have very many entries: call count() first. Throws
+    // set_refused if the text is not UTF-8.
+    std::vector<std::pair<std::string, std::int32_t>> entries(std::string_view prefix) const {
+        std::vector<std::pair<std::string, std::int32_t>> all;
+        std::vector<bks_word> words(64);
+        std::string texts(1024, '\0');
+        view<char> start(prefix);
+        for (;;) {
+            std::size_t size = 0;
+            std::int64_t answer = bks_units_list_below(
+                units_.data(), units_.size(), start.data(), start.size(), all.size(), words.data(),
+                words.size(), texts.data(), texts.size(), &size);
+            if (answer == BKS_NO_TEXT) throw set_refused("bekstaudi: no UTF-8");
+            if (answer < 0) throw std::bad_alloc();
+            std::size_t count = static_cast<std::size_t>(answer);
+            for (std::size_t i = 0; i < count; i++)
+                all.emplace_back(texts.substr(words[i].start, words[i].size), words[i].value);
+            if (count < words.size() && size <= texts.size()) return all;
+            // Larger pages, so that the entries that are skipped again take no more time in all.
+            words.resize(2 * words.size());
+            texts.resize(2 * texts.size() < size ? size : 2 * texts.size());
+        }
+    }
+
     // Returns the value of a key, or nothing if it is not there (ICU: UCharsTrie::reset, next and
     // getValue).
     std::optional<std::int32_t> operator[](std::u16string_view key) const noexcept {

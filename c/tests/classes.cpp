@@ -277,6 +277,14 @@ static void unit_tries_built() {
         {"", -7}, {"a", 1}, {"ab", 2}, {"\uFFFD", 3}, {"\U0001F600", INT32_MIN}};
     CHECK(trie.entries() == wanted && trie.count() == 5u);
     CHECK(!bekstaudi::unit_trie("0", 2).count());
+    CHECK(trie.entries("") == wanted && trie.entries("b").empty());
+    CHECK((trie.entries("a") == entries{{"a", 1}, {"ab", 2}} && trie.entries("ab") == entries{{"ab", 2}}));
+    CHECK(throws<bekstaudi::set_refused>([&] { trie.entries("\xFF"); }));
+    std::map<std::string, int> many;
+    for (int i = 0; i < 3000; i++) many[std::string(size_t(i % 40), 'x') + std::to_string(i)] = i;
+    const std::vector<uint8_t> of_many = bekstaudi::unit_trie::build(many);
+    CHECK(bekstaudi::unit_trie(of_many).entries("") == entries(many.begin(), many.end()));
+    CHECK(bekstaudi::unit_trie(of_many).entries("xx1") == entries(many.lower_bound("xx1"), many.lower_bound("xx2")));
     std::map<std::u16string, int> units;
     for (char16_t unit = 0; unit < 300; unit++) units[std::u16string(1, unit)] = 5;
     const std::vector<uint8_t> of_units = bekstaudi::unit_trie::build(units);
