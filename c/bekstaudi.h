@@ -210,7 +210,7 @@ int64_t bks_trie32_get_utf8(const bks_trie *trie, const char *text, size_t size,
  * *taken how many bytes they stand for; it stops where the buffer or the text ends. So a long text
  * goes piece by piece: call it again with what follows these bytes. If the text itself comes in
  * pieces, a character that is cut off at the end of one counts as ill-formed: keep up to three
- * bytes for the next piece. Only an error value that no character has tells ill-formed parts apart.
+ * bytes for the next piece. To find ill-formed parts, use an error value that no character has.
  * With room 1, *taken is the size of the first character. The fastest way to the values of a text.
  * ICU: UCPTRIE_FAST_U8_NEXT in a loop. */
 size_t bks_trie8_copy_utf8(const bks_trie *trie, const char *text, size_t size, uint8_t *values,

@@ -757,6 +757,31 @@ pub unsafe extern "C" fn bks_units_unique(
 }
 
 #[unsafe(no_mangle)]
+pub unsafe extern "C" fn bks_units_list_below(
+    units: *const u8,
+    units_count: usize,
+    prefix: *const u8,
+    prefix_count: usize,
+    skipped: u64,
+    words: *mut crate::icu_collections_c::listing::Word,
+    words_count: usize,
+    texts: *mut u8,
+    texts_count: usize,
+    texts_size: *mut usize,
+) -> i64 {
+    unsafe {
+        crate::icu_collections_c::unit_pages::bks_units_list_below(
+            slice(units, units_count),
+            slice(prefix, prefix_count),
+            skipped,
+            slice_mut(words, words_count),
+            slice_mut(texts, texts_count),
+            &mut *texts_size,
+        )
+    }
+}
+
+#[unsafe(no_mangle)]
 pub unsafe extern "C" fn bks_units_prefixes(
     units: *const u8,
     units_count: usize,
