@@ -1,4 +1,4 @@
-use Rattle.std.proofs.Common.{refl, ap, ◌∙◌, ◌≡◌, arith, ℕ}
+use Rattle.std.proofs.Common.{refl, arith, ℕ}
 use Rattle.std.specs.Prelude.{unwrap_or}
 use Rattle.icu_trie.specs.Parts.{trie_value}
 use Rattle.icu_trie_text.proofs.CallerLemmas.{ascii_known}

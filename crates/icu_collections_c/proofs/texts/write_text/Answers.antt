@@ -1,4 +1,4 @@
-use Rattle.std.proofs.Common.{◌∙◌, ℕ, ap, length, arith}
+use Rattle.std.proofs.Common.{ℕ, ap, length, arith}
 use Rattle.std.specs.Prelude.{unwrap_or}
 use Rattle.std.specs.Str.{chars}
 use Rattle.std.proofs.lemmas.Str.{encodes-chars, length-le-encodes}

@@ -1,4 +1,4 @@
-use Rattle.std.proofs.Common.{◌≡◌, ◌∙◌, ◌+◌, ◌<◌, ◌++◌, ◌∷◌, [], ℕ, List, refl, sym, subst, suc, true, false, length, take, get_or, arith}
+use Rattle.std.proofs.Common.{◌≡◌, ◌∙◌, ◌+◌, [], ℕ, List, refl, sym, subst, true, false, length, take, get_or, arith}
 use Rattle.std.proofs.lemmas.List.{take_more}
 use Rattle.icu_char16trie.specs.Matches.{HasFrontStepped, HasFrontValue}
 use Rattle.icu_char16trie.specs.Steps.{StepsTo}

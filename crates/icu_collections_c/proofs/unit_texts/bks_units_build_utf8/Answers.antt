@@ -1,7 +1,5 @@
 -- What is built of the units of the keys.
 use Rattle.std.proofs.Common.{◌≡◌, ◌∙◌, inl, inr, subst, sym, rules, arith, to_z, of_z, w64}
-use Rattle.std.specs.Prelude.{All}
-use Rattle.std.specs.Str.{IsUtf8}
 use Rattle.std.proofs.lemmas.Int.{to_z-of_z}
 use Rattle.icu_collections_c.specs.UnitBuilding.{AnswersUnits, HasEntries}
 use Rattle.icu_collections_c.specs.UnitTexts.{AnswersTextUnits, key_lengths, key_units, keys_of}
