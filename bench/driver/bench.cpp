@@ -25,9 +25,9 @@ static const char *const kernels[] = {"get_u8",              "get_u16",        "
                                       "frozen_contains_set", "c16_iter",       "c16_entries",
                                       "c16_look",            "c16_longest",    "c16_build",
                                       "packed_read",         "packed_search",  "c_get_u8",
-static const char *const kernels[] = {"c_text_u8",    "c_copy_u8",   "c_range_u8",
-                                      "c_ranges_u8",  "c_setfor_u8", "c_build_u8",
-                                      "c_span_words", "c_span_long", "c_set_from_points",
+                                      "c_text_u8",           "c_copy_u8",      "c_range_u8",
+                                      "c_ranges_u8",         "c_setfor_u8",    "c_build_u8",
+                                      "c_span_words",        "c_span_long",    "c_set_from_points",
                                       "range_u8"};
 
 enum { LEAST_ROUNDS = 5, MOST_ROUNDS = 400 };
