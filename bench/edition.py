@@ -79,7 +79,8 @@ def main(folder):
         lib = f"{folder}/{name}.rlib"
         os.makedirs(f"{folder}/{name}")
         lib = f"{folder}/{name}/libbekstaudi.rlib"
-        rustc("--crate-type=rlib", "--crate-name=bekstaudi", *words, "-o", lib, f"{folder}/edition/src/lib.rs")
+        words = ["--crate-type=rlib", "--crate-name=bekstaudi", "--cfg", 'feature="alloc"', *words]
+        rustc(*words, "-o", lib, f"{folder}/edition/src/lib.rs")
         rustc(
             "--crate-type=staticlib", "--extern", f"bekstaudi={lib}", "--extern", f"peer={folder}/libpeer.rlib",
             "-o", f"{folder}/{name}.a", f"{calls}/src/lib.rs",
