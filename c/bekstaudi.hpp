@@ -40,11 +40,16 @@ private:
     bks_status status_;
 };
 
-// Thrown if the numbers are not the boundaries of a set, or if the part of a text that is read is
-// ill-formed.
+// Thrown if the numbers are not the boundaries of a set.
 class set_refused : public std::invalid_argument {
 public:
     using std::invalid_argument::invalid_argument;
+};
+
+// Thrown if the part of a text that is read is not UTF-8.
+class text_refused : public std::invalid_argument {
+public:
+    text_refused() : std::invalid_argument("bekstaudi: the text is not UTF-8") {}
 };
 
 // Consecutive items of a container or an array, like std::span<const T> of C++20, with only what is
@@ -91,7 +96,7 @@ using if_temporary =
 // Returns the count that a function returned, or throws the error that it reports.
 inline std::size_t answered(std::int64_t answer) {
     if (answer == BKS_NO_MEMORY) throw std::bad_alloc();
-    if (answer == BKS_NO_TEXT) throw set_refused("bekstaudi: no UTF-8");
+    if (answer == BKS_NO_TEXT) throw text_refused();
     if (answer == BKS_NO_TRIE) throw set_refused("bekstaudi: no trie");
     if (answer < 0) throw set_refused("bekstaudi: no set"); // BKS_NO_SET
     return static_cast<std::size_t>(answer);
@@ -258,7 +263,7 @@ public:
     }
 
     // Returns the longest prefix of a text in UTF-8 whose characters are all in the set or, if
-    // `held` is false, all outside it. An ill-formed sequence ends it. Throws set_refused if the
+    // `held` is false, all outside it. An ill-formed sequence ends it. Throws text_refused if the
     // text is not empty and does not start with a character.
     std::string_view span(std::string_view text, bool held = true) const {
         view<char> bytes(text);
@@ -266,7 +271,7 @@ public:
                                                             bytes.size(), held)));
     }
 
-    // Returns the longest suffix of such characters. Throws set_refused if the text is not empty
+    // Returns the longest suffix of such characters. Throws text_refused if the text is not empty
     // and does not end with a character.
     std::string_view span_back(std::string_view text, bool held = true) const {
         view<char> bytes(text);
@@ -371,7 +376,7 @@ public:
     bool contains(std::uint32_t c) const noexcept { return bks_frozen_has(words_.data(), c); }
 
     // Returns the longest prefix of a text in UTF-8 whose characters are all in the set or, if
-    // `held` is false, all outside it. An ill-formed sequence ends it. Throws set_refused if the
+    // `held` is false, all outside it. An ill-formed sequence ends it. Throws text_refused if the
     // text is not empty and does not start with a character.
     std::string_view span(std::string_view text, bool held = true) const {
         view<char> bytes(text);
@@ -379,7 +384,7 @@ public:
                                                                bytes.data(), bytes.size(), held)));
     }
 
-    // Returns the longest suffix of such characters. Throws set_refused if the text is not empty
+    // Returns the longest suffix of such characters. Throws text_refused if the text is not empty
     // and does not end with a character.
     std::string_view span_back(std::string_view text, bool held = true) const {
         view<char> bytes(text);
@@ -679,7 +684,7 @@ public:
 
     // Returns the entries whose keys start with a UTF-8 text, in unit order, each key whole, as in
     // entries(). A few untrusted units can have very many entries: call count() first. Throws
-    // set_refused if the text is not UTF-8.
+    // text_refused if the text is not UTF-8.
     std::vector<std::pair<std::string, std::int32_t>> entries(std::string_view prefix) const {
         std::vector<std::pair<std::string, std::int32_t>> all;
         std::vector<bks_word> words(64);
@@ -690,7 +695,7 @@ public:
             std::int64_t answer = bks_units_list_below(
                 units_.data(), units_.size(), start.data(), start.size(), all.size(), words.data(),
                 words.size(), texts.data(), texts.size(), &size);
-            if (answer == BKS_NO_TEXT) throw set_refused("bekstaudi: no UTF-8");
+            if (answer == BKS_NO_TEXT) throw text_refused();
             if (answer < 0) throw std::bad_alloc();
             std::size_t count = static_cast<std::size_t>(answer);
             for (std::size_t i = 0; i < count; i++)
@@ -724,13 +729,13 @@ public:
 
     // Returns the longest key that is a prefix of a UTF-8 text, or nothing if no key is. All of the
     // text is validated first: of a long text, pass no more than the longest key takes, up to the
-    // end of a character. Throws set_refused if the text is not UTF-8.
+    // end of a character. Throws text_refused if the text is not UTF-8.
     std::optional<match> longest(std::string_view text) const {
         std::int32_t value = 0;
         view<char> bytes(text);
         std::int64_t size = bks_units_longest_utf8(units_.data(), units_.size(), bytes.data(),
                                                    bytes.size(), &value);
-        if (size == BKS_NO_TEXT) throw set_refused("bekstaudi: no UTF-8");
+        if (size == BKS_NO_TEXT) throw text_refused();
         if (size < 0) return std::nullopt;
         return match{static_cast<std::size_t>(size), value};
     }
@@ -755,7 +760,7 @@ public:
     }
 
     // Returns all keys that are prefixes of a UTF-8 text, the shortest first. A key that ends within
-    // a character does not count. Throws set_refused if the text is not UTF-8.
+    // a character does not count. Throws text_refused if the text is not UTF-8.
     std::vector<match> prefixes(std::string_view text) const {
         view<char> bytes(text);
         return matches_of([&](bks_prefix *found, std::size_t room) {
@@ -825,7 +830,7 @@ private:
         std::size_t count = 0;
         for (;;) {
             std::int64_t answer = call(found.data(), found.size());
-            if (answer < 0) throw set_refused("bekstaudi: no UTF-8");
+            if (answer < 0) throw text_refused();
             count = static_cast<std::size_t>(answer);
             if (count <= found.size()) break;
             found.resize(count);
