@@ -95,7 +95,7 @@ impl<'trie, T: TrieValue> CodePointTrie<'trie, T> {
     /// let trie = CodePointTrie::try_new(header, index, data)?;
     /// // trie.get32(0x41) is value 1, trie.get32(0x1000) is value 62, and trie.get32(0x110000) is value 63
     /// ```
-    #[inline]
+    #[inline(always)]
     pub fn try_new(
         header: CodePointTrieHeader,
         index: ZeroVec<'trie, u16>,

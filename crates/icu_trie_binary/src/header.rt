@@ -122,7 +122,7 @@ fn fields_of(bytes: &[u8], trie_type: TrieType, value_width: ValueWidth) -> Bina
 }
 
 /// Returns the contents of the header, or its first error.
-#[inline]
+#[inline(always)]
 #[tactic(auto, unfolding(crate::specs::BinaryHeader::header_of))]
 pub(crate) fn header_of(bytes: &[u8]) -> Result<BinaryHeader, BinaryError>
     ensures { result ≡ header_of bytes.now }
@@ -152,7 +152,7 @@ pub(crate) fn stored_length(header: &BinaryHeader) -> usize
 
 /// Returns the header of a trie whose values take `width` bytes and whose cells are all present,
 /// and the number of bytes that the trie takes.
-#[inline]
+#[inline(always)]
 #[tactic(auto, unfolding(crate::specs::BinaryHeader::stored_header))]
 pub(crate) fn stored_header(
     bytes: &[u8],
