@@ -1,6 +1,6 @@
 -- Lemmas for callers' proofs, on the maps in `specs/UnitMap.antt`, the matches in
 -- `specs/Matches.antt`, and loops over the characters of a text.
-use Rattle.std.proofs.Common.{◌≡◌, ℕ, ℤ, ◌+◌, ◌<◌, zero, suc, false, List, [], ◌∷◌, ◌++◌, Option, Some, None, length, take, refl, sym, ap, subst, ◌∙◌, append-nil, arith, ◌⊎◌, inl, inr}
+use Rattle.std.proofs.Common.{◌≡◌, ℕ, ℤ, ◌+◌, ◌<◌, zero, suc, List, [], ◌∷◌, ◌++◌, Option, Some, None, length, take, refl, sym, ap, subst, ◌∙◌, append-nil, arith, ◌⊎◌, inl, inr}
 use Rattle.std.proofs.Math.Seq.{take-suc}
 use Rattle.std.proofs.lemmas.Grind.{flat_map-append}
 use Rattle.std.proofs.lemmas.Iterator.{YieldsList}
@@ -10,36 +10,20 @@ use Rattle.std.specs.Char.Escape.{encode_utf16}
 use Rattle.std.specs.Iterator.{Yields}
 use Rattle.std.specs.List.{flat_map}
 use Rattle.std.proofs.lemmas.Option.{none-some}
-use Rattle.icu_char16trie.specs.UnitMap.{UnitMap, after, after_all, goes_on, key_goes_on, value_of}
+use Rattle.icu_char16trie.specs.UnitMap.{UnitMap}
 use Rattle.icu_char16trie.specs.Matches.{HasFrontValue, IsLongestMatch, LongestWithin}
-use Rattle.icu_char16trie.proofs.MapLemmas.{value_after, value_after_all, goes_on_after_all}
+-- If no key continues after some units, no longer key has a value.
+pub use Rattle.icu_char16trie.proofs.MapLemmas.{none_beyond}
+-- The first units of a text, and steps along units.
+pub use Rattle.icu_char16trie.proofs.PassedLemmas.{along_then}
+pub use Rattle.icu_char16trie.proofs.FrontLemmas.{front_more, none_along}
+-- The units and the bytes of the first characters of a text.
+pub use Rattle.icu_char16trie.proofs.CharFronts.{bytes_fit, bytes_next, units_more}
 -- The entries of a map and the values of its keys.
 pub use Rattle.icu_char16trie.proofs.ListedKeys.{Contains-value_of, below_itself, same_key_eq, same_key_self, value_of-listed, value_of-some}
 -- The keys of the map of a trie ascend, and so do their first units.
 pub use Rattle.icu_char16trie.proofs.OneMap.{trie_ascends}
 pub use Rattle.icu_char16trie.proofs.AscendingUnits.{first_units-ascending}
-
-nothing_after : (u : ℕ) (m : UnitMap) → goes_on m [] ≡ false → after u m ≡ []
-unfolding after goes_on key_goes_on
-nothing_after u [] h = refl
-nothing_after u (([], v) ∷ m) h = nothing_after u m h
-nothing_after u ((x ∷ key, v) ∷ m) h = cc
-
-after_all_append : (w v : List ℕ) (m : UnitMap) → after_all (w ++ v) m ≡ after_all v (after_all w m)
-unfolding after_all
-after_all_append [] v m = refl
-after_all_append (x ∷ w) v m = after_all_append w v (after x m)
-
-value_beyond : (m : UnitMap) (w v : List ℕ) → value_of m (w ++ v) ≡ value_of (after_all w m) v
-value_beyond m w v =
-    value_after_all (w ++ v) m ∙ ap (λ z. value_of z []) (after_all_append w v m) ∙ sym (value_after_all v (after_all w m))
-
--- If no key continues after some units, no longer key has a value.
-pub none_beyond : (m : UnitMap) (w : List ℕ) (u : ℕ) (more : List ℕ) → goes_on m w ≡ false → value_of m (w ++ (u ∷ more)) ≡ None
-unfolding value_of
-none_beyond m w u more h =
-    value_beyond m w (u ∷ more) ∙ value_after u more (after_all w m)
-    ∙ ap (λ z. value_of z more) (nothing_after u (after_all w m) (sym (goes_on_after_all w m) ∙ h))
 
 -- ---- the longest match is unique
 

@@ -17,7 +17,7 @@ use Rattle.icu_char16trie.specs.Matches.{HasCharsStepped, HasCharsValue, front_u
 use Rattle.icu_char16trie.specs.Inside.Fronts.{longer}
 use Rattle.icu_char16trie.specs.declared.place.Place.{Place}
 use Rattle.icu_char16trie.specs.declared.place.Place.TheVariants.{Node}
-use Rattle.icu_char16trie.proofs.CallerLemmas.{none_beyond}
+use Rattle.icu_char16trie.proofs.MapLemmas.{none_beyond}
 use Rattle.icu_char16trie.proofs.FrontLemmas.{front_more, none_along}
 
 -- A character has a unit.
@@ -30,7 +30,7 @@ some_unit c = by (nat_lt c 0x1_0000)
     by false = (0xD800 + (c - 0x1_0000) / 0x400, (0xDC00 + (c - 0x1_0000) % 0x400) ∷ [], refl)
 
 -- The units of more characters start with those of fewer.
-units_more : (cs : List ℕ) (i k : ℕ) → i < k → k ≤ length cs
+pub units_more : (cs : List ℕ) (i k : ℕ) → i < k → k ≤ length cs
     → (u : ℕ) × (more : List ℕ) × (front_units cs k ≡ front_units cs i ++ u ∷ more)
 units_more cs i k below within =
     let t = front_more cs i k below within in
@@ -61,7 +61,7 @@ whole_text : (text : List ℕ) (k : ℕ) → IsUtf8 text → encodes (take k (ch
 whole_text text k u =
     sym (encodes-append (take k (chars text)) (drop k (chars text))) ∙ ap encodes (take-append-drop k (chars text)) ∙ encodes-chars text u
 
-pub bytes_within : (text : List ℕ) (k : ℕ) → IsUtf8 text → length (encode_utf8_all (take k (chars text))) ≤ length text
+bytes_within : (text : List ℕ) (k : ℕ) → IsUtf8 text → length (encode_utf8_all (take k (chars text))) ≤ length text
 bytes_within text k u =
     omega (arith, ap length (whole_text text k u), length-append (encodes (take k (chars text))) (encodes (drop k (chars text))))
 
@@ -89,6 +89,13 @@ pub bytes_next : (cs : List ℕ) (c : ℕ) → length (encode_utf8_all (cs ++ c 
 bytes_next cs c =
     ap length (encodes-append cs (c ∷ [])) ∙ length-append (encodes cs) (encodes (c ∷ []))
     ∙ ap (λ (z : List ℕ). length (encodes cs) + length z) (append-nil (encode c))
+
+-- The bytes of the first characters and of the next one are within the text.
+pub bytes_fit : (text cs : List ℕ) (c : ℕ) → IsUtf8 text → cs ++ c ∷ [] ≡ take (length cs + 1) (chars text)
+    → length (encode_utf8_all cs) + length (encode_utf8 c) ≤ length text
+bytes_fit text cs c u first =
+    let whole : length (encode_utf8_all (cs ++ c ∷ [])) ≤ length text = rw first (bytes_within text (length cs + 1) u) in
+    omega (arith, bytes_next cs c, whole)
 
 -- The longest match in bytes, once one more character is looked up.
 pub longer_bytes : (cs : List ℕ) (k n : ℕ) (v : Option ℤ) (found : Option (ℕ × ℤ)) → n ≡ length (encode_utf8_all (take k cs))

@@ -10,7 +10,7 @@ use Rattle.icu_char16trie.specs.Matches.{LongestWithin, HasFrontValue, HasFrontS
 use Rattle.icu_char16trie.specs.Inside.Fronts.{longer}
 use Rattle.icu_char16trie.specs.declared.place.Place.{Place}
 use Rattle.icu_char16trie.specs.declared.place.Place.TheVariants.{Nowhere, Node, Run}
-use Rattle.icu_char16trie.proofs.CallerLemmas.{none_beyond}
+use Rattle.icu_char16trie.proofs.MapLemmas.{none_beyond}
 use Rattle.icu_char16trie.proofs.PassedLemmas.{along_then}
 
 pub within_or_above : (k i : ℕ) → (k ≤ i) ⊎ (i < k)

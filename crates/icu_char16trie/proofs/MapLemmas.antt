@@ -1,6 +1,6 @@
 -- Lemmas on maps as lists of entries.
-use Rattle.std.proofs.Common.{◌≡◌, ℕ, ℤ, true, false, cond, ◌||◌, ◌&&◌, nat_eq, List, [], ◌∷◌, ◌++◌, Some, refl, ap, ◌∙◌, arith}
-use Rattle.icu_char16trie.specs.UnitMap.{under, after, after_all, value_of, same_key, goes_on, key_goes_on}
+use Rattle.std.proofs.Common.{◌≡◌, ℕ, ℤ, true, false, cond, ◌||◌, ◌&&◌, nat_eq, List, [], ◌∷◌, ◌++◌, Some, None, refl, sym, ap, ◌∙◌, arith}
+use Rattle.icu_char16trie.specs.UnitMap.{UnitMap, under, after, after_all, value_of, same_key, goes_on, key_goes_on}
 
 pub same_eqb : (u : ℕ) → nat_eq u u ≡ true
 same_eqb u = grind arith
@@ -57,3 +57,25 @@ pub after_all_push : (w : List ℕ) (u : ℕ) (m : List (List ℕ × ℤ)) → a
 unfolding after_all
 after_all_push [] u m = refl
 after_all_push (x ∷ w) u m = after_all_push w u (after x m)
+
+nothing_after : (u : ℕ) (m : UnitMap) → goes_on m [] ≡ false → after u m ≡ []
+unfolding after goes_on key_goes_on
+nothing_after u [] h = refl
+nothing_after u (([], v) ∷ m) h = nothing_after u m h
+nothing_after u ((x ∷ key, v) ∷ m) h = cc
+
+after_all_append : (w v : List ℕ) (m : UnitMap) → after_all (w ++ v) m ≡ after_all v (after_all w m)
+unfolding after_all
+after_all_append [] v m = refl
+after_all_append (x ∷ w) v m = after_all_append w v (after x m)
+
+value_beyond : (m : UnitMap) (w v : List ℕ) → value_of m (w ++ v) ≡ value_of (after_all w m) v
+value_beyond m w v =
+    value_after_all (w ++ v) m ∙ ap (λ z. value_of z []) (after_all_append w v m) ∙ sym (value_after_all v (after_all w m))
+
+-- If no key continues after some units, no longer key has a value.
+pub none_beyond : (m : UnitMap) (w : List ℕ) (u : ℕ) (more : List ℕ) → goes_on m w ≡ false → value_of m (w ++ (u ∷ more)) ≡ None
+unfolding value_of
+none_beyond m w u more h =
+    value_beyond m w (u ∷ more) ∙ value_after u more (after_all w m)
+    ∙ ap (λ z. value_of z more) (nothing_after u (after_all w m) (sym (goes_on_after_all w m) ∙ h))

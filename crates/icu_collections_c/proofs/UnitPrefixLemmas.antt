@@ -19,7 +19,7 @@ use Rattle.icu_char16trie.specs.UnitMap.{UnitMap, goes_on, value_of}
 use Rattle.icu_char16trie.specs.UnitPlaces.{At, HasPassed, ends_by, is_empty_at, value_at}
 use Rattle.icu_char16trie.specs.declared.place.Place.{Place}
 use Rattle.icu_char16trie.specs.declared.place.Place.TheVariants.{Node, Nowhere, Run}
-use Rattle.icu_char16trie.proofs.CallerLemmas.{none_beyond}
+use Rattle.icu_char16trie.proofs.CallerLemmas.{none_along, none_beyond}
 use Rattle.icu_collections_c.specs.Buffers.{written}
 use Rattle.icu_collections_c.specs.UnitPrefixes.{AreValued, GivesPrefixes, HasFound, prefix_of}
 use Rattle.icu_collections_c.specs.declared.unit_prefixes.Prefix.{Prefix}
@@ -108,37 +108,6 @@ HasFound-none all = record { count = refl; buffer = sym (none all) }
     none : (old : List Prefix) → written [] old ≡ old
     none [] = refl
     none (x ∷ xs) = refl
-
--- ---- steps
-
--- From an empty position each unit leads nowhere.
-ends_nowhere : (units : List ℕ) (place : Place) (u : ℕ) → is_empty_at units place ≡ true → StepsTo units place u Nowhere
-ends_nowhere units Nowhere u e = refl
-ends_nowhere units (Node p) u e = by (slice_get units p) refl e
-  where
-    from : (lead : ℕ) → nat_le 0x8000 lead ≡ true → 0x8000 ≤ lead
-    from lead h = grind (arith, nat_tests)
-
-    by : (o : Option ℕ) → slice_get units p ≡ o → ends_by o ≡ true → InNode units u p Nowhere
-    by None g h = no_lead p Nowhere g refl
-    by (Some lead) g h = at_final p lead Nowhere g (from lead h) refl
-ends_nowhere units (Run p left) u e = cc
-
-stays_nowhere : (units w : List ℕ) → StepsAlong units Nowhere w Nowhere
-stays_nowhere units [] = refl
-stays_nowhere units (u ∷ w) = (Nowhere, refl, stays_nowhere units w)
-
-pub along_then : (units : List ℕ) (from mid to : Place) (v w : List ℕ) → StepsAlong units from v mid
-    → StepsAlong units mid w to → StepsAlong units from (v ++ w) to
-along_then units from mid to [] w h k = subst (λ z. StepsAlong units z w to) h k
-along_then units from mid to (u ∷ v) w h k = (h.0, h.1, along_then units h.0 mid to v w h.2 k)
-
--- After an empty position nothing has a value.
-none_along : (units w : List ℕ) (place : Place) (u : ℕ) (more : List ℕ) → StepsAlong units (Node 0) w place
-    → is_empty_at units place ≡ true → HasValueAlong units (w ++ u ∷ more) None
-none_along units w place u more steps ends =
-    let on : StepsAlong units place (u ∷ more) Nowhere = (Nowhere, ends_nowhere units place u ends, stays_nowhere units more) in
-    (Nowhere, along_then units (Node 0) place Nowhere w (u ∷ more) steps on, refl)
 
 -- ---- prefixes, one after another
 
@@ -285,53 +254,6 @@ pub no_more : (b : Bool) → not b ≡ true → b ≡ false
 no_more true e = cc
 no_more false e = refl
 
--- A longer prefix starts with a shorter one.
-pub front_more : (text : List ℕ) (i k : ℕ) → i < k → k ≤ length text
-    → (x : ℕ) × (y : List ℕ) × (take k text ≡ take i text ++ x ∷ y)
-front_more [] i k below within = absurd (omega (arith, below, within))
-front_more (u ∷ text) i zero below within = absurd (omega (arith, below))
-front_more (u ∷ text) zero (suc k) below within = (u, take k text, refl)
-front_more (u ∷ text) (suc i) (suc k) below within =
-    let more = front_more text i k (omega (arith, below)) (omega (arith, within)) in
-    (more.0, more.1, ap (λ (z : List ℕ). u ∷ z) more.2)
-
--- ---- the characters of a text
-
--- A character has a unit.
-some_unit : (c : ℕ) → (u : ℕ) × (more : List ℕ) × (encode_utf16 c ≡ u ∷ more)
-some_unit c = by (nat_lt c 0x1_0000)
-  where
-    by : (b : Bool) → (u : ℕ) × (more : List ℕ)
-        × (cond b (c ∷ []) ((0xD800 + (c - 0x1_0000) / 0x400) ∷ (0xDC00 + (c - 0x1_0000) % 0x400) ∷ []) ≡ u ∷ more)
-    by true = (c, [], refl)
-    by false = (0xD800 + (c - 0x1_0000) / 0x400, (0xDC00 + (c - 0x1_0000) % 0x400) ∷ [], refl)
-
--- The units of more characters start with those of fewer.
-pub units_more : (cs : List ℕ) (i k : ℕ) → i < k → k ≤ length cs
-    → (u : ℕ) × (more : List ℕ) × (front_units cs k ≡ front_units cs i ++ u ∷ more)
-units_more cs i k below within =
-    let t = front_more cs i k below within in
-    let one = some_unit t.0 in (
-      one.0,
-      one.1 ++ flat_map encode_utf16 t.1,
-      ap (flat_map encode_utf16) t.2 ∙ flat_map-append encode_utf16 (take i cs) (t.0 ∷ t.1)
-          ∙ ap (λ z. front_units cs i ++ (z ++ flat_map encode_utf16 t.1)) one.2,
-    )
-
--- The first characters take no more bytes than the text.
-pub bytes_within : (text : List ℕ) (k : ℕ) → IsUtf8 text → length (encode_utf8_all (take k (chars text))) ≤ length text
-bytes_within text k u =
-    let whole : encodes (take k (chars text)) ++ encodes (drop k (chars text)) ≡ text =
-    sym (encodes-append (take k (chars text)) (drop k (chars text))) ∙ ap encodes (take-append-drop k (chars text))
-    ∙ encodes-chars text u in
-    omega (arith, ap length whole, length-append (encodes (take k (chars text))) (encodes (drop k (chars text))))
-
 -- There are no more characters than bytes.
 pub chars_within : (text : List ℕ) → IsUtf8 text → length (chars text) ≤ length text
 chars_within text u = omega (arith, length-le-encodes (chars text), ap length (encodes-chars text u))
-
--- The bytes of one more character.
-pub bytes_next : (cs : List ℕ) (c : ℕ) → length (encode_utf8_all (cs ++ c ∷ [])) ≡ length (encode_utf8_all cs) + length (encode_utf8 c)
-bytes_next cs c =
-    ap length (encodes-append cs (c ∷ [])) ∙ length-append (encodes cs) (encodes (c ∷ []))
-    ∙ ap (λ (z : List ℕ). length (encodes cs) + length z) (append-nil (encode c))

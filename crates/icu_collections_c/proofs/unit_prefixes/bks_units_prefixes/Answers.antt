@@ -5,10 +5,11 @@ use Rattle.icu_char16trie.specs.Steps.{StepsTo}
 use Rattle.icu_char16trie.specs.UnitMap.{UnitMap, goes_on}
 use Rattle.icu_char16trie.specs.UnitPlaces.{HasPassed, is_empty_at}
 use Rattle.icu_char16trie.specs.declared.place.Place.TheVariants.{Node}
+use Rattle.icu_char16trie.proofs.CallerLemmas.{front_more}
 use Rattle.icu_collections_c.specs.UnitPrefixes.{GivesPrefixes}
 use Rattle.icu_collections_c.specs.UnitTries.{units_of}
 use Rattle.icu_collections_c.proofs.UnitLemmas.{along_push}
-use Rattle.icu_collections_c.proofs.UnitPrefixLemmas.{HasFound-none, few-looked, front_more, looked_all_exact, looked_all_keys, looked_ends_exact, looked_ends_keys, looked_first, looked_next, no_more}
+use Rattle.icu_collections_c.proofs.UnitPrefixLemmas.{HasFound-none, few-looked, looked_all_exact, looked_all_keys, looked_ends_exact, looked_ends_keys, looked_first, looked_next, no_more}
 use Rattle.icu_collections_c.proofs.unit_prefixes.bks_units_prefixes.Goals as goal
 
 pub loop-i-init : goal.loop-i-init

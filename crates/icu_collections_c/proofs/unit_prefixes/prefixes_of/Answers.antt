@@ -1,4 +1,4 @@
-use Rattle.std.proofs.Common.{◌≡◌, ◌∙◌, ◌+◌, ◌<◌, ◌≤◌, ◌++◌, ◌∷◌, [], ℕ, List, refl, sym, ap, subst, true, false, length, take, length-append, arith}
+use Rattle.std.proofs.Common.{◌≡◌, ◌∙◌, ◌+◌, ◌<◌, ◌++◌, ◌∷◌, [], ℕ, List, refl, sym, ap, subst, true, false, length, take, length-append, arith}
 use Rattle.std.specs.Prelude.{encode_utf8_all}
 use Rattle.std.specs.Char.Escape.{encode_utf16}
 use Rattle.std.specs.List.{flat_map}
@@ -10,10 +10,10 @@ use Rattle.icu_char16trie.specs.Steps.{StepsAlong}
 use Rattle.icu_char16trie.specs.UnitMap.{UnitMap, goes_on}
 use Rattle.icu_char16trie.specs.UnitPlaces.{HasPassed, is_empty_at}
 use Rattle.icu_char16trie.specs.declared.place.Place.TheVariants.{Node}
-use Rattle.icu_char16trie.proofs.CallerLemmas.{first_chars, units_next}
+use Rattle.icu_char16trie.proofs.CallerLemmas.{along_then, bytes_fit, bytes_next, first_chars, units_more, units_next}
 use Rattle.icu_collections_c.specs.UnitPrefixes.{GivesPrefixes, HasFound, bytes_before}
 use Rattle.icu_collections_c.specs.UnitTries.{units_of}
-use Rattle.icu_collections_c.proofs.UnitPrefixLemmas.{HasFound-none, along_then, bytes_next, bytes_within, chars_within, few-looked, looked_all_exact, looked_all_keys, looked_ends_exact, looked_ends_keys, looked_first, looked_next, no_more, units_more}
+use Rattle.icu_collections_c.proofs.UnitPrefixLemmas.{HasFound-none, chars_within, few-looked, looked_all_exact, looked_all_keys, looked_ends_exact, looked_ends_keys, looked_first, looked_next, no_more}
 use Rattle.icu_collections_c.proofs.unit_prefixes.prefixes_of.Goals as goal
 use Rattle.icu_collections_c.proofs.unit_prefixes.prefixes_of.Goals.{In-Some}
 
@@ -27,9 +27,8 @@ are_first c = first_chars (YieldsList-from_chars c.args.text.now c.utf8.text cc)
 pub overflow_add-end : goal.overflow_add-end
 overflow_add-end c =
     let first = are_first (goal.at.overflow_add-end c).In-Some in
-    let whole : length (encode_utf8_all (c.loop-c.yielded ++ c.in-Some.c ∷ [])) ≤ length c.args.text.now =
-    rw first.2 (bytes_within c.args.text.now (length c.loop-c.yielded + 1) c.utf8.text) in
-    omega (arith, bytes_next c.loop-c.yielded c.in-Some.c, whole, c.loop-c.invariant.bytes, c.len_utf8-end.ensures.len)
+    omega (arith, bytes_fit c.args.text.now c.loop-c.yielded c.in-Some.c c.utf8.text first.2, c.loop-c.invariant.bytes,
+    c.len_utf8-end.ensures.len)
 
 pub loop-c-init : goal.loop-c-init
 loop-c-init c = record {

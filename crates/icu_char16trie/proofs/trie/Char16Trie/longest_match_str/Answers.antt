@@ -1,4 +1,4 @@
-use Rattle.std.proofs.Common.{◌≡◌, ℕ, ◌+◌, ◌<◌, ◌≤◌, Bool, true, false, not, List, [], ◌∷◌, ◌++◌, None, length, take, refl, sym, ap, subst, ◌∙◌, arith, length-append}
+use Rattle.std.proofs.Common.{◌≡◌, ℕ, ◌+◌, ◌<◌, Bool, true, false, not, List, [], ◌∷◌, ◌++◌, None, length, take, refl, sym, ap, subst, ◌∙◌, arith, length-append}
 use Rattle.std.specs.Prelude.{encode_utf8_all}
 use Rattle.std.specs.Char.Escape.{encode_utf16}
 use Rattle.std.specs.List.{flat_map}
@@ -12,7 +12,7 @@ use Rattle.icu_char16trie.specs.Matches.{HasCharsStepped, HasCharsValue, Longest
 use Rattle.icu_char16trie.specs.Inside.Fronts.{longer}
 use Rattle.icu_char16trie.specs.Grammar.{IsTrieOf}
 use Rattle.icu_char16trie.specs.declared.place.Place.TheVariants.{Node}
-use Rattle.icu_char16trie.proofs.CharFronts.{bytes_next, bytes_within, ends_at_boundary, longer_bytes, no_more_chars, no_more_steps}
+use Rattle.icu_char16trie.proofs.CharFronts.{bytes_fit, bytes_next, ends_at_boundary, longer_bytes, no_more_chars, no_more_steps}
 use Rattle.icu_char16trie.proofs.CallerLemmas.{first_chars, units_next}
 use Rattle.icu_char16trie.proofs.FrontLemmas.{LongestWithin-zero, LongestWithin-suc, LongestWithin-more}
 use Rattle.icu_char16trie.proofs.PassedLemmas.{along_then}
@@ -29,9 +29,8 @@ are_first c = first_chars (YieldsList-from_chars c.args.text.now c.utf8.text cc)
 pub overflow_add-end : goal.overflow_add-end
 overflow_add-end c =
     let first = are_first (goal.at.overflow_add-end c).In-Some in
-    let whole : length (encode_utf8_all (c.loop-c.yielded ++ c.in-Some.c ∷ [])) ≤ length c.args.text.now =
-    rw first.2 (bytes_within c.args.text.now (length c.loop-c.yielded + 1) c.utf8.text) in
-    omega (arith, bytes_next c.loop-c.yielded c.in-Some.c, whole, c.loop-c.invariant.bytes, c.len_utf8-end.ensures.len)
+    omega (arith, bytes_fit c.args.text.now c.loop-c.yielded c.in-Some.c c.utf8.text first.2, c.loop-c.invariant.bytes,
+    c.len_utf8-end.ensures.len)
 
 pub loop-c-init : goal.loop-c-init
 loop-c-init c =
