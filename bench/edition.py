@@ -1,8 +1,11 @@
-"""Writes the Rust edition and the loops that the driver calls, and builds both: edition.py FOLDER
+"""Writes the Rust edition and the loops that the driver calls, and builds both:
+edition.py FOLDER [--check]
 
-FOLDER then has `safe.a` and `proved-reads.a`: the loops of bench_ours, converted to Rust, over the
-public names of rust/bekstaudi without and with that feature. Each library also has the peer.
+FOLDER then has `safe.a` and `proved-reads.a`: the loops of bench/ours, converted to Rust, over the
+public names of rust/bekstaudi without and with that feature. Each library also has the peer. With
+--check nothing is built: the status says whether all of it compiles.
 """
+import glob
 import importlib.machinery
 import importlib.util
 import os
@@ -62,29 +65,35 @@ def rustc(*words):
     subprocess.run(["rustc", *FLAGS, *words], check=True)
 
 
-def main(folder):
+def write_calls(made, calls):
+    """Writes the loops, converted to Rust, and what they need."""
+    shutil.copytree(f"{TOP}/rust/support", f"{calls}/src/support")
+    os.makedirs(f"{calls}/src/bench_ours")
+    for path in sorted(glob.glob(f"{TOP}/bench/ours/*.rs")):
+        name = os.path.basename(path)[:-3]
+        text = made.rust(path, "bench_ours", f"bench_ours/{name}", RULES)
+        out = f"{calls}/src/bench_ours/{'mod' if name == 'lib' else name}.rs"
+        write(out, CALL.sub(called_from_c, text))
+    write(f"{calls}/src/lib.rs", "extern crate alloc;\nextern crate peer;\nmod bench_ours;\nmod support;\n")
+
+
+def main(folder, *options):
     made, calls = maker(), f"{folder}/calls"
     made.erase.ATTRIBUTES.add("repr")
     made.edition(f"{folder}/edition")
-    shutil.copytree(f"{TOP}/rust/support", f"{calls}/src/support")
-    made.make(calls, ["bench_ours"], RULES)
-    for name in os.listdir(f"{calls}/src/bench_ours"):
-        path = f"{calls}/src/bench_ours/{name}"
-        with open(path, encoding="utf-8") as file:
-            text = CALL.sub(called_from_c, file.read())
-        write(path, text)
-    write(f"{calls}/src/lib.rs", "extern crate alloc;\nextern crate peer;\nmod bench_ours;\nmod support;\n")
-    rustc("--crate-type=rlib", "--crate-name=peer", "-o", f"{folder}/libpeer.rlib", f"{TOP}/bench/peer/lib.rs")
+    write_calls(made, calls)
+    emitted, ending = ("metadata", "rmeta") if "--check" in options else ("link", "rlib")
+    peer = f"{folder}/libpeer.{ending}"
+    rustc(f"--emit={emitted}", "--crate-type=rlib", "--crate-name=peer", "-o", peer, f"{TOP}/bench/peer/lib.rs")
     for name, words in {"safe": [], "proved-reads": ["--cfg", 'feature="proved-reads"']}.items():
-        lib = f"{folder}/{name}.rlib"
         os.makedirs(f"{folder}/{name}")
-        lib = f"{folder}/{name}/libbekstaudi.rlib"
-        words = ["--crate-type=rlib", "--crate-name=bekstaudi", "--cfg", 'feature="alloc"', *words]
-        rustc(*words, "-o", lib, f"{folder}/edition/src/lib.rs")
+        lib = f"{folder}/{name}/libbekstaudi.{ending}"
+        words = [f"--emit={emitted}", "--cfg", 'feature="alloc"', *words]
+        rustc(*words, "--crate-type=rlib", "--crate-name=bekstaudi", "-o", lib, f"{folder}/edition/src/lib.rs")
         rustc(
-            "--crate-type=staticlib", "--extern", f"bekstaudi={lib}", "--extern", f"peer={folder}/libpeer.rlib",
+            *words, "--crate-type=staticlib", "--extern", f"bekstaudi={lib}", "--extern", f"peer={peer}",
             "-o", f"{folder}/{name}.a", f"{calls}/src/lib.rs",
         )
 
 
-main(sys.argv[1])
+main(*sys.argv[1:])

@@ -1,4 +1,4 @@
-// The functions of crates/bench_ours (ours_) and of bench/peer (rust_). A slice is a pointer and a
+// The functions of bench/ours (ours_) and of bench/peer (rust_). A slice is a pointer and a
 // length.
 #pragma once
 #include <cstddef>
