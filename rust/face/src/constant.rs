@@ -463,7 +463,7 @@ impl<'data> CodePointInversionList<'data> {
     }
 }
 
-/// What databake writes, under the Rust crate's names. Each function tests its parts nevertheless.
+// What databake writes, under the Rust crate's names. Each function tests its parts nevertheless.
 impl<'data> CodePointInversionList<'data> {
     #[doc(hidden)]
     pub const fn from_parts_unchecked(ends: ZeroVec<'data, PotentialCodePoint>, _: u32) -> Self {
