@@ -69,6 +69,9 @@
 //! [`Char16Trie::from_static`](char16trie::Char16Trie::from_static). [`zeroslice!`] packs an array
 //! for them, and [`trie_values!`] declares an enum of values.
 //!
+//! The program `ucptrie` makes the parts of a trie from rows such as `0041..005A;1`. [`trie_of!`]
+//! makes the trie of what it writes.
+//!
 //! # Features
 //!
 //! All but `alloc` are off by default.
