@@ -79,7 +79,9 @@
 //! - `alloc`: what is built, or owns its data. Without it, static and borrowed data can be looked up
 //! - `serde`: sets, tries and unit tries to and from any format of serde, in the forms of
 //!   `icu_collections`: numbers and texts in formats that people read, such as JSON, and packed
-//!   bytes, which are borrowed, in others
+//!   bytes, which are borrowed, in others. A field of such a type needs `#[serde(borrow)]`, and its
+//!   struct a lifetime. Functions for `DeserializeOwned`, such as `serde_json::from_reader`, cannot
+//!   read it
 //! - `json`: sets, tries and unit tries to and from the values of `serde_json`. The forms are those
 //!   of `serde`, except that a trie has the number of each value, also if its values are signed or
 //!   characters
