@@ -28,8 +28,8 @@
 //! assert_eq!(trie.get_set_for_value(1).iter_chars().count(), 26);
 //! ```
 //!
-//! Values may also be of a type of your own, such as an enum of general categories:
-//! [`TrieValue`](codepointtrie::TrieValue) has an example.
+//! Values may also be of a type of your own. [`trie_values!`] declares an enum of them, such as one
+//! of general categories. Other types implement [`TrieValue`](codepointtrie::TrieValue).
 //!
 //! # Sets
 //!
