@@ -332,7 +332,6 @@ impl<'trie, T: ConstValue> CodePointTrie<'trie, T> {
 /// ```
 /// use bekstaudi::codepointtrie::CodePointTrie;
 ///
-/// #[allow(dead_code)] // The module has a look-up of its own.
 /// mod made {
 /// # /*
 ///     include!("table.rs");
