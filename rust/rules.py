@@ -207,6 +207,15 @@ EDITS = {
             1,
         ),
     ],
+    # The steps of a listing of a unit trie. rustc makes calls of them, which take longer than the
+    # steps; LLVM inlines them in the proved build.
+    "icu_char16trie/pending": [
+        (r"(?m)^(?= +fn enter_part)", "    #[inline(always)]\n", 1),
+        (r"(?m)^(?= +pub\(crate\) fn open_match)", "    #[inline(always)]\n", 1),
+    ],
+    "icu_char16trie/front": [
+        (r"(?m)^(?= +pub\(crate\) fn open_front)", "    #[inline(always)]\n", 1),
+    ],
     "icu_collections_c/cells": [
         (r"let start = i \* T::WIDTH;\n +", "", 1),
         (r"&bytes\[start\.\.start \+ T::WIDTH\]", "proved_cell(bytes, T::WIDTH, i)", 1),

@@ -97,8 +97,8 @@ impl<'a> Pending<'a> {
         Ok(())
     }
 
-    /// Moves to the first node of a part, and postpones the rest.
-    fn enter_part(&mut self, place: usize, count: usize) -> Result<(), AllocError>
+    /// Moves to the first node of a part, and postpones the rest. The recursion is at most 16 deep.
+    fn split_part(&mut self, place: usize, count: usize) -> Result<(), AllocError>
         requires { self.old.node ≡ None }
         ensures { OnOk result (Opens self.old place
             (ArmsHold (slice_values self.old.units) place count) self.new) }
@@ -118,7 +118,21 @@ impl<'a> Pending<'a> {
         };
         let half = count / 2;
         self.put_off(delta_end(place + 2, delta), count - half)?;
-        self.enter_part(low, half)?;
+        self.split_part(low, half)?;
+        Ok(())
+    }
+
+    /// Moves to the first node of a part, and postpones the rest. Most parts are rows.
+    fn enter_part(&mut self, place: usize, count: usize) -> Result<(), AllocError>
+        requires { self.old.node ≡ None }
+        ensures { OnOk result (Opens self.old place
+            (ArmsHold (slice_values self.old.units) place count) self.new) }
+    {
+        if count <= MAX_BRANCH_LINEAR_SUB_NODE_LENGTH {
+            self.enter_row(place, count)?;
+            return Ok(());
+        }
+        self.split_part(place, count)?;
         Ok(())
     }
 

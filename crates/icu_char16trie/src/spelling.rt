@@ -92,19 +92,32 @@ impl Spelling {
         Ok(())
     }
 
-    /// Appends a unit after a held lead surrogate.
+    /// Appends a unit after a held lead surrogate with which it is no pair.
+    #[cold]
     #[inline(never)]
+    fn push_apart(&mut self, lead: LeadSurrogate, unit: u16) -> Result<(), AllocError>
+        requires held { self.old.held ≡ Some lead }
+        requires apart { unit < 0xDC00 ⊎ 0xE000 ≤ unit }
+        ensures { OnOk result (SpellsOn self.old (unit ∷ []) self.new) }
+    {
+        self.held = None;
+        self.text.push(char::REPLACEMENT_CHARACTER)?;
+        self.push_next(unit)?;
+        Ok(())
+    }
+
+    /// Appends a unit after a held lead surrogate.
+    #[inline(always)]
     fn push_after(&mut self, lead: LeadSurrogate, unit: u16) -> Result<(), AllocError>
         requires { self.old.held ≡ Some lead }
         ensures { OnOk result (SpellsOn self.old (unit ∷ []) self.new) }
     {
-        self.held = None;
         if let Some(c) = pair_char(lead, unit) {
+            self.held = None;
             self.text.push(c)?;
             return Ok(());
         }
-        self.text.push(char::REPLACEMENT_CHARACTER)?;
-        self.push_next(unit)?;
+        self.push_apart(lead, unit)?;
         Ok(())
     }
 

@@ -1,6 +1,5 @@
 use Rattle.icu_zerovec.specs.Slice.{slice_values}
 use Rattle.std.proofs.Common.{sym, refl, ◌+◌, arith}
-use Rattle.icu_char16trie.specs.Numbers.{short_end}
 use Rattle.icu_char16trie.proofs.OpeningLemmas.{nothing_opens, gone_opens, row_opens, arms_here, arms_next, arms_child, last_stands}
 use Rattle.icu_char16trie.proofs.pending.Pending.enter_row.Goals as goal
 

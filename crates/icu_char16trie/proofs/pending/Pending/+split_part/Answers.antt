@@ -1,7 +1,7 @@
 use Rattle.icu_zerovec.specs.Slice.{slice_values}
 use Rattle.std.proofs.Common.{sym, arith}
 use Rattle.icu_char16trie.proofs.OpeningLemmas.{nothing_opens, split_opens, arms_here, arms_next, arms_low}
-use Rattle.icu_char16trie.proofs.pending.Pending.+enter_part.Goals as goal
+use Rattle.icu_char16trie.proofs.pending.Pending.+split_part.Goals as goal
 
 pub returns-in_default : goal.returns-in_default
 returns-in_default t c = nothing_opens c.args.self.now c.args.place _
@@ -25,4 +25,4 @@ returns t c =
     (omega arith) (sym c.in-Some.ensures.unit) (sym c.in-Some-unit_at.ensures.unit)
     (sym c.in-Some-lower_part.ensures.part) c.delta_end.ensures.end
     (omega (arith, c.in-Some-lower_part.ensures.above))
-    (omega (arith, c.delta_end.ensures.above)) c.in_ok-put_off.ensures c.in_ok-enter_part.ensures
+    (omega (arith, c.delta_end.ensures.above)) c.in_ok-put_off.ensures c.in_ok-split_part.ensures
