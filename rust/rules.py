@@ -198,12 +198,11 @@ EDITS = {
         (r"bytes\.split_at\(T::WIDTH\);", "bytes.split_at_checked(T::WIDTH)?;", 1),
         (r"(?=use crate::ule)", "use crate::support::cells::{cell, proved_cell};\n", 1),
     ],
-    # Each step of a search without a jump, as in std: rustc makes a jump of this `if`, which is
-    # mispredicted half of the time if code points come in no order.
-    "icu_invlist/codepointinvlist/cpinvlist/places": [
+    # Four bytes in one read with one check.
+    "icu_invlist/codepointinvlist/cpinvlist/packing": [
         (
-            r"if self\.end_at\(low \+ half\) <= c \{\n +low \+ half\n +\} else \{\n +low\n +\};",
-            "core::hint::select_unpredictable(self.end_at(low + half) <= c, low + half, low);",
+            r"u32::from_le_bytes\(\[\s*bytes\[start\],(?:\s*bytes\[start \+ \d\],){3}\s*\]\)",
+            "match bytes.get(start..start + 4) {\n        Some(&[a, b, c, d]) => u32::from_le_bytes([a, b, c, d]),\n        _ => unreachable!(),\n    }",
             1,
         ),
     ],
@@ -284,6 +283,14 @@ EDITS = {
             3,
         ),
         (r"(?m)^    (?=ends: ZeroVec<'data)", "    pub(crate) ", 1),
+        # All boundaries with one check of the vector's capacity.
+        (
+            r"(?s)let packed = self\.ends\.as_slice\(\);\n( +)let count = packed\.len\(\);\n +ends\.try_room\(count - from\)\?;\n +for i in from\.\.count \{.*?\n\1\}",
+            r"let cells = self.ends.as_bytes()[3 * from..].as_chunks::<3>().0;\n"
+            r"\1ends.try_room(cells.len())?;\n"
+            r"\1ends.extend(cells.iter().map(|cell| u32::from_le_bytes([cell[0], cell[1], cell[2], 0])));",
+            1,
+        ),
     ],
     # A constant cannot read a value of any type, so the error value is not stored beside the data.
     "icu_trie/cptrie": [

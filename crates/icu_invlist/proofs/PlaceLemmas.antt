@@ -1,12 +1,14 @@
 -- The index of a code point among the boundaries of a valid list.
 use Rattle.std.proofs.Common.{◌≡◌, ℕ, ◌+◌, ◌-◌, ◌%◌, ◌<◌, ◌≤◌, List, [], ◌∷◌, length, get_or, refl, sym, ◌∙◌, arith, suc, true, false, inl, inr}
-use Rattle.std.proofs.lemmas.Bool.{cases_eq, cases_lt, eq-eqb, ne_eqb, eqb-true, le-leb, le-ltb, lt-leb, lt-ltb}
+use Rattle.std.specs.Prelude.{IsTrue, ◌↔◌, nat_le}
+use Rattle.std.proofs.lemmas.Bool.{cases_eq, cases_lt, eq-eqb, ne_eqb, eqb-true, leb-true, le-leb, le-ltb, lt-leb, lt-ltb}
 use Rattle.icu_zerovec.specs.CodePoints.{code_point_limit}
 use Rattle.icu_invlist.specs.InversionList.{between, holds, IsValid, HoldsAll, IsSubset}
 use Rattle.icu_invlist.specs.Inside.Places.{Run, ends_below}
 use Rattle.icu_invlist.proofs.RunLemmas.{below_is, ends_below-le, ends_below-front, ends_below-more, ends_below-no, ends_below-stays, ends_below-yes, run-rises, run-back-least}
 use Rattle.icu_invlist.proofs.Parity.{holds-ends_below}
 use Rattle.icu_invlist.proofs.EqualSets.{holds-past}
+use Rattle.icu_invlist.proofs.Searches.{place_of_end}
 use Rattle.icu_invlist.proofs.ValidLists.{run_from_valid}
 
 pub least_at : (xs : List ℕ) (i m : ℕ) → IsValid xs → i ≡ ends_below xs m → i < length xs → m ≤ get_or xs i 0
@@ -46,6 +48,13 @@ place_front xs m c v h = elim (cases_lt m (ends_below xs (suc c))) [
   | inl k ↦ absurd (let f = ends_below-front 0 (suc code_point_limit) (suc c) xs (run_from_valid xs v) m k in omega arith)
   | inr k ↦ k
 ]
+
+-- A boundary is at most c if and only if it is before the index of c.
+pub up_to_end : (xs : List ℕ) (k c e : ℕ) → IsValid xs → k < length xs → e ≡ get_or xs k 0
+    → IsTrue (nat_le e c) ↔ (k < ends_below xs (suc c))
+up_to_end xs k c e v l h =
+    let p = place_of_end (suc code_point_limit) xs k (suc c) (run_from_valid xs v) l in
+    (λ t. p.0 (let a = leb-true _ _ t in omega arith), λ q. le-leb _ _ (let a = p.1 q in omega arith))
 
 pub all_below : (xs : List ℕ) (n c : ℕ) → Run 0 (suc code_point_limit) xs → n ≡ length xs → 0 < n → get_or xs (n - 1) 0 < c
     → n ≡ ends_below xs c

@@ -1,5 +1,5 @@
 -- How a search narrows the index of a number among boundaries.
-use Rattle.std.proofs.Common.{ℕ, ◌+◌, ◌-◌, ◌*◌, ◌<◌, ◌≤◌, List, length, get_or, arith, refl, Bool, true, false, inl, inr}
+use Rattle.std.proofs.Common.{◌≡◌, ℕ, ◌+◌, ◌-◌, ◌*◌, ◌<◌, ◌≤◌, List, length, get_or, arith, refl, Bool, true, false, inl, inr}
 use Rattle.std.specs.Prelude.{IsTrue, ◌↔◌}
 use mir.Val.{bool_byte}
 use Rattle.std.proofs.lemmas.Bool.{cases_lt, false≢true}
@@ -40,3 +40,15 @@ pub one_counted : (p low size : ℕ) (x : Bool) → 0 < size → low ≤ p → p
     → (low + bool_byte x ≤ p) × (p ≤ low + bool_byte x + (size - 1)) × (low + bool_byte x + (size - 1) ≤ low + size)
 one_counted p low size true s f t h = let k = h.0 refl in (omega arith, omega arith, omega arith)
 one_counted p low size false s f t h = let k : p ≤ low = told false low p h in (omega arith, omega arith, omega arith)
+
+-- The last two boundaries.
+pub two_counted : (p low : ℕ) (x y : Bool) → low ≤ p → p ≤ low + 2 → (IsTrue x ↔ (low < p)) → (IsTrue y ↔ (low + 1 < p))
+    → low + bool_byte x + bool_byte y ≡ p
+two_counted p low true true f t a b = let k = a.0 refl in let m = b.0 refl in omega arith
+two_counted p low true false f t a b = let k = a.0 refl in let m = told false (low + 1) p b in omega arith
+two_counted p low false true f t a b = let k : p ≤ low = told false low p a in let m = b.0 refl in absurd (omega arith)
+two_counted p low false false f t a b = let k : p ≤ low = told false low p a in omega arith
+
+pub byte_small : (x : Bool) → bool_byte x ≤ 1
+byte_small true = omega arith
+byte_small false = omega arith

@@ -5,7 +5,8 @@ use Rattle.icu_invlist.proofs.codepointinvlist.cpinvlist.CodePointInversionList.
 
 pub loop-low-init : goal.loop-low-init
 loop-low-init c = record {
-  from = c.requires;
+  first = c.requires.first;
+  from = c.requires.from;
   most = ends_below-le c.args.self.now (suc c.args.c);
   some = omega arith;
   small = omega arith;

@@ -4,6 +4,7 @@ use Rattle.icu_invlist.proofs.codepointinvlist.cpinvlist.CodePointInversionList.
 
 abbrev pub invariant-loop-low : goal.invariant-loop-low
 invariant-loop-low l = record {
+  first : 0 < l.low;
   from : l.low ≤ ends_below l.self (suc l.c);
   most : ends_below l.self (suc l.c) ≤ length l.self;
   some : 0 < l.size;
