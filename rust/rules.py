@@ -198,11 +198,11 @@ EDITS = {
         (r"bytes\.split_at\(T::WIDTH\);", "bytes.split_at_checked(T::WIDTH)?;", 1),
         (r"(?=use crate::ule)", "use crate::support::cells::{cell, proved_cell};\n", 1),
     ],
-    # Four bytes in one read with one check.
+    # Four bytes in one read: rustc splits the read of four bytes that are checked one by one.
     "icu_invlist/codepointinvlist/cpinvlist/packing": [
         (
             r"u32::from_le_bytes\(\[\s*bytes\[start\],(?:\s*bytes\[start \+ \d\],){3}\s*\]\)",
-            "match bytes.get(start..start + 4) {\n        Some(&[a, b, c, d]) => u32::from_le_bytes([a, b, c, d]),\n        _ => unreachable!(),\n    }",
+            "match bytes.get(start..start + 4).and_then(<[u8]>::first_chunk::<4>) {\n        Some(four) => u32::from_le_bytes(*four),\n        None => unreachable!(),\n    }",
             1,
         ),
     ],
