@@ -47,11 +47,15 @@ fn pack_into(out: &mut [u8], ends: &[u32])
     }
 }
 
-/// Returns the boundaries packed in three bytes each, lowest byte first.
+/// Returns the boundaries packed in three bytes each, lowest byte first. For no boundaries it
+/// allocates nothing.
 pub(super) fn pack(alloc: Global, ends: &[u32]) -> Result<Vec<u8>, MemoryError>
     requires { IsValid ends.now }
     ensures { IfOk result (λ v. v.items ≡ flat_map (low_bytes 3) ends.now) }
 {
+    if ends.is_empty() {
+        return Ok(Vec::new(alloc));
+    }
     let size = ends.len() * 3;
     let mut bytes = Vec::from_elem(alloc, 0, size + 1)?;
     pack_into(&mut bytes, ends);
