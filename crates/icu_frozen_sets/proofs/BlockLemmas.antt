@@ -1,15 +1,13 @@
--- Appending blocks to the tables.
-use Rattle.std.proofs.Common.{◌≡◌, ◌∙◌, ℕ, ◌+◌, ◌-◌, ◌*◌, ◌/◌, ◌%◌, ◌^◌, ◌<◌, ◌≤◌, List, length, get_or, set, refl, ap, sym, arith, zero-add, Bool, true, false, cond, inl, inr}
+-- Setting blocks of the tables.
+use Rattle.std.proofs.Common.{◌≡◌, ◌∙◌, ℕ, ◌+◌, ◌-◌, ◌/◌, ◌%◌, ◌^◌, ◌<◌, ◌≤◌, List, [], ◌∷◌, length, get_or, set, replicate, refl, ap, sym, arith, zero, suc, zero-add, Bool, true, false, cond, inl, inr}
 use Rattle.std.specs.Int.{bit_at}
-use lib.Bits.{bit_and}
 use Rattle.std.specs.Prelude.{nat_eq}
 use Rattle.std.proofs.lemmas.Bool.{cases_eq, cases_lt}
 use Rattle.std.proofs.lemmas.Grind.{get_or-set_at}
-use Rattle.std.proofs.lemmas.List.{length-set, get_or_default, get_or-set_other}
+use Rattle.std.proofs.lemmas.List.{length-set, length-replicate, get_or_default, get_or_past, get_or-replicate, get_or-set_other}
 use Rattle.std.proofs.lemmas.Nat.Bits.{bit_at_ones, bit_at-zero}
-use Rattle.icu_frozen_sets.proofs.BitLemmas.{bit_tested}
 use Rattle.icu_frozen_sets.specs.CodePointBits.{BitTables, has_bit, word_with}
-use Rattle.icu_frozen_sets.specs.Inside.Filling.{AreTables, AddsBlocks, block_bit}
+use Rattle.icu_frozen_sets.specs.Inside.Filling.{AreTables, IsFilling, SetsBlock, block_bit}
 
 -- ---- the bits of equal words
 pub bit_of_uniform : (value : Bool) (word k : ℕ) → word ≡ cond value (2 ^ 64 - 1) 0 → k < 64 → nat_eq (bit_at word k) 1 ≡ value
@@ -25,67 +23,102 @@ shared_place : (value : Bool) → cond value 4 0 ≤ 4
 shared_place true = omega arith
 shared_place false = omega arith
 
--- ---- empty and full blocks
-module _ (t : BitTables) (index : List ℕ) (count : ℕ) (value : Bool) (a : AreTables t)
-    (len : length index ≡ length t.index + count)
-    (kept : (k : ℕ) → k < length t.index → get_or index k 0 ≡ get_or t.index k 0)
-    (new : (k : ℕ) → length t.index ≤ k → k < length t.index + count → get_or index k 0 ≡ cond value 4 0) where
-  run_placed : (b : ℕ) → b < length index → get_or index b 0 + 4 ≤ length t.words
-  run_placed b h = elim (cases_lt b (length t.index)) [
-    | inl l ↦ (let k = kept b l in let p = a.placed b l in omega arith)
-    | inr l ↦ (let k = new b l (omega arith) in let p = shared_place value in let m = a.least in omega arith)
+-- ---- a block is set
+-- The block shares its words with all empty or all full blocks.
+module _ (t : BitTables) (index : List ℕ) (at place : ℕ) (value : Bool) (a : AreTables t) (there : at < length t.index)
+    (p : place ≡ cond value 4 0) (e : index ≡ set t.index at place) where
+  same_length : length index ≡ length t.index
+  same_length = ap length e ∙ length-set t.index at place
+
+  here : (b : ℕ) → b ≡ at → get_or index b 0 ≡ cond value 4 0
+  here b q = ap (λ (l : List ℕ). get_or l b 0) e ∙ (get_or-set_at t.index at b place 0 q there ∙ p)
+
+  elsewhere : (b : ℕ) → (b ≡ at → ⊥) → get_or index b 0 ≡ get_or t.index b 0
+  elsewhere b n = ap (λ (l : List ℕ). get_or l b 0) e ∙ get_or-set_other t.index at b place 0 n
+
+  shared_placed : (b : ℕ) → b < length index → get_or index b 0 + 4 ≤ length t.words
+  shared_placed b h = elim (cases_eq b at) [
+    | inl q ↦ (let k = here b q in let m = shared_place value in let l = a.least in omega arith)
+    | inr n ↦ (let k = elsewhere b n in let m = a.placed b (omega (arith, h, same_length)) in omega arith)
   ]
 
-  pub run_more : AddsBlocks t (record { index = index; words = t.words }) count (λ c. value)
-  run_more = record {
-    tables = record { least = a.least; most = (let m = a.most in omega arith); placed = run_placed; none = a.none; all = a.all };
-    more = len;
-    kept = λ c h. ap (λ (n : ℕ). nat_eq (bit_at (get_or t.words (n + c / 64 % 4) 0) (c % 64)) 1) (kept (c / 256) h);
-    added = λ c l h. ap (λ (n : ℕ). nat_eq (bit_at (get_or t.words (n + c / 64 % 4) 0) (c % 64)) 1) (new (c / 256) l h)
+  pub sets_shared : SetsBlock t (record { index = index; words = t.words }) at (λ c. value)
+  sets_shared = record {
+    tables = record {
+      least = a.least;
+      most = (let m = a.most in let n = same_length in omega arith);
+      placed = shared_placed;
+      none = a.none;
+      all = a.all;
+    };
+    blocks = same_length;
+    few = omega arith;
+    others = elsewhere;
+    kept = λ c n h. ap (λ (n : ℕ). nat_eq (bit_at (get_or t.words (n + c / 64 % 4) 0) (c % 64)) 1) (elsewhere (c / 256) n);
+    set = λ c q. ap (λ (n : ℕ). nat_eq (bit_at (get_or t.words (n + c / 64 % 4) 0) (c % 64)) 1) (here (c / 256) q)
         ∙ bit_of_uniform value _ (c % 64) (shared_word t value (c / 64 % 4) a (omega arith)) (omega arith);
   }
 
--- ---- a block of equal words
-pub uniform_block : (t new : BitTables) (block : List ℕ) (value : Bool) → AddsBlocks t new 1 (λ c. value)
-    → ((k : ℕ) → k < 4 → get_or block k 0 ≡ cond value (2 ^ 64 - 1) 0) → AddsBlocks t new 1 (block_bit block)
-uniform_block t new block value a all = record {
-  tables = a.tables;
-  more = a.more;
-  kept = a.kept;
-  added = λ c l h. a.added c l h ∙ sym (bit_of_uniform value _ (c % 64) (all (c / 64 % 4) (omega arith)) (omega arith));
+-- A block of equal words.
+pub uniform_block : (t new : BitTables) (block : List ℕ) (at : ℕ) (value : Bool) → SetsBlock t new at (λ c. value)
+    → ((k : ℕ) → k < 4 → get_or block k 0 ≡ cond value (2 ^ 64 - 1) 0) → SetsBlock t new at (block_bit block)
+uniform_block t new block at value s all = record {
+  tables = s.tables;
+  blocks = s.blocks;
+  few = s.few;
+  others = s.others;
+  kept = s.kept;
+  set = λ c q. s.set c q ∙ sym (bit_of_uniform value _ (c % 64) (all (c / 64 % 4) (omega arith)) (omega arith));
 }
 
--- ---- the bits of ASCII, which are in the first two words of the first block
-module _ (t : BitTables) (a : AreTables t) (some : 0 < length t.index) (first : ℕ) (f : first ≡ get_or t.index 0 first) where
-  placed_first : first ≡ get_or t.index 0 0
-  placed_first = f ∙ get_or_default t.index 0 first 0 some
+-- An empty block has no bit.
+pub empty_block : (t : BitTables) (c : ℕ) → AreTables t → get_or t.index (c / 256) 0 ≡ 0 → has_bit t c ≡ false
+empty_block t c a e = bit_of_uniform false _ (c % 64)
+    (ap (λ (n : ℕ). get_or t.words (n + c / 64 % 4) 0) e ∙ shared_word t false (c / 64 % 4) a (omega arith)) (omega arith)
 
-  -- Bit k of the word, which is one of these two.
-  pub ascii_bit : (word at part k : ℕ) → part < 2 → at ≡ first + part → word ≡ get_or t.words at word → k < 64
-      → nat_eq (bit_and (word / 2 ^ k) 1) 1 ≡ has_bit t (64 * part + k)
-  ascii_bit word at part k two q w h =
-      let c = 64 * part + k in
-      let p = a.placed 0 some in
-      let block : get_or t.index (c / 256) 0 ≡ first = ap (λ (b : ℕ). get_or t.index b 0) (omega arith) ∙ sym placed_first in
-      let place : at ≡ get_or t.index (c / 256) 0 + c / 64 % 4 = omega (arith, block, q) in
-      let same : word ≡ get_or t.words (get_or t.index (c / 256) 0 + c / 64 % 4) 0 =
-      w ∙ (get_or_default t.words at word 0 (omega (arith, p, placed_first, q)) ∙ ap (λ (n : ℕ). get_or t.words n 0) place) in
-      let bit : k ≡ c % 64 = omega arith in
-      bit_tested word k ∙ (ap (λ (n : ℕ). nat_eq (bit_at n k) 1) same
-      ∙ ap (λ (j : ℕ). nat_eq (bit_at (get_or t.words (get_or t.index (c / 256) 0 + c / 64 % 4) 0) j) 1) bit)
+-- ---- the tables without any block of their own
+-- The words of the empty block, and those of the full block.
+abbrev pub two_blocks : List ℕ
+two_blocks = 0 ∷ 0 ∷ 0 ∷ 0 ∷ (2 ^ 64 - 1) ∷ (2 ^ 64 - 1) ∷ (2 ^ 64 - 1) ∷ (2 ^ 64 - 1) ∷ []
 
--- Two entries are written.
-pub ascii_more : (ascii : List Bool) (bit : ℕ → Bool) (k : ℕ) (low high : Bool) → length ascii ≡ 128 → k < 64 → low ≡ bit k
-    → high ≡ bit (64 + k)
-    → ((c : ℕ) → c < 128 → c % 64 < k → get_or ascii c false ≡ bit c) → (c : ℕ) → c < 128 → c % 64 < k + 1
-    → get_or (set (set ascii k low) (64 + k) high) c false ≡ bit c
-ascii_more ascii bit k low high n h l e same c d m = elim (cases_eq c (64 + k)) [
-  | inl q ↦ get_or-set_at (set ascii k low) (64 + k) c high false q (omega (arith, length-set ascii k low, n)) ∙ (e ∙ ap bit (sym q))
-  | inr q ↦ get_or-set_other (set ascii k low) (64 + k) c high false q ∙ elim (cases_eq c k) [
-    | inl r ↦ get_or-set_at ascii k c low false r (omega (arith, n)) ∙ (l ∙ ap bit (sym r))
-    | inr r ↦ get_or-set_other ascii k c low false r ∙ same c d (omega arith)
-  ]
+first_four : (k : ℕ) → k < 4 → get_or two_blocks k 0 ≡ 0
+first_four zero h = refl
+first_four (suc zero) h = refl
+first_four (suc (suc zero)) h = refl
+first_four (suc (suc (suc zero))) h = refl
+first_four (suc (suc (suc (suc k)))) h = absurd (omega arith)
+
+last_four : (k : ℕ) → k < 4 → get_or two_blocks (4 + k) 0 ≡ 2 ^ 64 - 1
+last_four zero h = refl
+last_four (suc zero) h = refl
+last_four (suc (suc zero)) h = refl
+last_four (suc (suc (suc zero))) h = refl
+last_four (suc (suc (suc (suc k)))) h = absurd (omega arith)
+
+none_there : (index : List ℕ) → index ≡ replicate 4352 0 → (b : ℕ) → get_or index b 0 ≡ 0
+none_there index e b = ap (λ (l : List ℕ). get_or l b 0) e ∙ elim (cases_lt b 4352) [
+  | inl l ↦ get_or-replicate 4352 b 0 0 l
+  | inr l ↦ get_or_past (replicate 4352 0) b 0 (omega (arith, l, length-replicate {A = ℕ} 4352 0))
 ]
+
+pub empty_tables : (index words : List ℕ) → index ≡ replicate 4352 0 → words ≡ two_blocks
+    → IsFilling (record { index = index; words = words }) 0
+empty_tables index words e w =
+    let long : length index ≡ 4352 = ap length e ∙ length-replicate {A = ℕ} 4352 0 in
+    let eight : length words ≡ 8 = ap length w in
+    record {
+      tables = record {
+        least = omega arith;
+        most = omega arith;
+        placed = λ b h. (let n = none_there index e b in omega arith);
+        none = λ k h. ap (λ (l : List ℕ). get_or l k 0) w ∙ first_four k h;
+        all = λ k h. ap (λ (l : List ℕ). get_or l (4 + k) 0) w ∙ last_four k h;
+      };
+      blocks = long;
+      few = omega arith;
+      within = omega arith;
+      empty = λ b h. none_there index e b;
+    }
 
 -- ---- the words of the first code points
 -- One more word is copied.

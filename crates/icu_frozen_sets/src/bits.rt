@@ -1,7 +1,8 @@
 //! A bit for each code point, in two stages, so that each look-up takes two loads.
-ghost use Rattle.std.specs.Prelude.{◌≡◌, ℕ, ◌+◌, ◌*◌, ◌/◌, ◌<◌, ◌≤◌, ◌↔◌, [], Bool, false, length, slice_index, slice_index_or, IfOk, OnOk, IsTrue, if◌then◌else◌};
+ghost use Rattle.std.specs.Prelude.{◌≡◌, ℕ, ◌+◌, ◌*◌, ◌/◌, ◌<◌, ◌≤◌, ◌↔◌, ◌||◌, Bool, length, slice_index, IfOk, OnOk, IsTrue, if◌then◌else◌};
+ghost use Rattle.icu_invlist.specs.InversionList.{between};
 ghost use Rattle.icu_frozen_sets.specs.CodePointBits.{has_bit};
-ghost use Rattle.icu_frozen_sets.specs.Inside.Filling.{AddsBlocks, AreTables, IsUniform, bit_among, block_bit};
+ghost use Rattle.icu_frozen_sets.specs.Inside.Filling.{AreTables, IsFilling, IsUniform, SetsBlock, bit_among, block_bit};
 
 use icu_zerovec::{CODE_POINT_LIMIT, MemoryError};
 use std::alloc::Global;
@@ -58,15 +59,15 @@ fn is_all(block: &[u64; 4], word: u64) -> bool
 }
 
 impl CodePointBits {
-    /// Returns tables without any block, with capacity for the blocks of a set of `ranges` ranges.
+    /// Returns tables in which all blocks are empty, with capacity for the blocks of a set of
+    /// `ranges` ranges.
     ///
     /// # Errors
     /// Returns `MemoryError` if an allocation fails.
     pub(crate) fn new(alloc: Global, ranges: usize) -> Result<CodePointBits, MemoryError>
-        ensures tables { IfOk result (λ b. AreTables b) }
-        ensures none { IfOk result (λ b. b.index ≡ []) }
+        ensures { IfOk result (λ b. IsFilling b 0) }
     {
-        let index = Vec::with_capacity(alloc, BLOCKS as usize)?;
+        let index = Vec::from_elem(alloc, EMPTY_BLOCK, BLOCKS as usize)?;
         let room = TWO_BLOCKS.len() + 4 * ranges.min(ROOM);
         let mut words = Vec::with_capacity(alloc, room)?;
         words.extend_from_slice(&TWO_BLOCKS)?;
@@ -111,22 +112,6 @@ impl CodePointBits {
         (bits >> place) & 1 == 1
     }
 
-    /// Returns the bits of the ASCII characters. The first block must be in the tables.
-    pub(crate) fn ascii(&self) -> [bool; 128]
-        requires tables { AreTables self.now }
-        requires there { 0 < length self.now.index }
-        ensures { (c : ℕ) → c < 128 → slice_index_or result c false ≡ has_bit self.now c }
-    {
-        let first = self.index[0] as usize;
-        let (low, high) = (self.words[first], self.words[first + 1]);
-        let mut ascii = [false; 128];
-        for k in 0..64 {
-            ascii[k] = (low >> k) & 1 == 1;
-            ascii[64 + k] = (high >> k) & 1 == 1;
-        }
-        ascii
-    }
-
     /// Returns the bits of the first 2,048 code points, 64 in each word. Their blocks must be in
     /// the tables.
     pub(crate) fn first_words(&self) -> [u64; 32]
@@ -142,51 +127,70 @@ impl CodePointBits {
         words
     }
 
-    /// Appends `count` blocks, all full if `value` is true and all empty otherwise.
-    ///
-    /// # Errors
-    /// Returns `MemoryError` if an allocation fails.
-    pub(crate) fn push_run(&mut self, count: usize, value: bool) -> Result<(), MemoryError>
+    /// Makes block `at` full if `value` is true, and empty otherwise.
+    #[inline(always)]
+    fn set_shared(&mut self, at: usize, value: bool)
         requires tables { AreTables self.old }
-        requires room { length self.old.index + count < 0x10000 }
-        ensures adds { OnOk result (AddsBlocks self.old self.new count (λ c. value)) }
-        ensures shared { OnOk result (self.new.words ≡ self.old.words) }
+        requires there { at < length self.old.index }
+        ensures sets { SetsBlock self.old self.new at (λ c. value) }
+        ensures shared { self.new.words ≡ self.old.words }
     {
-        self.index
-            .resize(self.index.len() + count, shared_place(value))?;
-        Ok(())
+        self.index[at] = shared_place(value);
     }
 
-    /// Appends a block with four words of its own.
-    fn push_own(&mut self, block: &[u64; 4]) -> Result<(), MemoryError>
+    /// Gives block `at` four words of its own.
+    fn set_own(&mut self, at: usize, block: &[u64; 4]) -> Result<(), MemoryError>
         requires tables { AreTables self.old }
-        requires room { length self.old.index < BLOCKS }
-        ensures { OnOk result (AddsBlocks self.old self.new 1 (block_bit block.now)) }
+        requires there { at < length self.old.index }
+        requires within { at < BLOCKS }
+        requires room { length self.old.words ≤ 8 + 4 * at }
+        ensures { OnOk result (SetsBlock self.old self.new at (block_bit block.now)) }
     {
-        self.index.push(self.words.len() as u16)?;
+        self.index[at] = self.words.len() as u16;
         self.words.extend_from_slice(block)?;
         Ok(())
     }
 
-    /// Appends a block with these words. An empty or full block shares its words with the others of
-    /// its kind.
+    /// Sets the words of block `at`. An empty or full block shares its words with the others of its
+    /// kind.
     ///
     /// # Errors
-    /// Returns `MemoryError` if an allocation fails.
-    pub(crate) fn push_block(&mut self, block: &[u64; 4]) -> Result<(), MemoryError>
+    /// Returns `MemoryError` if an allocation fails. The tables must not be used after that.
+    pub(crate) fn set_block(&mut self, at: usize, block: &[u64; 4]) -> Result<(), MemoryError>
         requires tables { AreTables self.old }
-        requires room { length self.old.index < BLOCKS }
-        ensures adds { OnOk result (AddsBlocks self.old self.new 1 (block_bit block.now)) }
+        requires there { at < length self.old.index }
+        requires within { at < BLOCKS }
+        requires room { length self.old.words ≤ 8 + 4 * at }
+        ensures sets { OnOk result (SetsBlock self.old self.new at (block_bit block.now)) }
         ensures shared { OnOk result ((value : Bool) → IsUniform block.now value
             → self.new.words ≡ self.old.words) }
     {
         if is_all(block, 0) {
-            return self.push_run(1, false);
+            self.set_shared(at, false);
+            return Ok(());
         }
         if is_all(block, u64::MAX) {
-            return self.push_run(1, true);
+            self.set_shared(at, true);
+            return Ok(());
         }
-        self.push_own(block)
+        self.set_own(at, block)
+    }
+
+    /// Makes the blocks from `from` to before `to` full.
+    pub(crate) fn fill_blocks(&mut self, from: usize, to: usize)
+        requires tables { AreTables self.old }
+        requires there { to ≤ length self.old.index }
+        ensures tables { AreTables self.new }
+        ensures blocks { length self.new.index ≡ length self.old.index }
+        ensures shared { self.new.words ≡ self.old.words }
+        ensures others { (b : ℕ) → to ≤ b
+            → slice_index self.new.index b ≡ slice_index self.old.index b }
+        ensures bits { (c : ℕ) → c / 256 < length self.old.index
+            → has_bit self.new c ≡ (has_bit self.old c || between from to (c / 256)) }
+    {
+        for at in from..to {
+            self.set_shared(at, true);
+        }
     }
 
     /// Returns a copy.

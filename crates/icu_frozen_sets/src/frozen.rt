@@ -12,6 +12,7 @@ ghost use Rattle.icu_frozen_sets.specs.CodePointBits.{AreTablesOf};
 ghost use Rattle.icu_frozen_sets.specs.Inside.Characters.{IsAsked};
 ghost use Rattle.icu_frozen_sets.specs.Inside.Filling.{filled};
 
+use crate::ascii::ascii_of;
 use crate::bits::CodePointBits;
 use crate::filling::Filling;
 use icu_invlist::codepointinvlist::CodePointInversionList;
@@ -84,14 +85,12 @@ impl FrozenCodePointSet {
         let ranges = set.iter_ranges();
         let mut filling = Filling::new(alloc, ranges.len())?;
         for range in ranges {
-            filling.fill_to(*range.start(), false)?;
-            filling.fill_to(*range.end() + 1, true)?;
+            filling.add(*range.start(), *range.end() + 1)?;
         }
-        filling.fill_to(CODE_POINT_LIMIT, false)?;
-        let bits = filling.finish();
+        let bits = filling.finish()?;
         Ok(FrozenCodePointSet {
             set: set.try_clone(alloc)?,
-            ascii: bits.ascii(),
+            ascii: ascii_of(set),
             two_bytes: bits.first_words(),
             bits,
         })

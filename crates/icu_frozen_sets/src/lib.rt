@@ -7,10 +7,12 @@
 //! - `bytes`: spans of bytes that may not be valid UTF-8
 //! - `text_sets`: [`FrozenCodePointSetAndStrings`](text_sets::FrozenCodePointSetAndStrings), a
 //!   frozen set with strings
+//! - `ascii`: which ASCII characters a set contains
 //! - `filling`: filling the bits of a set, range by range
 //! - `bits`: a bit for each code point, in two stages
 #![tactic(auto)]
 
+mod ascii;
 mod bits;
 mod bytes;
 mod filling;

@@ -1,9 +1,8 @@
--- Tables during filling, from the first code point on: the tables have the complete blocks, and the
--- words of the current block are separate.
-use Rattle.std.specs.Prelude.{ℕ, ◌+◌, ◌-◌, ◌*◌, ◌/◌, ◌%◌, ◌^◌, ◌<◌, ◌≤◌, ◌≡◌, List, length, slice_index, slice_index_or, Bool, false, nat_lt, ◌==◌, ◌&&◌, ◌||◌, if◌then◌else◌}
+-- Tables during filling, from the first code point on: the words of the current block are separate.
+use Rattle.std.specs.Prelude.{ℕ, ◌+◌, ◌-◌, ◌*◌, ◌/◌, ◌%◌, ◌^◌, ◌<◌, ◌≤◌, ◌≡◌, ◌≢◌, List, length, slice_index, slice_index_or, Bool, false, ◌==◌, if◌then◌else◌}
 use Rattle.std.specs.Int.{bit_at}
 use Rattle.icu_zerovec.specs.CodePoints.{code_point_limit}
-use Rattle.icu_invlist.specs.InversionList.{IsValid, between, holds}
+use Rattle.icu_invlist.specs.InversionList.{IsValid, holds}
 use Rattle.icu_frozen_sets.specs.CodePointBits.{BitTables, has_bit}
 
 -- Whether the bit of c is 1 in the words of its block.
@@ -28,36 +27,26 @@ pub record AreTables (t : BitTables) : Type 0 where
   pub none : (k : ℕ) → k < 4 → slice_index t.words k ≡ 0
   pub all : (k : ℕ) → k < 4 → slice_index t.words (4 + k) ≡ 2 ^ 64 - 1
 
--- The new tables have `count` more blocks with these bits. Nothing else changes.
-pub record AddsBlocks (old new : BitTables) (count : ℕ) (bits : ℕ → Bool) : Type 0 where
+-- In the new tables, block `at` has these bits. Nothing else changes.
+pub record SetsBlock (old new : BitTables) (at : ℕ) (bits : ℕ → Bool) : Type 0 where
   pub tables : AreTables new
-  pub more : length new.index ≡ length old.index + count
-  pub kept : (c : ℕ) → c / 256 < length old.index → has_bit new c ≡ has_bit old c
-  pub added : (c : ℕ) → length old.index ≤ c / 256 → c / 256 < length old.index + count
-      → has_bit new c ≡ bits c
+  pub blocks : length new.index ≡ length old.index
+  pub few : length new.words ≤ length old.words + 4
+  pub others : (b : ℕ) → b ≢ at → slice_index new.index b ≡ slice_index old.index b
+  pub kept : (c : ℕ) → c / 256 ≢ at → c / 256 < length old.index → has_bit new c ≡ has_bit old c
+  pub set : (c : ℕ) → c / 256 ≡ at → has_bit new c ≡ bits c
 
--- The code points below `reached` are filled. In the current block, the bits from `reached` on are
--- 0.
-pub record IsFilling (t : BitTables) (block : List ℕ) (reached : ℕ) : Type 0 where
+-- The tables have the blocks below `at`. All others are empty.
+pub record IsFilling (t : BitTables) (at : ℕ) : Type 0 where
   pub tables : AreTables t
-  pub from : length t.index * 256 ≤ reached
-  pub to : reached ≤ length t.index * 256 + 256
-  pub within : reached ≤ code_point_limit
-  pub ahead : (c : ℕ) → reached ≤ c → c / 256 ≡ length t.index → block_bit block c ≡ false
+  pub blocks : length t.index ≡ 4352
+  pub few : length t.words ≤ 8 + 4 * at
+  pub within : at ≤ 4352
+  pub empty : (b : ℕ) → at ≤ b → slice_index t.index b ≡ 0
 
--- Whether c is filled and its bit is 1.
+-- The bit of c, where block `at` has these words.
 unfoldable pub filled : BitTables → List ℕ → ℕ → ℕ → Bool
-filled t block reached c =
-    nat_lt c reached
-    && (if nat_lt (c / 256) (length t.index) then has_bit t c else block_bit block c)
-
--- The code points from `reached` to before `end` are now filled with the bit `value`, and those
--- before are unchanged.
-pub record Fills (t : BitTables) (block : List ℕ) (reached : ℕ) (new_t : BitTables)
-    (new_block : List ℕ) (end : ℕ) (value : Bool) : Type 0 where
-  pub filling : IsFilling new_t new_block end
-  pub bits : (c : ℕ) → filled new_t new_block end c
-      ≡ (filled t block reached c || (value && between reached end c))
+filled t block at c = if c / 256 == at then block_bit block c else has_bit t c
 
 -- The tables have a bit for each code point, which is 1 if and only if the set contains it. `ascii`
 -- and `two_bytes` repeat the bits of ASCII and of the code points below 0x800.
