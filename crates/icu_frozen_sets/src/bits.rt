@@ -139,6 +139,7 @@ impl CodePointBits {
     }
 
     /// Gives block `at` four words of its own.
+    #[inline(always)]
     fn set_own(&mut self, at: usize, block: &[u64; 4]) -> Result<(), MemoryError>
         requires tables { AreTables self.old }
         requires there { at < length self.old.index }
@@ -156,6 +157,7 @@ impl CodePointBits {
     ///
     /// # Errors
     /// Returns `MemoryError` if an allocation fails. The tables must not be used after that.
+    #[inline(always)]
     pub(crate) fn set_block(&mut self, at: usize, block: &[u64; 4]) -> Result<(), MemoryError>
         requires tables { AreTables self.old }
         requires there { at < length self.old.index }

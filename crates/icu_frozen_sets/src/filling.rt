@@ -88,6 +88,9 @@ impl Filling {
     }
 
     /// Adds the range `start..end`, which starts in the current block and ends in a later one.
+    ///
+    /// This is not inlined: few ranges are such, and the loop over all ranges is faster without it.
+    #[inline(never)]
     fn add_far(&mut self, start: u32, end: u32) -> Result<(), MemoryError>
         requires filling { IsFilling self.old.bits self.old.at }
         requires here { self.old.at ≡ start / 256 }
