@@ -220,7 +220,7 @@ module _ (trie_type : TrieType) (high : ℕ) (numbers stored values fast small :
     (f : IsCopied 64 0 (block 64 numbers) stored fast) (fast_size : length fast ≡ fast_limit trie_type / 64)
     (s : IsCopied 16 (fast_limit trie_type / 16) (block 16 numbers) stored small)
     (small_size : length small ≡ (high - fast_limit trie_type) / 16)
-    (kept : take (length stored) values ≡ stored) (ends : high_value values ≡ Some (get_or numbers 0x10ffff 0)) where
+    (kept : take (length stored) values ≡ stored) (ends : high < 0x110000 → high_value values ≡ Some (get_or numbers 0x10ffff 0)) where
   kept-values : (i : ℕ) → i < length stored → get_or values i 0 ≡ get_or stored i 0
   kept-values i l = sym (get_or-take (length stored) values i 0 l) ∙ ap (λ xs. get_or xs i 0) kept
 
@@ -332,7 +332,7 @@ module _ (trie_type : TrieType) (high : ℕ) (numbers stored values fast small :
           on_small = λ c from below. read-small (c / 16 - fast_limit trie_type / 16) (c % 16)
               (omega (arith, small_size, from, below, t.1, aligned)) (omega arith)
               ∙ ap (λ n. Some (get_or numbers n 0)) (omega (arith, from, t.1));
-          on_high = λ c from below. ends ∙ ap (λ x. Some x) (sym (tail c from below));
+          on_high = λ c from below. ends (omega (arith, from, below)) ∙ ap (λ x. Some x) (sym (tail c from below));
           shared_fast = λ b d ab ad lb ld same. fast_same b d ab ad (omega (arith, fast_size, lb)) (omega (arith, fast_size, ld))
               (same-block numbers 64 b d (omega (arith, lb, t.2, all)) (omega (arith, ld, t.2, all)) same);
           shared_small = λ b d fb fd lb ld same. small_same (b - fast_limit trie_type / 16) (d - fast_limit trie_type / 16)

@@ -17,6 +17,7 @@ use crate::null_block::{NullBlock, place_null};
 use icu_trie::header::TrieType;
 use icu_trie_compaction::cell_store::CellStore;
 use icu_trie_map::number_map::NumberMap;
+use icu_zerovec::CODE_POINT_LIMIT;
 use std::alloc::{AllocError, Global};
 
 /// The data offset that stands for "no null block". No block can have it.
@@ -84,6 +85,41 @@ fn push_end(values: &mut Vec<u32>, high: u32, error: u32) -> Result<(), AllocErr
     Ok(())
 }
 
+/// Returns the high value, which is the number of the last code point. If the high start is
+/// 0x110000, no look-up reads the high value, and it is a cell that the data already has.
+fn high_for(values: &[u32], high_start: usize, last: u32, error: u32) -> u32
+    requires { 2 ≤ length values.now }
+    ensures high { high_start < code_point_limit → result ≡ last }
+    ensures drawn { (p : ℕ → Bool) → AllPass p values.now → p last ≡ true → p result ≡ true }
+{
+    let len = values.len();
+    if high_start < CODE_POINT_LIMIT as usize {
+        last
+    } else if values[len - 1] == error {
+        values[len - 2]
+    } else {
+        values[len - 1]
+    }
+}
+
+/// Appends the high value and the error value to the data, as far as they are not already its last
+/// cells. `last` is the number of the last code point.
+fn finish(values: &mut Vec<u32>, high_start: usize, last: u32, error: u32) -> Result<(), AllocError>
+    requires { 2 ≤ length values.old.items }
+    ensures kept { OnOk result (take (length values.old.items) values.new.items
+        ≡ values.old.items) }
+    ensures short { OnOk result (length values.new.items ≤ length values.old.items + 2) }
+    ensures high { OnOk result (high_start < code_point_limit
+        → high_value values.new.items ≡ Some last) }
+    ensures error { OnOk result (last_cell values.new.items ≡ Some error) }
+    ensures drawn { OnOk result ((p : ℕ → Bool) → AllPass p values.old.items → p last ≡ true
+        → p error ≡ true → AllPass p values.new.items) }
+{
+    let high = high_for(values, high_start, last, error);
+    push_end(values, high, error)?;
+    Ok(())
+}
+
 /// Returns the null block. If there is none, the result has an offset that no block has.
 fn null_or(null: Option<NullBlock>, default: u32) -> NullBlock
     ensures { MatchOption null
@@ -148,7 +184,7 @@ pub(crate) fn place_data(
     let mut small = blocks.place(alloc, &mut store, limit / SMALL_BLOCK, small_len)?;
     let mut values = store.into_cells();
     let null = place_null(alloc, &mut values, &fast, &mut small, MAX_DATA_OFFSET)?;
-    push_end(&mut values, numbers.last(), error)?;
+    finish(&mut values, high_start, numbers.last(), error)?;
     Ok(PlacedData {
         values,
         fast,

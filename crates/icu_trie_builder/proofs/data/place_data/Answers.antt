@@ -128,8 +128,8 @@ returns-in_err-null-clause-too_large c = λ e.
     let large = c.in_err-null.ensures.too_large (ap (λ x. Err x) is) in
     inr (omega (arith, large, held, two, one, small_blocks-all t numbers c.requires.all c.args.high_start c.requires.within))
 
-pub push_end-requires : goal.push_end-requires
-push_end-requires c =
+pub finish-requires : goal.finish-requires
+finish-requires c =
     let first = c.new-store.result in
     let one = c.place.new.store in
     let two = c.place-2.new.store in
@@ -248,8 +248,8 @@ returns-clause-placed c =
     let high = c.args.high_start in
     let value : ℕ = c.null_or.result.value in
     let offset : ℕ = c.null_or.result.offset in
-    let values = c.push_end.new.values.items in
-    let end = c.in_ok-push_end.ensures in
+    let values = c.finish.new.values.items in
+    let end = c.in_ok-finish.ensures in
     let m = moved c in
     let whole = is_data t high (numbers c) (three c) values (fast c)
     (small c) c.requires.all c.requires.aligned c.requires.within c.requires.high
@@ -257,7 +257,7 @@ returns-clause-placed c =
     (list c))
     (small_three t high (numbers c) (first c) (one c) (two c) (three c) (rest c) (fast c) (old c) (small c) c.requires.all (begin c)
     (placed-fast c) (rest_len c) (list c) (placed-small c) (old_len c) c.in_ok-null.ensures.kept m)
-    (m.count ∙ old_len c) end.kept (end.high ∙ ap (λ x. Some x) c.last.ensures)
+    (m.count ∙ old_len c) end.kept (λ below. end.high below ∙ ap (λ x. Some x) c.last.ensures)
     offset value (null_is c) (low c) (small_low c)
     (fast_shared t high (numbers c) (first c) (one c) (two c) (three c) (rest c) (fast c) (old c) (small c) c.requires.all (begin c)
     (placed-fast c) (rest_len c) (list c) (placed-small c) (old_len c) c.in_ok-null.ensures.kept m)
@@ -311,10 +311,10 @@ returns-clause-short c =
       c.in_ok-null.ensures.short,
       lone_blocks-list t (numbers c) all c.args.high_start c.requires.within,
       fast_blocks-list t (numbers c) all,
-      c.in_ok-push_end.ensures.short,
+      c.in_ok-finish.ensures.short,
     )
 
 pub returns-clause-drawn : goal.returns-clause-drawn
 returns-clause-drawn c = λ test pass end.
-    c.in_ok-push_end.ensures.drawn test (drawn_null c test pass)
+    c.in_ok-finish.ensures.drawn test (drawn_null c test pass)
     (ap test c.last.ensures ∙ pass 0x10ffff 0 (omega (arith, c.requires.all))) end
