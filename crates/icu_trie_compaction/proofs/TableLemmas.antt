@@ -258,9 +258,9 @@ table-append cells ys t l =
     }
 
 -- The bucket of some cells, by their hash.
-pub bucket-is : (n i hash : ℕ) (xs : List ℕ) → i ≡ hash * n / 4294967296 → hash ≡ cells_hash xs → i ≡ bucket n xs
+pub bucket-is : (n i hash : ℕ) (xs : List ℕ) → i ≡ hash / 4294967296 * n / 4294967296 → hash ≡ cells_hash xs → i ≡ bucket n xs
 unfolding bucket
-bucket-is n i hash xs e h = e ∙ ap (λ x. x * n / 4294967296) h
+bucket-is n i hash xs e h = e ∙ ap (λ x. x / 4294967296 * n / 4294967296) h
 
 -- A part of a slice is a window.
 pub part-window : (k at : ℕ) (xs : List ℕ) → take (at + k - at) (drop at xs) ≡ window k at xs

@@ -2,30 +2,38 @@
 //! one, in constant time for any length.
 ghost use Rattle.std.specs.Prelude.{◌≡◌, ℕ, ◌+◌, ◌*◌, ◌%◌, ◌^◌, ◌<◌, ◌≤◌, length};
 ghost use Rattle.icu_trie_core.specs.Blocks.{window};
-ghost use Rattle.icu_trie_compaction.specs.Hashes.{cells_hash, leaving_factor};
+ghost use Rattle.icu_trie_compaction.specs.Hashes.{cells_hash, leaving_factor, share};
 
-/// The base of the hash: an odd number near 2^32 divided by the golden ratio.
-const FACTOR: u32 = 0x9e37_79b1;
+/// The base of the hash: an odd number near 2^64 divided by the golden ratio.
+const FACTOR: u64 = 0x9e37_79b9_7f4a_7c15;
+
+/// Returns the share of a cell in a hash: its square.
+#[tactic(auto, unfolding(crate::specs::Hashes::share))]
+fn share_of(cell: u32) -> u64
+    ensures { result ≡ share cell }
+{
+    u64::from(cell).wrapping_mul(u64::from(cell))
+}
 
 /// Returns the hash of some cells.
 #[tactic(auto, unfolding(crate::specs::Hashes::cells_hash))]
-pub(crate) fn hash_of(cells: &[u32]) -> u32
+pub(crate) fn hash_of(cells: &[u32]) -> u64
     ensures { result ≡ cells_hash cells.now }
 {
-    let mut hash = 0u32;
+    let mut hash = 0u64;
     for cell in cells {
-        hash = hash.wrapping_add(*cell).wrapping_mul(FACTOR);
+        hash = hash.wrapping_add(share_of(*cell)).wrapping_mul(FACTOR);
     }
     hash
 }
 
-/// Returns the factor for a cell that leaves a window of `size` cells: adding the cell times this
-/// factor removes the cell from the hash.
+/// Returns the factor for a cell that leaves a window of `size` cells: adding the cell's share
+/// times this factor removes the cell from the hash.
 #[tactic(auto, unfolding(crate::specs::Hashes::leaving_factor))]
-pub(crate) fn leaving_factor_of(size: usize) -> u32
+pub(crate) fn leaving_factor_of(size: usize) -> u64
     ensures { result ≡ leaving_factor size }
 {
-    let mut factor = u32::MAX;
+    let mut factor = u64::MAX;
     for _ in 0..size {
         factor = factor.wrapping_mul(FACTOR);
     }
@@ -34,7 +42,7 @@ pub(crate) fn leaving_factor_of(size: usize) -> u32
 
 /// Returns the hash of the window after the one at `at`, given the hash of that one. If there is no
 /// further window, returns `hash` unchanged.
-pub(crate) fn hash_after(cells: &[u32], at: usize, size: usize, leaving: u32, hash: u32) -> u32
+pub(crate) fn hash_after(cells: &[u32], at: usize, size: usize, leaving: u64, hash: u64) -> u64
     requires inside { at + size ≤ length cells.now }
     requires some { 0 < size }
     requires factor { leaving ≡ leaving_factor size }
@@ -44,6 +52,7 @@ pub(crate) fn hash_after(cells: &[u32], at: usize, size: usize, leaving: u32, ha
     if at + size >= cells.len() {
         return hash;
     }
-    let kept = hash.wrapping_add(cells[at].wrapping_mul(leaving));
-    kept.wrapping_add(cells[at + size]).wrapping_mul(FACTOR)
+    let kept = hash.wrapping_add(share_of(cells[at]).wrapping_mul(leaving));
+    kept.wrapping_add(share_of(cells[at + size]))
+        .wrapping_mul(FACTOR)
 }

@@ -20,7 +20,7 @@ pub(crate) struct WindowTable {
     /// The number of cells in a window.
     size: usize,
     /// The factor for a cell that leaves a window.
-    leaving: u32,
+    leaving: u64,
     /// The table has the windows that start before this position.
     entered: usize,
     /// For each distinct window, the first position at which it occurs.
@@ -77,18 +77,18 @@ impl WindowTable {
     }
 
     /// Returns the bucket of windows with this hash.
-    fn bucket_of(&self, hash: u32) -> usize
+    fn bucket_of(&self, hash: u64) -> usize
         requires some { 0 < length self.now.heads.items }
         requires few { length self.now.heads.items ≤ 2 ^ 24 }
-        ensures value { result ≡ hash * length self.now.heads.items / 2 ^ 32 }
+        ensures value { result ≡ hash / 2 ^ 32 * length self.now.heads.items / 2 ^ 32 }
         ensures below { result < length self.now.heads.items }
     {
-        (u64::from(hash) * self.heads.len() as u64 / 0x1_0000_0000) as usize
+        (hash / 0x1_0000_0000 * self.heads.len() as u64 / 0x1_0000_0000) as usize
     }
 
     /// Returns the first position at which `wanted` occurs in `cells`, or `None` if the table has
     /// no such window. `hash` is the hash of `wanted`.
-    pub(crate) fn find(&self, cells: &[u32], wanted: &[u32], hash: u32) -> Option<usize>
+    pub(crate) fn find(&self, cells: &[u32], wanted: &[u32], hash: u64) -> Option<usize>
         requires size { length wanted.now ≡ self.now.size }
         requires hash { hash ≡ cells_hash wanted.now }
         requires table { IsTable cells.now self.now }
@@ -109,7 +109,7 @@ impl WindowTable {
     }
 
     /// Adds the next window, whose hash this is, unless the table has an equal one.
-    fn enter(&mut self, cells: &[u32], hash: u32) -> Result<(), AllocError>
+    fn enter(&mut self, cells: &[u32], hash: u64) -> Result<(), AllocError>
         requires inside { self.old.entered + self.old.size ≤ length cells.now }
         requires room { length cells.now < 2 ^ 31 }
         requires hash { hash ≡ cells_hash (window self.old.size self.old.entered cells.now) }

@@ -54,8 +54,8 @@ impl NumberMap {
         }
     }
 
-    /// Sets the number of each code point in `start..end`. If these are all code points, it allocates
-    /// nothing, and the map stores a single number again.
+    /// Sets the number of each code point in `start..end`. If these are all code points, it
+    /// allocates nothing, and the map stores a single number again.
     ///
     /// # Errors
     /// Returns `AllocError` if an allocation fails. The map is then unchanged.

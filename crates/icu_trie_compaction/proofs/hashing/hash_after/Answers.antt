@@ -1,7 +1,7 @@
 use Rattle.std.proofs.Common.{◌≡◌, ◌+◌, ◌-◌, ◌*◌, ◌%◌, ℕ, suc, get_or, arith, subst}
 use Rattle.icu_trie_core.specs.Blocks.{window}
-use Rattle.icu_trie_compaction.specs.Hashes.{cells_hash, leaving_factor}
-use Rattle.icu_trie_compaction.proofs.HashLemmas.{hash-roll}
+use Rattle.icu_trie_compaction.specs.Hashes.{cells_hash, leaving_factor, share}
+use Rattle.icu_trie_compaction.proofs.HashLemmas.{hash-roll, base, modulus}
 use Rattle.icu_trie_compaction.proofs.hashing.hash_after.Goals as goal
 
 pub returns : goal.returns
@@ -12,6 +12,7 @@ returns c = λ below.
     let is : suc n ≡ c.args.size = omega arith in
     let P : ℕ → Type 0 =
     λ k.
-    (((cells_hash (window k at cells) + (get_or cells at 0 * leaving_factor k) % 4294967296) % 4294967296 + get_or cells (at + k) 0) %
-    4294967296 * 0x9e3779b1) % 4294967296 ≡ cells_hash (window k (at + 1) cells) in
-    rw (c.requires.hash, c.requires.factor) (subst P is (hash-roll n at cells (omega (arith, below))))
+    (((cells_hash (window k at cells) + (share (get_or cells at 0) * leaving_factor k) % modulus) % modulus
+    + share (get_or cells (at + k) 0)) % modulus * base) % modulus ≡ cells_hash (window k (at + 1) cells) in
+    rw (c.share_of.ensures, c.share_of-2.ensures, c.requires.hash, c.requires.factor)
+    (subst P is (hash-roll n at cells (omega (arith, below))))
