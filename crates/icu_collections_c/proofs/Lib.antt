@@ -13,6 +13,7 @@ mod RangeLemmas
 mod RunLemmas
 mod SetLemmas
 mod KindLemmas
+mod ShortLemmas
 mod SpanLemmas
 mod SetMakingLemmas
 mod SetPlaceLemmas

@@ -9,4 +9,5 @@ pub mod Operations
 pub mod PackedPlaces
 pub mod Pages
 pub mod SetPlaces
+pub mod ShortCharacters
 pub mod TextCells

@@ -17,6 +17,7 @@
 //! - `set_queries`: subsets, and the code points of a set by their index
 //! - `frozen`: frozen sets in words, and look-ups in them
 //! - `spans`: the spans of a text; `kinds`: what they test characters for
+//! - `short_characters`: tests characters of one and two bytes for them
 //! - `unit_tries`: look-ups in unit tries; `units`: helpers of them
 //! - `unit_texts`: unit tries whose keys are texts in UTF-8; `unit_keys`: transcodes them
 //! - `unit_prefixes`: the keys that are prefixes of a text
@@ -42,6 +43,7 @@ pub mod set_building;
 pub mod set_operations;
 pub mod set_queries;
 pub mod sets;
+mod short_characters;
 pub mod spans;
 pub mod status;
 pub mod texts;

@@ -1,10 +1,10 @@
 //! The spans of a text: its longest prefix or suffix of characters that are all in a set, or all
 //! outside it.
-ghost use Rattle.std.specs.Prelude.{◌≡◌, ◌<◌, ◌≤◌, ◌++◌, ◌∷◌, [], ℕ, List, true, false, length, slice_index};
+ghost use Rattle.std.specs.Prelude.{◌≡◌, ◌<◌, ◌≤◌, ◌++◌, ◌∷◌, [], ℕ, List, true, false, length, slice_index, take};
 ghost use mathlib.Core.Bool.{beq};
 ghost use Rattle.icu_invlist.specs.InversionList.{IsValid, holds};
 ghost use Rattle.icu_collections_c.specs.Frozen.{IsFrozenOf, is_held};
-ghost use Rattle.icu_collections_c.specs.Spans.{AnswersSpan, AnswersSpanBack, AnswersTextSpan, AnswersTextSpanBack, unit_count, unit_span};
+ghost use Rattle.icu_collections_c.specs.Spans.{AllHeld, AnswersSpan, AnswersSpanBack, AnswersTextSpan, AnswersTextSpanBack, unit_count, unit_span};
 
 use crate::kinds::{EndsKind, FrozenKind, Kind};
 use crate::status::Refusal;
@@ -40,21 +40,38 @@ fn past_ascii<K: Kind>(kind: &mut K, bytes: &[u8], start: usize) -> usize
     end
 }
 
+/// After so many changes from ASCII to longer characters, bytes are tested eight at a time from the
+/// next change on. Reading the words for that costs about as much as these mispredicted jumps.
+const CHANGES: usize = 2;
+
 /// Returns the length of the longest prefix whose characters are all of the kind, or the number of
-/// [`Refusal::NoText`] if the bytes are not empty and do not start with a character.
+/// [`Refusal::NoText`] if the bytes are not empty and do not start with a character. The first
+/// `start` bytes are known to be characters of the kind.
 #[inline(always)]
-fn span<K: Kind>(kind: &mut K, bytes: &[u8]) -> i64
+fn span_from<K: Kind>(kind: &mut K, bytes: &[u8], start: usize) -> i64
+    requires { start ≤ length bytes.now }
     ensures { K.is_sound kind.old
+        → AllHeld (K.is_in kind.old) (K.held kind.old) (take start bytes.now)
         → AnswersSpan (K.is_in kind.old) (K.held kind.old) bytes.now result }
 {
-    let mut passed = 0;
-    loop {
-        passed = past_ascii(kind, bytes, passed);
-        if passed >= bytes.len() {
-            return passed as i64;
-        }
+    let mut passed = start;
+    let mut changes = 0;
+    while passed < bytes.len() {
         if bytes[passed] < 0x80 {
-            return passed as i64;
+            passed = past_ascii(kind, bytes, passed);
+            if passed >= bytes.len() {
+                return passed as i64;
+            }
+            if bytes[passed] < 0x80 {
+                return passed as i64;
+            }
+            if changes < CHANGES {
+                changes += 1;
+                continue;
+            }
+            changes = 0;
+            passed = kind.past_short(bytes, passed);
+            continue;
         }
         let Some((c, size)) = first_character(&bytes[passed..]) else {
             if passed > 0 {
@@ -67,6 +84,43 @@ fn span<K: Kind>(kind: &mut K, bytes: &[u8]) -> i64
         }
         passed += size;
     }
+    passed as i64
+}
+
+/// Returns the length of the longest prefix whose characters are all of the kind, or the number of
+/// [`Refusal::NoText`] if the bytes are not empty and do not start with a character.
+#[inline(always)]
+fn span<K: Kind>(kind: &mut K, bytes: &[u8]) -> i64
+    ensures { K.is_sound kind.old
+        → AnswersSpan (K.is_in kind.old) (K.held kind.old) bytes.now result }
+{
+    span_from(kind, bytes, 0)
+}
+
+/// The same as `span_from`, for a frozen set. It is not inlined, so that a call for a word in ASCII
+/// saves no registers.
+#[inline(never)]
+fn frozen_span_from(kind: &mut FrozenKind<'_>, bytes: &[u8], start: usize) -> i64
+    requires { start ≤ length bytes.now }
+    ensures { AllHeld (is_held kind.old.numbers) kind.old.held (take start bytes.now)
+        → AnswersSpan (is_held kind.old.numbers) kind.old.held bytes.now result }
+{
+    span_from(kind, bytes, start)
+}
+
+/// The same as `span`, for a frozen set.
+#[inline(always)]
+fn frozen_span(kind: &mut FrozenKind<'_>, bytes: &[u8]) -> i64
+    ensures { AnswersSpan (is_held kind.old.numbers) kind.old.held bytes.now result }
+{
+    let passed = past_ascii(kind, bytes, 0);
+    if passed >= bytes.len() {
+        return passed as i64;
+    }
+    if bytes[passed] < 0x80 {
+        return passed as i64;
+    }
+    frozen_span_from(kind, bytes, passed)
 }
 
 /// Returns the offset of the longest suffix whose characters are all of the kind, or the number of
@@ -137,7 +191,7 @@ pub extern "C" fn bks_frozen_span(table: &[u64], text: &[u8], held: bool) -> i64
     ensures text_set { (ends words rest : List ℕ) → IsFrozenOf ends words
         → table.now ≡ words ++ rest → AnswersTextSpan (holds ends) held text.now result }
 {
-    span(&mut FrozenKind::new(table, held), text)
+    frozen_span(&mut FrozenKind::new(table, held), text)
 }
 
 /// Returns the offset in bytes of the longest suffix of the text that is UTF-8 and whose characters

@@ -14,7 +14,7 @@ returns-clause-text c = text_span (is_held c.args.table.now) c.args.held c.args.
 
 pub returns-clause-set : goal.returns-clause-set
 returns-clause-set c = λ ends words rest f e.
-    let P : (ℕ → Bool) → Type 0 = λ p. AnswersSpan p c.args.held c.args.text.now (to_z w64 (of_z w64 c.span.result)) in
+    let P : (ℕ → Bool) → Type 0 = λ p. AnswersSpan p c.args.held c.args.text.now (to_z w64 (of_z w64 c.frozen_span.result)) in
     front_of_set ends words rest f P (subst (λ (t : List ℕ). P (is_held t)) e (returns-clause-exact c))
 
 pub returns-clause-text_set : goal.returns-clause-text_set
