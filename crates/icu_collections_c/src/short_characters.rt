@@ -90,8 +90,33 @@ fn are_next_short(words: &[u64; 36], bytes: &[u8], end: usize) -> bool
     are_paired(window) && have_bits(words, window)
 }
 
+/// The highest bit of each of eight bytes.
+const HIGH_BITS: u64 = 0x8080_8080_8080_8080;
+
+/// Returns the eight bytes as a number. It is a single read.
+#[inline(always)]
+fn number_of(bytes: &[u8]) -> u64
+    requires { length bytes.now ≡ 8 }
+{
+    u64::from_le_bytes([
+        bytes[0], bytes[1], bytes[2], bytes[3], bytes[4], bytes[5], bytes[6], bytes[7],
+    ])
+}
+
+/// Returns true if the eight bytes are ASCII.
+#[inline(always)]
+fn are_ascii(bytes: &[u8]) -> bool
+    requires { length bytes.now ≡ 8 }
+{
+    number_of(bytes) & HIGH_BITS == 0
+}
+
+/// After three steps in ASCII it is faster to pass ASCII alone.
+const PLAIN: usize = 3;
+
 /// Passes characters of at most two bytes that are of the kind, and returns the offset after them.
-/// It may stop before the last of them. The byte before `start` is no lead byte.
+/// It may stop before the last of them, as where more ASCII follows. The byte before `start` is no
+/// lead byte.
 #[inline(never)]
 pub(crate) fn past_short(table: &[u64], held: bool, bytes: &[u8], start: usize) -> usize
     requires some { 0 < start }
@@ -104,7 +129,13 @@ pub(crate) fn past_short(table: &[u64], held: bool, bytes: &[u8], start: usize) 
 {
     let words = short_words(table, held);
     let mut end = start;
-    while are_next_short(&words, bytes, end) {
+    let mut plain = 0;
+    while plain < PLAIN && are_next_short(&words, bytes, end) {
+        plain = if are_ascii(&bytes[end..end + 8]) {
+            plain + 1
+        } else {
+            0
+        };
         end += 8;
     }
     if bytes[end - 1] >= 0xC0 { end - 1 } else { end }

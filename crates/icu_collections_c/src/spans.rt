@@ -40,9 +40,40 @@ fn past_ascii<K: Kind>(kind: &mut K, bytes: &[u8], start: usize) -> usize
     end
 }
 
-/// After so many changes from ASCII to longer characters, bytes are tested eight at a time from the
-/// next change on. Reading the words for that costs about as much as these mispredicted jumps.
-const CHANGES: usize = 2;
+/// After so many changes from ASCII to characters of two bytes, bytes are tested eight at a time.
+/// Reading the words for that costs about as much as these mispredicted jumps.
+const CHANGES: usize = 3;
+
+/// Changes count if at most so many bytes of ASCII are between them.
+const NEAR: usize = 24;
+
+/// If a test of eight bytes at a time passes less than this, it is done half as often.
+const ENOUGH: usize = 64;
+
+/// Returns for how many changes the loop still waits, after one to a character with this lead byte.
+/// `run` is how many bytes of ASCII come before it.
+#[inline(always)]
+fn left_to_wait(wait: usize, most: usize, run: usize, lead: u8) -> usize {
+    if run > NEAR {
+        return most;
+    }
+    if lead >= 0xE0 {
+        wait
+    } else {
+        wait.saturating_sub(1)
+    }
+}
+
+/// Returns for how many changes the loop waits next, if it waited for `most` and the test of eight
+/// bytes at a time then passed this many.
+#[inline(always)]
+fn next_wait(most: usize, passed: usize) -> usize {
+    if passed < ENOUGH {
+        most.saturating_mul(2)
+    } else {
+        CHANGES
+    }
+}
 
 /// Returns the length of the longest prefix whose characters are all of the kind, or the number of
 /// [`Refusal::NoText`] if the bytes are not empty and do not start with a character. The first
@@ -55,9 +86,11 @@ fn span_from<K: Kind>(kind: &mut K, bytes: &[u8], start: usize) -> i64
         → AnswersSpan (K.is_in kind.old) (K.held kind.old) bytes.now result }
 {
     let mut passed = start;
-    let mut changes = 0;
+    let mut most = CHANGES;
+    let mut wait = CHANGES;
     while passed < bytes.len() {
         if bytes[passed] < 0x80 {
+            let run = passed;
             passed = past_ascii(kind, bytes, passed);
             if passed >= bytes.len() {
                 return passed as i64;
@@ -65,12 +98,14 @@ fn span_from<K: Kind>(kind: &mut K, bytes: &[u8], start: usize) -> i64
             if bytes[passed] < 0x80 {
                 return passed as i64;
             }
-            if changes < CHANGES {
-                changes += 1;
+            if wait > 0 {
+                wait = left_to_wait(wait, most, passed - run, bytes[passed]);
                 continue;
             }
-            changes = 0;
+            let short = passed;
             passed = kind.past_short(bytes, passed);
+            most = next_wait(most, passed - short);
+            wait = most;
             continue;
         }
         let Some((c, size)) = first_character(&bytes[passed..]) else {

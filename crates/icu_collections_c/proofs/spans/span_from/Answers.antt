@@ -35,8 +35,8 @@ returns-then-bytes-passed-lt128-2 g c = λ sound all.
     rw (to_z_pos w64 n small) (ascii_other is_in held bytes n alike more c.if-bytes-passed-lt128-2.true
     ((rw c.loop-passed.invariant.same at a.stops) sound more c.if-bytes-passed-lt128-2.true))
 
-pub loop-passed-preserved-then-changes-lt-CHANGES : goal.loop-passed-preserved-then-changes-lt-CHANGES
-loop-passed-preserved-then-changes-lt-CHANGES g c = record {
+pub loop-passed-preserved-then-wait-gt0 : goal.loop-passed-preserved-then-wait-gt0
+loop-passed-preserved-then-wait-gt0 g c = record {
   same = c.past_ascii-passed.ensures.same ∙ c.loop-passed.invariant.same;
   within = c.past_ascii-passed.ensures.within;
   alike = λ sound all.
