@@ -153,8 +153,8 @@ impl<'data> Char16Trie<'data> {
     ///
     /// Takes time linear in the number of units, however many entries there are, if no two branches
     /// share a part. In untrusted units they may, and a branch has up to 65,536 entries: then it
-    /// takes up to 65,536 steps for each unit, of 10 to 15 ns each: at most four times as long as
-    /// `is_trie`. Allocates nine bytes for each unit.
+    /// takes up to 65,536 steps for each unit, of 10 to 15 ns each. Allocates nine bytes for each
+    /// unit.
     ///
     /// ```
     /// // of the map of "a" to 1 and "ab" to 2: trie.count_entries(alloc)? is Some(2)

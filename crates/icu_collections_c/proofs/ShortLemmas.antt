@@ -10,8 +10,7 @@ use Rattle.std.proofs.lemmas.List.{drop-drop, get_or-drop, get_or-set_other, get
 use Rattle.std.proofs.lemmas.Nat.Bits.{bit_at_mask_above, bit_at_mask_below}
 use Rattle.std.proofs.lemmas.Str.{length-encode}
 use Rattle.icu_zerovec.specs.CodePoints.{code_point_limit}
-use Rattle.icu_trie_text.specs.Inside.Trails.{IsTrail}
-use Rattle.icu_trie_text.proofs.Utf8Parts.{two_found}
+use Rattle.icu_trie_text.proofs.CallerLemmas.{two_bytes_found}
 use Rattle.icu_collections_c.specs.Frozen.{bit_in, is_held, place_in}
 use Rattle.icu_collections_c.specs.Spans.{AllHeld}
 use Rattle.icu_collections_c.specs.Inside.ShortCharacters.{AreShortWords, OfEach, has_bit, is_paired, word_of}
@@ -142,12 +141,9 @@ module _ (table : List ℕ) (held : Bool) (words bytes : List ℕ) (w : AreShort
         let to = before.2 in
         let rest : List ℕ = drop m bytes in
         let first : get_or rest 0 0 ≡ 192 + a = get_or-drop m bytes 0 0 ∙ (ap (λ (i : ℕ). get_or bytes i 0) (add-zero m) ∙ omega arith) in
-        let second : IsTrail rest 1 b = record {
-          there = omega (arith, length-drop m bytes);
-          byte = get_or-drop m bytes 1 0 ∙ (sym is ∙ omega arith);
-          six = omega arith;
-        } in
-        let f = two_found rest a b first (omega arith) (omega arith) second in
+        let second : get_or rest 1 0 ≡ 128 + b = get_or-drop m bytes 1 0 ∙ (sym is ∙ omega arith) in
+        let there : 1 < length rest = omega (arith, length-drop m bytes) in
+        let f = two_bytes_found rest a b first (omega arith) (omega arith) there second (omega arith) in
         let c : ℕ = a * 64 + b in
         let s : m + 2 ≡ m + 1 + 1 = omega arith in
         subst AllFirst s (one_more (is_held table) held bytes m (omega arith) before.0 c 2 f.0 (f.1 ∙ sym (length-encode c))

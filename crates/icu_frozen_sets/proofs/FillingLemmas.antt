@@ -91,7 +91,7 @@ run_filling t new at f tables blocks words others = record {
   empty = λ b h. others b h ∙ f.empty b h;
 }
 
--- Whole blocks lie between the first and the last.
+-- Whole blocks are between the first and the last.
 whole_blocks : (at last start end c : ℕ) → at ≡ start / 256 → last ≡ end / 256 → (c / 256 ≡ at → ⊥) → (c / 256 ≡ last → ⊥)
     → between (at + 1) last (c / 256) ≡ between start end c
 whole_blocks at last start end c s e n m = elim (cases_lt (c / 256) at) [

@@ -14,3 +14,5 @@ pub use Rattle.icu_trie_text.proofs.Utf16Lemmas.{length-code_points}
 pub use Rattle.icu_trie_text.proofs.CopiedItems.{text_next}
 -- The code points that have their values at their own index in the data.
 pub use Rattle.icu_trie_text.proofs.AsciiLemmas.{ascii_known}
+-- The first character of bytes that start with a lead byte of two and a trail byte.
+pub use Rattle.icu_trie_text.proofs.Utf8Parts.{two_bytes_found}

@@ -32,6 +32,11 @@ two_found (x ∷ y ∷ rest) a b e l h t =
     let f = found (a * 64 + b) ((192 + a) ∷ (128 + b) ∷ []) rest (two a b l h t.six) in
     (f.0, sym f.1, rw (e, second) f.2)
 
+-- The same, from the two bytes.
+pub two_bytes_found : (bytes : List ℕ) (a b : ℕ) → get_or bytes 0 0 ≡ 192 + a → 2 ≤ a → a < 32 → 1 < length bytes
+    → get_or bytes 1 0 ≡ 128 + b → b < 64 → IsFirstPart bytes (Some (a * 64 + b)) 2
+two_bytes_found bytes a b e l h there byte six = two_found bytes a b e l h (record { there = there; byte = byte; six = six })
+
 pub three_found : (bytes : List ℕ) (a b d : ℕ) → get_or bytes 0 0 ≡ 224 + a → a < 16 → IsTrail bytes 1 b → IsHighOfThree (a * 64 + b)
     → IsTrail bytes 2 d → IsFirstPart bytes (Some ((a * 64 + b) * 64 + d)) 3
 three_found [] a b d e l s h t = let n = t.there in absurd (omega arith)

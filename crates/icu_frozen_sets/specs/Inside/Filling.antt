@@ -44,7 +44,7 @@ pub record IsFilling (t : BitTables) (at : ℕ) : Type 0 where
   pub within : at ≤ 4352
   pub empty : (b : ℕ) → at ≤ b → slice_index t.index b ≡ 0
 
--- The bit of c, where block `at` has these words.
+-- The bit of c if block `at` has these words.
 unfoldable pub filled : BitTables → List ℕ → ℕ → ℕ → Bool
 filled t block at c = if c / 256 == at then block_bit block c else has_bit t c
 

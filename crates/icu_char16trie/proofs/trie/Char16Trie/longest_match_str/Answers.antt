@@ -29,8 +29,12 @@ are_first c = first_chars (YieldsList-from_chars c.args.text.now c.utf8.text cc)
 pub overflow_add-end : goal.overflow_add-end
 overflow_add-end c =
     let first = are_first (goal.at.overflow_add-end c).In-Some in
-    omega (arith, bytes_fit c.args.text.now c.loop-c.yielded c.in-Some.c c.utf8.text first.2, c.loop-c.invariant.bytes,
-    c.len_utf8-end.ensures.len)
+    omega (
+      arith,
+      bytes_fit c.args.text.now c.loop-c.yielded c.in-Some.c c.utf8.text first.2,
+      c.loop-c.invariant.bytes,
+      c.len_utf8-end.ensures.len,
+    )
 
 pub loop-c-init : goal.loop-c-init
 loop-c-init c =
