@@ -1,4 +1,5 @@
 //! A trie of an enum in a `static`, which the compiler checks: the digits of ASCII and the letters.
+//! For tables that the program `ucptrie` writes, `bekstaudi::trie_of!` replaces all but the enum.
 
 use bekstaudi::codepointtrie::{CodePointTrie, CodePointTrieHeader, TrieType};
 use bekstaudi::{trie_values, zeroslice};

@@ -3,7 +3,8 @@
 //! [`CodePointTrieBuilder`] builds a trie, [`CodePointTrie::get32`] looks a code point up, and
 //! [`CodePointTrieBuilder::from_trie`] changes a trie and builds it again. [`binary::from_binary`]
 //! reads in place a trie that ICU wrote. [`CodePointTrie::try_new`] makes a trie of its parts,
-//! as other files have them, and borrows them. [`text::values_of`] returns the values in a text.
+//! which may be borrowed, and [`trie_of!`](crate::trie_of) a static one of what the program `ucptrie`
+//! writes. [`text::values_of`] returns the values in a text.
 //!
 //! ```
 //! use bekstaudi::codepointtrie::{CodePointTrieBuilder, TrieType};

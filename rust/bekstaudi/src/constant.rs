@@ -264,7 +264,7 @@ impl<'trie, T: ConstValue> CodePointTrie<'trie, T> {
     }
 
     /// Makes a trie of these parts, which it borrows. In a constant, parts that do not form a trie
-    /// do not compile.
+    /// do not compile. For parts that `ucptrie` writes, use [`trie_of!`](crate::trie_of).
     ///
     /// ```
     /// use bekstaudi::codepointtrie::{CodePointTrie, CodePointTrieHeader, TrieType};
@@ -323,16 +323,22 @@ impl<'trie, T: ConstValue> CodePointTrie<'trie, T> {
     }
 }
 
-/// Makes a trie of the module that `ucptrie --as rust` writes, in a constant.
+/// Makes a trie of the module that `ucptrie build --as rust` writes, in a constant.
+///
+/// ```sh
+/// ucptrie build --as rust --name table --width 8 --default 0 --error 0 < rows.txt > table.rs
+/// ```
+///
+/// Each row is `HEX;N` or `HEX..HEX;N`: a range of code points and the number of their value.
 ///
 /// `trie_of!(table)` has the module's numbers as values, and `trie_of!(table as Kind)` the values of a
 /// type with these numbers, such as an enum of [`trie_values!`](crate::trie_values). A number that is
-/// not a value of the type does not compile.
+/// not a value of the type does not compile. This includes the numbers of `--default` and `--error`, which
+/// are 0 if they are not given.
 ///
 /// ```
 /// use bekstaudi::codepointtrie::CodePointTrie;
 ///
-/// #[allow(dead_code)] // The module has a look-up of its own.
 /// mod made {
 /// # /*
 ///     include!("table.rs");
@@ -352,6 +358,7 @@ impl<'trie, T: ConstValue> CodePointTrie<'trie, T> {
 ///
 /// bekstaudi::trie_values! {
 ///     enum Kind: u8 {
+///         Other = 0,
 ///         Letter = 1,
 ///         Digit = 2,
 ///     }
@@ -473,7 +480,7 @@ impl<'data> CodePointInversionList<'data> {
     }
 }
 
-/// What databake writes, under the Rust crate's names. Each function tests its parts nevertheless.
+// What databake writes, under the Rust crate's names. Each function tests its parts nevertheless.
 impl<'data> CodePointInversionList<'data> {
     #[doc(hidden)]
     pub const fn from_parts_unchecked(ends: ZeroVec<'data, PotentialCodePoint>, _: u32) -> Self {
@@ -551,7 +558,7 @@ pub const fn joined<const N: usize>(mut numbers: [u32; N]) -> ([(u32, u32); N], 
 /// Declares an enum whose values a trie can store, also in a constant.
 ///
 /// The type after the name, `u8`, `u16` or `u32`, is that of a value's cell. Each value has a
-/// number, a literal.
+/// number, a literal. Attributes on the enum, such as more derives, and on its values apply to them.
 ///
 /// The enum gets [`AsULE`](crate::zerovec::ule::AsULE),
 /// [`TrieValue`](crate::codepointtrie::TrieValue), [`ConstCells`](crate::zerovec::ConstCells) and

@@ -28,8 +28,8 @@
 //! assert_eq!(trie.get_set_for_value(1).iter_chars().count(), 26);
 //! ```
 //!
-//! Values may also be of a type of your own, such as an enum of general categories:
-//! [`TrieValue`](codepointtrie::TrieValue) has an example.
+//! Values may also be of a type of your own. [`trie_values!`] declares an enum of them, such as one
+//! of general categories. Other types implement [`TrieValue`](codepointtrie::TrieValue).
 //!
 //! # Sets
 //!
@@ -69,6 +69,9 @@
 //! [`Char16Trie::from_static`](char16trie::Char16Trie::from_static). [`zeroslice!`] packs an array
 //! for them, and [`trie_values!`] declares an enum of values.
 //!
+//! The program `ucptrie` makes the parts of a trie from rows such as `0041..005A;1`. [`trie_of!`]
+//! makes the trie of what it writes.
+//!
 //! # Features
 //!
 //! All but `alloc` are off by default.
@@ -76,7 +79,9 @@
 //! - `alloc`: what is built, or owns its data. Without it, static and borrowed data can be looked up
 //! - `serde`: sets, tries and unit tries to and from any format of serde, in the forms of
 //!   `icu_collections`: numbers and texts in formats that people read, such as JSON, and packed
-//!   bytes, which are borrowed, in others
+//!   bytes, which are borrowed, in others. A field of such a type needs `#[serde(borrow)]`, and its
+//!   struct a lifetime. Functions for `DeserializeOwned`, such as `serde_json::from_reader`, cannot
+//!   read it
 //! - `json`: sets, tries and unit tries to and from the values of `serde_json`. The forms are those
 //!   of `serde`, except that a trie has the number of each value, also if its values are signed or
 //!   characters

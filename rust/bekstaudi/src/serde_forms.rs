@@ -26,7 +26,7 @@ fn no_memory<E: Error>(_: impl Into<MemoryError>) -> E {
     E::custom(MemoryError)
 }
 
-/// Writes a sequence of values, or their packed bytes.
+/// Writes a sequence of the values in formats that people read, and their packed bytes in others.
 impl<T: AsULE + Serialize> Serialize for ZeroSlice<'_, T> {
     fn serialize<S: Serializer>(&self, serializer: S) -> Result<S::Ok, S::Error> {
         if serializer.is_human_readable() {
@@ -37,7 +37,7 @@ impl<T: AsULE + Serialize> Serialize for ZeroSlice<'_, T> {
     }
 }
 
-/// Writes a sequence of values, or their packed bytes.
+/// Writes a sequence of the values in formats that people read, and their packed bytes in others.
 impl<T: AsULE + Serialize> Serialize for ZeroVec<'_, T> {
     fn serialize<S: Serializer>(&self, serializer: S) -> Result<S::Ok, S::Error> {
         self.as_slice().serialize(serializer)
@@ -68,7 +68,7 @@ impl<'de, T: AsULE + Deserialize<'de>> Visitor<'de> for Values<T> {
     }
 }
 
-/// Reads a sequence of values, or borrows their packed bytes.
+/// Reads a sequence of values in formats that people read, and borrows their packed bytes in others.
 impl<'de: 'a, 'a, T: AsULE + Deserialize<'de>> Deserialize<'de> for ZeroVec<'a, T> {
     fn deserialize<D: Deserializer<'de>>(deserializer: D) -> Result<Self, D::Error> {
         if deserializer.is_human_readable() {
@@ -135,7 +135,8 @@ struct TrieForm<'trie, T: TrieValue> {
     data: ZeroVec<'trie, T>,
 }
 
-/// Writes a struct of the header, the index and the data.
+/// Writes a struct of the header, the index and the data. The values in the data are written by their
+/// own `Serialize` in formats that people read, and as packed bytes in others.
 impl<T: TrieValue + Serialize> Serialize for CodePointTrie<'_, T> {
     fn serialize<S: Serializer>(&self, serializer: S) -> Result<S::Ok, S::Error> {
         let (header, index, data) = self.parts();
@@ -159,7 +160,8 @@ impl<'de: 'trie, 'trie, T: TrieValue + Deserialize<'de>> Deserialize<'de>
     }
 }
 
-/// Writes a sequence with a text for each range, as `A-Z`, or the packed boundaries.
+/// Writes a string for each range, such as `A-Z` or `_`, in formats that people read, and the packed
+/// boundaries in others. A surrogate is `U+` and four digits.
 impl Serialize for CodePointInversionList<'_> {
     fn serialize<S: Serializer>(&self, serializer: S) -> Result<S::Ok, S::Error> {
         if !serializer.is_human_readable() {
@@ -201,7 +203,9 @@ impl<'de> Visitor<'de> for Ranges {
     }
 }
 
-/// Reads a sequence of texts, as `A-Z`, or borrows packed boundaries. What is not a set is an error.
+/// Reads a sequence of strings such as `A-Z`, `_` or `U+0041-U+005A` in formats that people read, and
+/// borrows packed boundaries in others. Ranges that are reversed, or not ascending with gaps between
+/// them, are an error.
 impl<'de: 'data, 'data> Deserialize<'de> for CodePointInversionList<'data> {
     fn deserialize<D: Deserializer<'de>>(deserializer: D) -> Result<Self, D::Error> {
         if deserializer.is_human_readable() {

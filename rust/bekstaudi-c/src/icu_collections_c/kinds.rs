@@ -1,6 +1,7 @@
 //! What a span tests characters for: that they are in a set, or that they are outside it.
 
 use crate::icu_collections_c::frozen::{PLACE_WORDS, contains, place_of, word};
+use crate::icu_collections_c::short_characters::past_short;
 use crate::icu_zerovec::CODE_POINT_LIMIT;
 
 /// The code points in a set, or those outside it.
@@ -10,6 +11,11 @@ pub(crate) trait Kind {
 
     /// Returns true if the ASCII character is of this kind.
     fn has_ascii(&mut self, c: u32) -> bool;
+
+    /// Passes some more characters of this kind that take at most two bytes in UTF-8, if that is
+    /// faster than one by one, and returns the offset after them. The byte before `start` is no
+    /// lead byte.
+    fn past_short(&mut self, bytes: &[u8], start: usize) -> usize;
 }
 
 /// A kind by the words of a frozen set.
@@ -22,7 +28,7 @@ pub(crate) struct FrozenKind<'a> {
 
 /// Returns the word if `held` is true, and otherwise the word with each bit the other way.
 #[inline(always)]
-fn turned(word: u64, held: bool) -> u64 {
+pub(crate) fn turned(word: u64, held: bool) -> u64 {
     if held { word } else { !word }
 }
 
@@ -48,6 +54,11 @@ impl<'a> Kind for FrozenKind<'a> {
     #[inline(always)]
     fn has_ascii(&mut self, c: u32) -> bool {
         (self.ascii[(c / 64) as usize] >> (c % 64)) & 1 == 1
+    }
+
+    #[inline(always)]
+    fn past_short(&mut self, bytes: &[u8], start: usize) -> usize {
+        past_short(self.table, self.held, bytes, start)
     }
 }
 
@@ -124,5 +135,10 @@ impl<'a> Kind for EndsKind<'a> {
     #[inline(always)]
     fn has_ascii(&mut self, c: u32) -> bool {
         self.has(c)
+    }
+
+    #[inline(always)]
+    fn past_short(&mut self, _bytes: &[u8], start: usize) -> usize {
+        start
     }
 }

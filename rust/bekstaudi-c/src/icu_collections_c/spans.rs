@@ -24,18 +24,68 @@ fn past_ascii<K: Kind>(kind: &mut K, bytes: &[u8], start: usize) -> usize {
     end
 }
 
-/// Returns the length of the longest prefix whose characters are all of the kind, or the number of
-/// [`Refusal::NoText`] if the bytes are not empty and do not start with a character.
+/// After so many changes from ASCII to characters of two bytes, bytes are tested eight at a time.
+/// Reading the words for that costs about as much as these mispredicted jumps.
+const CHANGES: usize = 3;
+
+/// Changes count if at most so many bytes of ASCII are between them.
+const NEAR: usize = 24;
+
+/// If a test of eight bytes at a time passes less than this, it is done half as often.
+const ENOUGH: usize = 64;
+
+/// Returns for how many changes the loop still waits, after one to a character with this lead byte.
+/// `run` is how many bytes of ASCII come before it.
 #[inline(always)]
-fn span<K: Kind>(kind: &mut K, bytes: &[u8]) -> i64 {
-    let mut passed = 0;
-    loop {
-        passed = past_ascii(kind, bytes, passed);
-        if passed >= bytes.len() {
-            return passed as i64;
-        }
+fn left_to_wait(wait: usize, most: usize, run: usize, lead: u8) -> usize {
+    if run > NEAR {
+        return most;
+    }
+    if lead >= 0xE0 {
+        wait
+    } else {
+        wait.saturating_sub(1)
+    }
+}
+
+/// Returns for how many changes the loop waits next, if it waited for `most` and the test of eight
+/// bytes at a time then passed this many.
+#[inline(always)]
+fn next_wait(most: usize, passed: usize) -> usize {
+    if passed < ENOUGH {
+        most.saturating_mul(2)
+    } else {
+        CHANGES
+    }
+}
+
+/// Returns the length of the longest prefix whose characters are all of the kind, or the number of
+/// [`Refusal::NoText`] if the bytes are not empty and do not start with a character. The first
+/// `start` bytes are known to be characters of the kind.
+#[inline(always)]
+fn span_from<K: Kind>(kind: &mut K, bytes: &[u8], start: usize) -> i64 {
+    let mut passed = start;
+    let mut most = CHANGES;
+    let mut wait = CHANGES;
+    while passed < bytes.len() {
         if bytes[passed] < 0x80 {
-            return passed as i64;
+            let run = passed;
+            passed = past_ascii(kind, bytes, passed);
+            if passed >= bytes.len() {
+                return passed as i64;
+            }
+            if bytes[passed] < 0x80 {
+                return passed as i64;
+            }
+            if wait > 0 {
+                wait = left_to_wait(wait, most, passed - run, bytes[passed]);
+                continue;
+            }
+            let short = passed;
+            passed = kind.past_short(bytes, passed);
+            most = next_wait(most, passed - short);
+            wait = most;
+            continue;
         }
         let Some((c, size)) = first_character(&bytes[passed..]) else {
             if passed > 0 {
@@ -48,6 +98,34 @@ fn span<K: Kind>(kind: &mut K, bytes: &[u8]) -> i64 {
         }
         passed += size;
     }
+    passed as i64
+}
+
+/// Returns the length of the longest prefix whose characters are all of the kind, or the number of
+/// [`Refusal::NoText`] if the bytes are not empty and do not start with a character.
+#[inline(always)]
+fn span<K: Kind>(kind: &mut K, bytes: &[u8]) -> i64 {
+    span_from(kind, bytes, 0)
+}
+
+/// The same as `span_from`, for a frozen set. It is not inlined, so that a call for a word in ASCII
+/// saves no registers.
+#[inline(never)]
+fn frozen_span_from(kind: &mut FrozenKind<'_>, bytes: &[u8], start: usize) -> i64 {
+    span_from(kind, bytes, start)
+}
+
+/// The same as `span`, for a frozen set.
+#[inline(always)]
+fn frozen_span(kind: &mut FrozenKind<'_>, bytes: &[u8]) -> i64 {
+    let passed = past_ascii(kind, bytes, 0);
+    if passed >= bytes.len() {
+        return passed as i64;
+    }
+    if bytes[passed] < 0x80 {
+        return passed as i64;
+    }
+    frozen_span_from(kind, bytes, passed)
 }
 
 /// Returns the offset of the longest suffix whose characters are all of the kind, or the number of
@@ -102,7 +180,7 @@ fn span_units<K: Kind>(kind: &mut K, units: &[u16]) -> usize {
 /// Returns the number of [`Refusal::NoText`] if the text is not empty and does not start with a
 /// character.
 pub fn bks_frozen_span(table: &[u64], text: &[u8], held: bool) -> i64 {
-    span(&mut FrozenKind::new(table, held), text)
+    frozen_span(&mut FrozenKind::new(table, held), text)
 }
 
 /// Returns the offset in bytes of the longest suffix of the text that is UTF-8 and whose characters

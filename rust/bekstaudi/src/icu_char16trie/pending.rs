@@ -78,8 +78,8 @@ impl<'a> Pending<'a> {
         Ok(())
     }
 
-    /// Moves to the first node of a part, and postpones the rest.
-    fn enter_part(&mut self, place: usize, count: usize) -> Result<(), AllocError> {
+    /// Moves to the first node of a part, and postpones the rest. The recursion is at most 16 deep.
+    fn split_part(&mut self, place: usize, count: usize) -> Result<(), AllocError> {
         if count <= MAX_BRANCH_LINEAR_SUB_NODE_LENGTH {
             self.enter_row(place, count)?;
             return Ok(());
@@ -95,7 +95,18 @@ impl<'a> Pending<'a> {
         };
         let half = count / 2;
         self.put_off(delta_end(place + 2, delta), count - half)?;
-        self.enter_part(low, half)?;
+        self.split_part(low, half)?;
+        Ok(())
+    }
+
+    /// Moves to the first node of a part, and postpones the rest. Most parts are rows.
+    #[inline(always)]
+    fn enter_part(&mut self, place: usize, count: usize) -> Result<(), AllocError> {
+        if count <= MAX_BRANCH_LINEAR_SUB_NODE_LENGTH {
+            self.enter_row(place, count)?;
+            return Ok(());
+        }
+        self.split_part(place, count)?;
         Ok(())
     }
 
@@ -112,6 +123,7 @@ impl<'a> Pending<'a> {
 
     /// Moves to the first node after a match node. `low` is the low six bits of its lead unit, and
     /// `place` is the index after the lead and its value.
+    #[inline(always)]
     pub(crate) fn open_match(&mut self, place: usize, low: u16) -> Result<(), AllocError> {
         if low >= MIN_LINEAR_MATCH {
             self.pass_run(place, run_len(low))?;

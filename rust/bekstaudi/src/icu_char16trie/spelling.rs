@@ -72,16 +72,25 @@ impl Spelling {
         Ok(())
     }
 
-    /// Appends a unit after a held lead surrogate.
+    /// Appends a unit after a held lead surrogate with which it is no pair.
+    #[cold]
     #[inline(never)]
-    fn push_after(&mut self, lead: LeadSurrogate, unit: u16) -> Result<(), AllocError> {
+    fn push_apart(&mut self, lead: LeadSurrogate, unit: u16) -> Result<(), AllocError> {
         self.held = None;
+        self.text.try_push(char::REPLACEMENT_CHARACTER)?;
+        self.push_next(unit)?;
+        Ok(())
+    }
+
+    /// Appends a unit after a held lead surrogate.
+    #[inline(always)]
+    fn push_after(&mut self, lead: LeadSurrogate, unit: u16) -> Result<(), AllocError> {
         if let Some(c) = pair_char(lead, unit) {
+            self.held = None;
             self.text.try_push(c)?;
             return Ok(());
         }
-        self.text.try_push(char::REPLACEMENT_CHARACTER)?;
-        self.push_next(unit)?;
+        self.push_apart(lead, unit)?;
         Ok(())
     }
 

@@ -43,13 +43,14 @@ fn is_all(block: &[u64; 4], word: u64) -> bool {
 }
 
 impl CodePointBits {
-    /// Returns tables without any block, with capacity for the blocks of a set of `ranges` ranges.
+    /// Returns tables in which all blocks are empty, with capacity for the blocks of a set of
+    /// `ranges` ranges.
     ///
     /// # Errors
     /// Returns `MemoryError` if an allocation fails.
     #[inline]
     pub(crate) fn new(ranges: usize) -> Result<CodePointBits, MemoryError> {
-        let index = Vec::with_room(BLOCKS as usize)?;
+        let index = Vec::from_elem(EMPTY_BLOCK, BLOCKS as usize)?;
         let room = TWO_BLOCKS.len() + 4 * ranges.min(ROOM);
         let mut words = Vec::with_room(room)?;
         words.try_extend_from_slice(&TWO_BLOCKS)?;
@@ -83,19 +84,6 @@ impl CodePointBits {
         (bits >> place) & 1 == 1
     }
 
-    /// Returns the bits of the ASCII characters. The first block must be in the tables.
-    #[inline]
-    pub(crate) fn ascii(&self) -> [bool; 128] {
-        let first = self.index[0] as usize;
-        let (low, high) = (self.words[first], self.words[first + 1]);
-        let mut ascii = [false; 128];
-        for k in 0..64 {
-            ascii[k] = (low >> k) & 1 == 1;
-            ascii[64 + k] = (high >> k) & 1 == 1;
-        }
-        ascii
-    }
-
     /// Returns the bits of the first 2,048 code points, 64 in each word. Their blocks must be in
     /// the tables.
     #[inline]
@@ -108,39 +96,44 @@ impl CodePointBits {
         words
     }
 
-    /// Appends `count` blocks, all full if `value` is true and all empty otherwise.
-    ///
-    /// # Errors
-    /// Returns `MemoryError` if an allocation fails.
-    #[inline]
-    pub(crate) fn push_run(&mut self, count: usize, value: bool) -> Result<(), MemoryError> {
-        self.index
-            .try_resize(self.index.len() + count, shared_place(value))?;
-        Ok(())
+    /// Makes block `at` full if `value` is true, and empty otherwise.
+    #[inline(always)]
+    fn set_shared(&mut self, at: usize, value: bool) {
+        self.index[at] = shared_place(value);
     }
 
-    /// Appends a block with four words of its own.
-    #[inline]
-    fn push_own(&mut self, block: &[u64; 4]) -> Result<(), MemoryError> {
-        self.index.try_push(self.words.len() as u16)?;
+    /// Gives block `at` four words of its own.
+    #[inline(always)]
+    fn set_own(&mut self, at: usize, block: &[u64; 4]) -> Result<(), MemoryError> {
+        self.index[at] = self.words.len() as u16;
         self.words.try_extend_from_slice(block)?;
         Ok(())
     }
 
-    /// Appends a block with these words. An empty or full block shares its words with the others of
-    /// its kind.
+    /// Sets the words of block `at`. An empty or full block shares its words with the others of its
+    /// kind.
     ///
     /// # Errors
-    /// Returns `MemoryError` if an allocation fails.
-    #[inline]
-    pub(crate) fn push_block(&mut self, block: &[u64; 4]) -> Result<(), MemoryError> {
+    /// Returns `MemoryError` if an allocation fails. The tables must not be used after that.
+    #[inline(always)]
+    pub(crate) fn set_block(&mut self, at: usize, block: &[u64; 4]) -> Result<(), MemoryError> {
         if is_all(block, 0) {
-            return self.push_run(1, false);
+            self.set_shared(at, false);
+            return Ok(());
         }
         if is_all(block, u64::MAX) {
-            return self.push_run(1, true);
+            self.set_shared(at, true);
+            return Ok(());
         }
-        self.push_own(block)
+        self.set_own(at, block)
+    }
+
+    /// Makes the blocks from `from` to before `to` full.
+    #[inline]
+    pub(crate) fn fill_blocks(&mut self, from: usize, to: usize) {
+        for at in from..to {
+            self.set_shared(at, true);
+        }
     }
 
     /// Returns a copy.

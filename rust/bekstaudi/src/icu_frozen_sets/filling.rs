@@ -1,17 +1,17 @@
-//! Filling the bits of a set, from the first code point on.
+//! Filling the bits of a set, range by range.
 
-use crate::icu_frozen_sets::bits::CodePointBits;
+use crate::icu_frozen_sets::bits::{BLOCKS, CodePointBits};
 use crate::icu_zerovec::MemoryError;
 
-/// The bits of the code points below `reached`. The rest is filled in ascending order.
+/// The bits of the ranges that were added so far, in ascending order.
 #[derive(Debug)]
 pub(crate) struct Filling {
-    /// The complete blocks.
+    /// The blocks below `at`. All others are empty here.
     bits: CodePointBits,
-    /// The words of the current block. The bits from `reached` on are 0.
+    /// The words of block `at`.
     block: [u64; 4],
-    /// The first code point whose bit is not filled yet.
-    reached: u32,
+    /// The number of the current block.
+    at: u32,
 }
 
 /// Sets the bits of the code points in `from..to`, which are all in one word of the block.
@@ -34,7 +34,7 @@ fn set_ones(block: &mut [u64; 4], from: u32, to: u32) {
 }
 
 impl Filling {
-    /// Returns a filling in which no bit is filled, with capacity for a set of `ranges` ranges.
+    /// Returns a filling without ranges, with capacity for a set of `ranges` ranges.
     ///
     /// # Errors
     /// Returns `MemoryError` if an allocation fails.
@@ -43,85 +43,63 @@ impl Filling {
         Ok(Filling {
             bits: CodePointBits::new(ranges)?,
             block: [0; 4],
-            reached: 0,
+            at: 0,
         })
     }
 
-    /// Fills the bits up to `next` exclusive, which is in the current block or at its end.
+    /// Makes `at` the current block. If that changes it, the block before is written.
     #[inline(always)]
-    fn fill_part(&mut self, next: u32, value: bool) {
-        if value {
-            set_ones(&mut self.block, self.reached, next);
-        }
-        self.reached = next;
-    }
-
-    /// Moves the current block into the tables if it is complete.
-    #[inline(always)]
-    fn settle(&mut self) -> Result<(), MemoryError> {
-        if !self.reached.is_multiple_of(256) {
+    fn move_to(&mut self, at: u32) -> Result<(), MemoryError> {
+        if self.at == at {
             return Ok(());
         }
-        self.bits.push_block(&self.block)?;
+        self.bits.set_block(self.at as usize, &self.block)?;
         self.block = [0; 4];
+        self.at = at;
         Ok(())
     }
 
-    /// Fills `count` whole blocks.
-    #[inline]
-    fn fill_blocks(&mut self, count: u32, value: bool) -> Result<(), MemoryError> {
-        if count == 0 {
-            return Ok(());
-        }
-        self.bits.push_run(count as usize, value)?;
-        self.reached += 256 * count;
-        Ok(())
-    }
-
-    /// Fills the rest of the current block, unless the next code point starts a block.
-    #[inline]
-    fn fill_block(&mut self, value: bool) -> Result<(), MemoryError> {
-        if self.reached.is_multiple_of(256) {
-            return Ok(());
-        }
-        self.fill_part((self.reached / 256 + 1) * 256, value);
-        self.settle()
-    }
-
-    /// Fills the bits up to `end` exclusive, which is in a later block.
-    #[inline]
-    fn fill_far(&mut self, end: u32, value: bool) -> Result<(), MemoryError> {
-        self.fill_block(value)?;
-        self.fill_blocks((end - self.reached) / 256, value)?;
-        if self.reached < end {
-            self.fill_part(end, value);
+    /// Adds the range `start..end`, which starts in the current block and ends in a later one.
+    ///
+    /// This is not inlined: few ranges are such, and the loop over all ranges is faster without it.
+    #[inline(never)]
+    fn add_far(&mut self, start: u32, end: u32) -> Result<(), MemoryError> {
+        let next = self.at + 1;
+        set_ones(&mut self.block, start, next * 256);
+        self.move_to(end / 256)?;
+        self.bits.fill_blocks(next as usize, (end / 256) as usize);
+        if !end.is_multiple_of(256) {
+            set_ones(&mut self.block, end / 256 * 256, end);
         }
         Ok(())
     }
 
-    /// Sets the bits of the code points from the current one to `end` exclusive to `value`.
+    /// Adds the range `start..end`, which is above all ranges that were added.
     ///
     /// # Errors
     /// Returns `MemoryError` if an allocation fails. The filling must not be used after that.
     #[inline(always)]
-    pub(crate) fn fill_to(&mut self, end: u32, value: bool) -> Result<(), MemoryError> {
-        if self.reached / 256 < end / 256 {
-            return self.fill_far(end, value);
+    pub(crate) fn add(&mut self, start: u32, end: u32) -> Result<(), MemoryError> {
+        self.move_to(start / 256)?;
+        if end / 256 != self.at {
+            return self.add_far(start, end);
         }
-        if self.reached < end {
-            self.fill_part(end, value);
-        }
+        set_ones(&mut self.block, start, end);
         Ok(())
     }
 
     /// Returns the bits of all code points.
+    ///
+    /// # Errors
+    /// Returns `MemoryError` if an allocation fails.
     #[inline]
-    pub(crate) fn finish(self) -> CodePointBits {
+    pub(crate) fn finish(mut self) -> Result<CodePointBits, MemoryError> {
+        self.move_to(BLOCKS)?;
         let Filling {
             bits,
             block: _,
-            reached: _,
+            at: _,
         } = self;
-        bits
+        Ok(bits)
     }
 }

@@ -1,5 +1,6 @@
 //! Frozen sets of code points, for many look-ups: a bit for each code point.
 
+use crate::icu_frozen_sets::ascii::ascii_of;
 use crate::icu_frozen_sets::bits::CodePointBits;
 use crate::icu_frozen_sets::filling::Filling;
 use crate::icu_invlist::codepointinvlist::CodePointInversionList;
@@ -58,14 +59,12 @@ impl FrozenCodePointSet {
         let ranges = set.iter_ranges();
         let mut filling = Filling::new(ranges.len())?;
         for range in ranges {
-            filling.fill_to(*range.start(), false)?;
-            filling.fill_to(*range.end() + 1, true)?;
+            filling.add(*range.start(), *range.end() + 1)?;
         }
-        filling.fill_to(CODE_POINT_LIMIT, false)?;
-        let bits = filling.finish();
+        let bits = filling.finish()?;
         Ok(FrozenCodePointSet {
             set: set.try_clone()?,
-            ascii: bits.ascii(),
+            ascii: ascii_of(set),
             two_bytes: bits.first_words(),
             bits,
         })

@@ -7,9 +7,11 @@
 //! - `bytes`: spans of bytes that may not be valid UTF-8
 //! - `text_sets`: [`FrozenCodePointSetAndStrings`](text_sets::FrozenCodePointSetAndStrings), a
 //!   frozen set with strings
+//! - `ascii`: which ASCII characters a set contains
 //! - `filling`: filling the bits of a set, range by range
 //! - `bits`: a bit for each code point, in two stages
 
+mod ascii;
 mod bits;
 mod bytes;
 mod filling;

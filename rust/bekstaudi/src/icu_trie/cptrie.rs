@@ -89,7 +89,7 @@ impl<'trie, T: TrieValue> CodePointTrie<'trie, T> {
     ///   (`Small`);
     /// - `DataTooShortForFastAccess` if `data` has fewer cells than the greatest offset in the fast
     ///   index plus 64.
-    #[inline]
+    #[inline(always)]
     pub fn try_new(
         header: CodePointTrieHeader,
         index: ZeroVec<'trie, u16>,

@@ -109,7 +109,7 @@ fn fields_of(bytes: &[u8], trie_type: TrieType, value_width: ValueWidth) -> Bina
 }
 
 /// Returns the contents of the header, or its first error.
-#[inline]
+#[inline(always)]
 pub(crate) fn header_of(bytes: &[u8]) -> Result<BinaryHeader, BinaryError> {
     signed(bytes)?;
     let options = u16_at(bytes, 4);
@@ -135,7 +135,7 @@ pub(crate) fn stored_length(header: &BinaryHeader) -> usize {
 
 /// Returns the header of a trie whose values take `width` bytes and whose cells are all present,
 /// and the number of bytes that the trie takes.
-#[inline]
+#[inline(always)]
 pub(crate) fn stored_header(
     bytes: &[u8],
     width: usize,

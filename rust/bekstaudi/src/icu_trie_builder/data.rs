@@ -8,6 +8,7 @@ use crate::icu_trie_builder::map_blocks::{MAX_DATA_OFFSET, MapBlocks};
 use crate::icu_trie_builder::null_block::{NullBlock, place_null};
 use crate::icu_trie_compaction::cell_store::CellStore;
 use crate::icu_trie_map::number_map::NumberMap;
+use crate::icu_zerovec::CODE_POINT_LIMIT;
 use crate::support::AllocError;
 use crate::support::prelude::*;
 
@@ -59,6 +60,34 @@ fn push_end(values: &mut Vec<u32>, high: u32, error: u32) -> Result<(), AllocErr
     Ok(())
 }
 
+/// Returns the high value, which is the number of the last code point. If the high start is
+/// 0x110000, no look-up reads the high value, and it is a cell that the data already has.
+#[inline]
+fn high_for(values: &[u32], high_start: usize, last: u32, error: u32) -> u32 {
+    let len = values.len();
+    if high_start < CODE_POINT_LIMIT as usize {
+        last
+    } else if values[len - 1] == error {
+        values[len - 2]
+    } else {
+        values[len - 1]
+    }
+}
+
+/// Appends the high value and the error value to the data, as far as they are not already its last
+/// cells. `last` is the number of the last code point.
+#[inline]
+fn finish(
+    values: &mut Vec<u32>,
+    high_start: usize,
+    last: u32,
+    error: u32,
+) -> Result<(), AllocError> {
+    let high = high_for(values, high_start, last, error);
+    push_end(values, high, error)?;
+    Ok(())
+}
+
 /// Returns the null block. If there is none, the result has an offset that no block has.
 #[inline]
 fn null_or(null: Option<NullBlock>, default: u32) -> NullBlock {
@@ -103,7 +132,7 @@ pub(crate) fn place_data(
     let mut small = blocks.place(&mut store, limit / SMALL_BLOCK, small_len)?;
     let mut values = store.into_cells();
     let null = place_null(&mut values, &fast, &mut small, MAX_DATA_OFFSET)?;
-    push_end(&mut values, numbers.last(), error)?;
+    finish(&mut values, high_start, numbers.last(), error)?;
     Ok(PlacedData {
         values,
         fast,

@@ -11,14 +11,18 @@ use crate::support::prelude::*;
 const NO_OFFSET: u32 = u32::MAX;
 
 /// Returns the offsets of the blocks of 64 that have one number throughout.
+///
+/// The last block comes first, since the offsets of the first two blocks are fixed: those of later
+/// blocks of the same number, which make up most of the fast index, may differ from them.
 pub(crate) fn filled_places(cells: &[u32], fast: &[u32]) -> Result<Vec<u32>, AllocError> {
     let mut places = Vec::new();
     let mut last = NO_OFFSET;
-    for offset in fast {
-        if *offset != last && is_filled(cells, *offset as usize, FAST_BLOCK) {
-            places.try_push(*offset)?;
+    for number in (0..fast.len()).rev() {
+        let offset = fast[number];
+        if offset != last && is_filled(cells, offset as usize, FAST_BLOCK) {
+            places.try_push(offset)?;
         }
-        last = *offset;
+        last = offset;
     }
     Ok(places)
 }

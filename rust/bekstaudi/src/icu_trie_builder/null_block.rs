@@ -52,12 +52,12 @@ fn is_wanted(wanted: Option<u32>, value: u32) -> bool {
     }
 }
 
-/// Returns the index of the first of the blocks of `size` cells at these offsets that has one
-/// number throughout. If `wanted` is some number, only blocks of that number count.
+/// Returns the index of the last of the blocks of `size` cells at these offsets that has one number
+/// throughout. If `wanted` is some number, only blocks of that number count.
 #[inline]
 fn find_filled(cells: &[u32], offsets: &[u32], size: usize, wanted: Option<u32>) -> Option<usize> {
-    for (number, at) in offsets.iter().enumerate() {
-        let at = *at as usize;
+    for number in (0..offsets.len()).rev() {
+        let at = offsets[number] as usize;
         if is_wanted(wanted, cells[at]) && is_filled(cells, at, size) {
             return Some(number);
         }
@@ -65,7 +65,7 @@ fn find_filled(cells: &[u32], offsets: &[u32], size: usize, wanted: Option<u32>)
     None
 }
 
-/// Returns the first block that has one number throughout: a block of 64, or a block of 16 if there
+/// Returns the last block that has one number throughout: a block of 64, or a block of 16 if there
 /// is none. If `wanted` is some number, only blocks of that number count.
 fn find_either(
     cells: &[u32],

@@ -16,7 +16,7 @@ pub(crate) struct WindowTable {
     /// The number of cells in a window.
     size: usize,
     /// The factor for a cell that leaves a window.
-    leaving: u32,
+    leaving: u64,
     /// The table has the windows that start before this position.
     entered: usize,
     /// For each distinct window, the first position at which it occurs.
@@ -61,14 +61,14 @@ impl WindowTable {
 
     /// Returns the bucket of windows with this hash.
     #[inline]
-    fn bucket_of(&self, hash: u32) -> usize {
-        (u64::from(hash) * self.heads.len() as u64 / 0x1_0000_0000) as usize
+    fn bucket_of(&self, hash: u64) -> usize {
+        (hash / 0x1_0000_0000 * self.heads.len() as u64 / 0x1_0000_0000) as usize
     }
 
     /// Returns the first position at which `wanted` occurs in `cells`, or `None` if the table has
     /// no such window. `hash` is the hash of `wanted`.
     #[inline]
-    pub(crate) fn find(&self, cells: &[u32], wanted: &[u32], hash: u32) -> Option<usize> {
+    pub(crate) fn find(&self, cells: &[u32], wanted: &[u32], hash: u64) -> Option<usize> {
         let mut at = self.heads[self.bucket_of(hash)] as usize;
         while at > 0 {
             let start = self.starts[at - 1] as usize;
@@ -81,7 +81,7 @@ impl WindowTable {
     }
 
     /// Adds the next window, whose hash this is, unless the table has an equal one.
-    fn enter(&mut self, cells: &[u32], hash: u32) -> Result<(), AllocError> {
+    fn enter(&mut self, cells: &[u32], hash: u64) -> Result<(), AllocError> {
         let at = self.entered;
         if let Some(_first) = self.find(cells, &cells[at..at + self.size], hash) {
             self.entered = at + 1;

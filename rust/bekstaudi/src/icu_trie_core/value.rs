@@ -11,6 +11,7 @@ use crate::icu_zerovec::ule::AsULE;
 /// use bekstaudi::codepointtrie::{CodePointTrieBuilder, TrieType, TrieValue};
 /// use bekstaudi::zerovec::ule::AsULE;
 ///
+/// // `trie_values!` declares such an enum with all of these impls.
 /// /// Three of the general categories, with the numbers that ICU gives them.
 /// #[derive(Clone, Copy, Debug, PartialEq, Eq)]
 /// enum Category {

@@ -10,14 +10,14 @@ use crate::support::prelude::*;
 enum Numbers {
     /// All code points have this number.
     One(u32),
-    /// Each block of 16 has its own numbers, once something has been written.
+    /// Each block of 16 has its own numbers, once some code points have been written.
     InBlocks(Blocks),
 }
 
 /// A map from code points to 32-bit numbers.
 ///
-/// It stores a single number until the first write, and then blocks of 16 code points. A block of
-/// one number stores only that number; a mixed block has 16 cells.
+/// It stores a single number until the first write to only some code points, and then blocks of 16
+/// code points. A block of one number stores only that number; a mixed block has 16 cells.
 #[derive(Debug, Clone)]
 pub struct NumberMap {
     numbers: Numbers,
@@ -33,7 +33,8 @@ impl NumberMap {
         }
     }
 
-    /// Sets the number of each code point in `start..end`.
+    /// Sets the number of each code point in `start..end`. If these are all code points, it
+    /// allocates nothing, and the map stores a single number again.
     ///
     /// # Errors
     /// Returns `AllocError` if an allocation fails. The map is then unchanged.
@@ -45,6 +46,10 @@ impl NumberMap {
     ) -> Result<(), AllocError> {
         let numbers = &mut self.numbers;
         if start == end {
+            return Ok(());
+        }
+        if end - start == CODE_POINT_LIMIT as usize {
+            *numbers = Numbers::One(number);
             return Ok(());
         }
         match numbers {

@@ -41,6 +41,10 @@ impl<T> Vec<T> {
 
     pub fn truncate(&mut self, _: usize) {}
 
+    pub fn extend<I: Iterator<Item = T>>(&mut self, mut values: I) {
+        assert!(values.next().is_none());
+    }
+
     pub fn remove(&mut self, _: usize) -> T {
         unreachable!()
     }

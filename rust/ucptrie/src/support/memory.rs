@@ -166,6 +166,14 @@ pub(crate) trait TryString: Sized {
     fn try_push_str(&mut self, text: &str) -> Result<(), AllocError>;
 }
 
+/// Reserves capacity for one more character.
+#[cfg(feature = "alloc")]
+#[cold]
+#[inline(never)]
+fn grow(text: &mut String) -> Result<(), AllocError> {
+    text.try_reserve(4).map_err(|_| AllocError)
+}
+
 #[cfg(feature = "alloc")]
 impl TryString for String {
     fn from_str(text: &str) -> Result<Self, AllocError> {
@@ -180,8 +188,12 @@ impl TryString for String {
         Ok(made)
     }
 
+    #[inline(always)]
     fn try_push(&mut self, c: char) -> Result<(), AllocError> {
-        self.try_reserve(c.len_utf8()).map_err(|_| AllocError)?;
+        // One test for all characters: `push` then needs no test of its own.
+        if self.capacity() - self.len() < 4 {
+            grow(self)?;
+        }
         self.push(c);
         Ok(())
     }

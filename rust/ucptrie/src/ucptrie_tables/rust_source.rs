@@ -42,6 +42,7 @@ const LOOK_UP: &str = "
 
 /// The head of the module, with the header field by field.
 const HEAD: &str = "\
+#[allow(dead_code)]
 pub mod @ {
     pub type Value = u%;
 

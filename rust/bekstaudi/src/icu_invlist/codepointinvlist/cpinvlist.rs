@@ -202,12 +202,13 @@ impl<'data> CodePointInversionList<'data> {
     /// fails.
     #[inline]
     pub(crate) fn push_ends(&self, ends: &mut Vec<u32>, from: usize) -> Result<(), MemoryError> {
-        let packed = self.ends.as_slice();
-        let count = packed.len();
-        ends.try_room(count - from)?;
-        for i in from..count {
-            ends.push(u32::from(packed.at(i)));
-        }
+        let cells = self.ends.as_bytes()[3 * from..].as_chunks::<3>().0;
+        ends.try_room(cells.len())?;
+        ends.extend(
+            cells
+                .iter()
+                .map(|cell| u32::from_le_bytes([cell[0], cell[1], cell[2], 0])),
+        );
         Ok(())
     }
 

@@ -1,6 +1,5 @@
 //! Packing and unpacking of boundaries.
 
-use crate::icu_zerovec::ule::AsULE;
 use crate::icu_zerovec::{MemoryError, PotentialCodePoint, ZeroVec};
 use crate::support::prelude::*;
 
@@ -15,16 +14,50 @@ pub(super) fn unpacked(
     Ok(points)
 }
 
-/// Returns the boundaries packed in three bytes each, lowest byte first.
-pub(super) fn pack(ends: &[u32]) -> Result<Vec<u8>, MemoryError> {
-    let mut bytes = Vec::with_room(ends.len() * 3)?;
+/// Writes the bytes to `out` from index `at` on.
+#[inline(always)]
+fn write(out: &mut [u8], at: usize, bytes: &[u8]) {
+    out[at..at + bytes.len()].copy_from_slice(bytes);
+}
+
+/// Writes the boundaries to `out`, packed in three bytes each, and one byte more.
+///
+/// Each write has four bytes, of which the next one overwrites the last: this takes one store per
+/// boundary.
+#[inline]
+fn pack_into(out: &mut [u8], ends: &[u32]) {
+    let mut at = 0;
     for end in ends {
-        let cell = PotentialCodePoint::from_u24(*end).to_unaligned();
-        bytes.push(cell[0]);
-        bytes.push(cell[1]);
-        bytes.push(cell[2]);
+        write(out, at, &end.to_le_bytes());
+        at += 3;
     }
+}
+
+/// Returns the boundaries packed in three bytes each, lowest byte first. For no boundaries it
+/// allocates nothing.
+pub(super) fn pack(ends: &[u32]) -> Result<Vec<u8>, MemoryError> {
+    if ends.is_empty() {
+        return Ok(Vec::new());
+    }
+    let size = ends.len() * 3;
+    let mut bytes = Vec::from_elem(0, size + 1)?;
+    pack_into(&mut bytes, ends);
+    bytes.truncate(size);
     Ok(bytes)
+}
+
+/// Returns the byte before cell `i` and the three bytes of the cell as a number, lowest byte first.
+/// It is a single read.
+#[inline(always)]
+pub(super) fn word_of(bytes: &[u8], i: usize) -> u32 {
+    let start = i * 3 - 1;
+    match bytes
+        .get(start..start + 4)
+        .and_then(<[u8]>::first_chunk::<4>)
+    {
+        Some(four) => u32::from_le_bytes(*four),
+        None => unreachable!(),
+    }
 }
 
 /// Copies the numbers, with 0xFFFFFF in place of any number that needs more than 24 bits. That is

@@ -1,36 +1,72 @@
 //! Searches for a code point among the boundaries of a set.
 
 use super::CodePointInversionList;
+use super::packing::word_of;
 
 impl<'data> CodePointInversionList<'data> {
-    /// Returns how many boundaries are at most `c`, given that the result is in `low..=low + size`.
+    /// Returns true if the boundary at index `i`, which is not the first, is at most `c`.
     ///
-    /// Each step halves the remaining range whatever it reads, so for a constant `size` the
-    /// compiler unrolls the loop.
+    /// A boundary and the byte before it are one number of four bytes, which takes one comparison
+    /// in memory. That byte is the lowest, so any value of it gives the same result.
+    #[inline(always)]
+    fn is_up_to(&self, i: usize, c: u32) -> bool {
+        word_of(self.ends.as_bytes(), i) < (c + 1) << 8
+    }
+
+    /// Returns how many of the next three steps from `low` end at a boundary that is at most `c`.
+    /// All boundaries before `low` must be at most `c`.
+    #[inline(always)]
+    fn steps_up_to(&self, low: usize, step: usize, c: u32) -> usize {
+        let first = self.is_up_to(low + step - 1, c);
+        let second = self.is_up_to(low + 2 * step - 1, c);
+        let third = self.is_up_to(low + 3 * step - 1, c);
+        first as usize + second as usize + third as usize
+    }
+
+    /// Returns how many boundaries are at most `c`, given that the result is in `low..=low + size`
+    /// and `size` is at most 2.
+    #[inline(always)]
+    fn place_of_two(&self, low: usize, size: usize, c: u32) -> usize {
+        if size == 0 {
+            return low;
+        }
+        let first = self.end_at(low) <= c;
+        if size == 1 {
+            return low + first as usize;
+        }
+        let second = self.end_at(low + 1) <= c;
+        low + first as usize + second as usize
+    }
+
+    /// Returns how many boundaries are at most `c`, given that the result is in `low..=low + size`
+    /// and `low` is not 0.
+    ///
+    /// Each round leaves a quarter of the range whatever it reads, so for a constant `size` the
+    /// compiler unrolls the loop. It adds up comparisons, so no branch depends on a value read.
     #[inline(always)]
     fn place_between(&self, low: usize, size: usize, c: u32) -> usize {
         let mut low = low;
         let mut size = size;
-        while size > 1 {
-            let half = size / 2;
-            low = core::hint::select_unpredictable(self.end_at(low + half) <= c, low + half, low);
-            size -= half;
+        while size > 2 {
+            let step = (size + 1) / 4;
+            low += step * self.steps_up_to(low, step, c);
+            size -= 3 * step;
         }
-        if size == 1 && self.end_at(low) <= c {
-            low + 1
-        } else {
-            low
-        }
+        self.place_of_two(low, size, c)
     }
 
-    /// Returns how many boundaries are at most `c`, for a set with `count` boundaries. If there are
-    /// only two, both are compared, without a search.
+    /// Returns how many boundaries are at most `c`, for a set with `count` boundaries, which are at
+    /// most four. It compares them all.
     #[inline(always)]
     fn place_of_few(&self, count: usize, c: u32) -> usize {
-        if count == 2 {
-            return usize::from(self.end_at(0) <= c) + usize::from(self.end_at(1) <= c);
+        if count == 0 {
+            return 0;
         }
-        self.place_between(0, count, c)
+        let first = usize::from(self.end_at(0) <= c) + usize::from(self.end_at(1) <= c);
+        if count == 2 {
+            return first;
+        }
+        first + usize::from(self.end_at(2) <= c) + usize::from(self.end_at(3) <= c)
     }
 
     /// Returns how many boundaries are at most `c`.
@@ -48,13 +84,14 @@ impl<'data> CodePointInversionList<'data> {
         } else if self.end_at(count - 1) <= c {
             count
         } else if count > 16 && c < self.end_at(16) {
-            self.place_between(0, 16, c)
+            self.place_between(1, 15, c)
         } else {
-            self.place_between(0, count, c)
+            self.place_between(1, count - 2, c)
         }
     }
 
-    /// Returns how many boundaries are at most `c`, given that at least `from` are.
+    /// Returns how many boundaries are at most `c`, given that at least `from` are, and at least
+    /// one.
     ///
     /// Doubles its steps until one passes `c`, then searches within the last step.
     #[inline]
@@ -83,6 +120,9 @@ impl<'data> CodePointInversionList<'data> {
                 return place;
             }
             place += 1;
+        }
+        if place == count {
+            return place;
         }
         self.place_past(place, c)
     }
