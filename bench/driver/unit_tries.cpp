@@ -1,5 +1,8 @@
 // Unit tries over generated lists of keys: listed, looked up and built. All libraries read ICU's
 // fast form.
+#ifndef WITHOUT_C
+#include "../../c/bekstaudi.h"
+#endif
 #include "bench.hpp"
 #include "calls.hpp"
 #include <algorithm>
@@ -190,6 +193,43 @@ static void compare_keys(const List &list, const UnicodeString &units,
     if (ours != keys || rust != keys) fail(list.name + ": the keys differ");
 }
 
+#ifndef WITHOUT_C
+// The value of each key, as icu_look finds it.
+static uint64_t c_look(const vector<uint8_t> &bytes, const List &list) {
+    uint64_t sum = 0;
+    size_t start = 0;
+    for (uint32_t end : list.ends) {
+        int32_t value = 7;
+        bks_units_get(PARTS(bytes), list.joined.data() + start, end - start, &value);
+        sum = mixed(sum, value);
+        start = end;
+    }
+    return sum;
+}
+
+// The longest key at each position, as icu_longest finds it.
+static uint64_t c_longest(const vector<uint8_t> &bytes, const vector<uint16_t> &text) {
+    uint64_t sum = 0;
+    for (size_t start = 0; start < text.size(); start++) {
+        int32_t value = 7;
+        const int64_t length =
+            bks_units_longest(PARTS(bytes), text.data() + start, text.size() - start, &value);
+        sum = mixed(mixed(sum, length < 0 ? 0 : length), value);
+    }
+    return sum;
+}
+
+static void read_by_c(const List &list, const UnicodeString &units, const vector<uint8_t> &bytes) {
+    const vector<uint16_t> text = text_of(list);
+    row(
+        "c_words", list.name + "-keys", list.joined.size(), [&] { return c_look(bytes, list); },
+        nullptr, [&] { return icu_look(units, list, false); });
+    row(
+        "c_words", list.name + "-longest", text.size(), [&] { return c_longest(bytes, text); },
+        nullptr, [&] { return icu_longest(units, text); });
+}
+#endif
+
 static void read(const List &list) {
     const UnicodeString units = icu_units(list, USTRINGTRIE_BUILD_FAST);
     const vector<uint8_t> bytes = bytes_of(units);
@@ -211,6 +251,9 @@ static void read(const List &list) {
             [&] { return ours_c16_longest(PARTS(bytes), PARTS(text)); }, nullptr,
             [&] { return icu_longest(units, text); });
     }
+#ifndef WITHOUT_C
+    if (wanted("c_words")) read_by_c(list, units, bytes);
+#endif
     if (!wanted("c16_look")) return;
     for (bool along : {false, true})
         row(
@@ -246,7 +289,8 @@ static void build(const List &list) {
 }
 
 void unit_tries() {
-    if (wanted("c16_iter") || wanted("c16_entries") || wanted("c16_look") || wanted("c16_longest"))
+    if (wanted("c16_iter") || wanted("c16_entries") || wanted("c16_look") ||
+        wanted("c16_longest") || wanted("c_words"))
         for (const List &list : {list_of("words", 10000, name), list_of("locales", 4000, locale),
                                  list_of("emoji", 3000, emoji), list_of("han", 20000, han)})
             read(list);
