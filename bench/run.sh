@@ -28,10 +28,7 @@ DEPS="icu_zerovec icu_invlist icu_frozen_sets icu_trie icu_trie_text icu_trie_bi
 DEPS="$DEPS icu_char16trie icu_char16trie_builder"
 with_loops() {
     mkdir -p "$work/copy/crates/bench_ours/src"
-    cp -r "$root/crates.txt" "$root/HANDLES" "$root/tests" "$work/copy"
-    for crate in "$root"/crates/*; do
-        ln -s "$(readlink -f -- "$crate")" "$work/copy/crates"
-    done
+    tar -C "$root" --exclude=out -cf - crates crates.txt HANDLES tests | tar -C "$work/copy" -xf -
     for file in "$here"/ours/*.rs; do
         cp "$file" "$work/copy/crates/bench_ours/src/$(basename -- "$file" .rs).rt"
     done
