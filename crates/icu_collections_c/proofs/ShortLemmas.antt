@@ -142,8 +142,8 @@ module _ (table : List ℕ) (held : Bool) (words bytes : List ℕ) (w : AreShort
         let rest : List ℕ = drop m bytes in
         let first : get_or rest 0 0 ≡ 192 + a = get_or-drop m bytes 0 0 ∙ (ap (λ (i : ℕ). get_or bytes i 0) (add-zero m) ∙ omega arith) in
         let second : get_or rest 1 0 ≡ 128 + b = get_or-drop m bytes 1 0 ∙ (sym is ∙ omega arith) in
-        let there : 1 < length rest = omega (arith, length-drop m bytes) in
-        let f = two_bytes_found rest a b first (omega arith) (omega arith) there second (omega arith) in
+        let more : 1 < length rest = omega (arith, length-drop m bytes, there) in
+        let f = two_bytes_found rest a b first (omega arith) (omega arith) more second (omega arith) in
         let c : ℕ = a * 64 + b in
         let s : m + 2 ≡ m + 1 + 1 = omega arith in
         subst AllFirst s (one_more (is_held table) held bytes m (omega arith) before.0 c 2 f.0 (f.1 ∙ sym (length-encode c))

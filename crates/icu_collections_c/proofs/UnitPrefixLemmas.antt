@@ -1,24 +1,17 @@
 -- The prefixes of a text that have a value, as a cursor passes the text.
-use Rattle.std.proofs.Common.{◌≡◌, ◌∙◌, refl, sym, ap, subst, ℕ, ℤ, zero, suc, ◌+◌, ◌-◌, ◌/◌, ◌%◌, ◌<◌, ◌≤◌, Bool, true, false, cond, nat_lt, not, List, [], ◌∷◌, ◌++◌, Option, Some, None, length, take, drop, append-nil, length-append, arith, inl, inr}
-use Rattle.std.specs.Prelude.{encode_utf8_all, map, nat_le, slice_get}
-use Rattle.std.specs.Char.{encode_utf8}
-use Rattle.std.specs.Char.Escape.{encode_utf16}
-use Rattle.std.specs.List.{flat_map}
+use Rattle.std.proofs.Common.{◌≡◌, ◌∙◌, refl, sym, ap, subst, ℕ, ℤ, zero, suc, ◌+◌, ◌-◌, ◌<◌, ◌≤◌, Bool, true, false, not, List, [], ◌∷◌, ◌++◌, Option, Some, None, length, take, drop, append-nil, length-append, arith, inl, inr}
+use Rattle.std.specs.Prelude.{map}
 use Rattle.std.specs.Str.{IsUtf8, chars}
 use Rattle.std.proofs.Math.ListN.{set}
-use Rattle.std.proofs.Math.Utf8.{encode, encodes}
 use Rattle.std.proofs.lemmas.Bool.{cases_lt}
-use Rattle.std.proofs.lemmas.Bool.Decides.{nat_tests}
-use Rattle.std.proofs.lemmas.Grind.{flat_map-append}
-use Rattle.std.proofs.lemmas.List.{drop_all, length-drop, length-map, length-take-le, map-append, take-append-drop, take_all}
-use Rattle.std.proofs.lemmas.Str.{encodes-append, encodes-chars, length-le-encodes}
+use Rattle.std.proofs.lemmas.List.{drop_all, length-drop, length-map, length-take-le, map-append, take_all}
+use Rattle.std.proofs.lemmas.Str.{encodes-chars, length-le-encodes}
 use Rattle.icu_char16trie.specs.Grammar.{IsTrieOf}
-use Rattle.icu_char16trie.specs.Matches.{HasValueAlong, front_units, match_at}
-use Rattle.icu_char16trie.specs.Steps.{InNode, StepsAlong, StepsTo, at_final, no_lead}
+use Rattle.icu_char16trie.specs.Matches.{HasValueAlong, match_at}
+use Rattle.icu_char16trie.specs.Steps.{StepsAlong}
 use Rattle.icu_char16trie.specs.UnitMap.{UnitMap, goes_on, value_of}
-use Rattle.icu_char16trie.specs.UnitPlaces.{At, HasPassed, ends_by, is_empty_at, value_at}
-use Rattle.icu_char16trie.specs.declared.place.Place.{Place}
-use Rattle.icu_char16trie.specs.declared.place.Place.TheVariants.{Node, Nowhere, Run}
+use Rattle.icu_char16trie.specs.UnitPlaces.{At, HasPassed, is_empty_at, value_at}
+use Rattle.icu_char16trie.specs.declared.place.Place.TheVariants.{Node}
 use Rattle.icu_char16trie.proofs.CallerLemmas.{none_along, none_beyond}
 use Rattle.icu_collections_c.specs.Buffers.{written}
 use Rattle.icu_collections_c.specs.UnitPrefixes.{AreValued, GivesPrefixes, HasFound, prefix_of}
