@@ -72,7 +72,9 @@ enum bks_status {
 enum bks_refusal {
     BKS_NO_MEMORY = -1,  /* an allocation failed */
     BKS_NO_TRIE = -2,    /* the trie was not made by bks_trie_open, or the units are not a trie */
-    BKS_NO_TEXT = -3,    /* the text is not UTF-8; of spans: not at their start */
+    BKS_NO_TEXT = -3,    /* the text is not UTF-8; of spans: not at their start. To find where, call
+                            bks_set_span(NULL, 0, text, size, false): it returns the offset of the
+                            first ill-formed sequence, or BKS_NO_TEXT if that is 0 */
     BKS_NO_KEY = -4,     /* no key of a unit trie is a prefix of the text */
     BKS_NO_FORM = -5,    /* the type or the width does not exist */
     BKS_WIDE_VALUE = -6, /* a value has more bits than the width */
@@ -207,9 +209,9 @@ int64_t bks_trie32_get_utf8(const bks_trie *trie, const char *text, size_t size,
 /* Writes the values of the characters of bytes that may be ill-formed UTF-8, in order, as many as
  * fit. An ill-formed part gets the error value: each part that the Unicode Standard replaces by one
  * U+FFFD (U+FFFD Substitution of Maximal Subparts). Returns how many values it wrote, and stores in
- * *taken how many bytes they stand for; it stops where the buffer or the text ends. So a long text
- * goes piece by piece: call it again with what follows these bytes. If the text itself comes in
- * pieces, a character that is cut off at the end of one counts as ill-formed: keep up to three
+ * *taken how many bytes they are from. It stops at the end of the buffer or the text. So a long
+ * text goes piece by piece: call it again with what follows these bytes. If the text itself comes
+ * in pieces, a character that is cut off at the end of one counts as ill-formed: keep up to three
  * bytes for the next piece. To find ill-formed parts, use an error value that no character has.
  * With room 1, *taken is the size of the first character. The fastest way to the values of a text.
  * ICU: UCPTRIE_FAST_U8_NEXT in a loop. */

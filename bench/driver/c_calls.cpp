@@ -1,6 +1,7 @@
 // This repository's C functions compared with ICU: inline look-ups, the values of a text at once,
-// the ranges of a trie, the set of a value, a build into a buffer, and the set of scattered points.
-#include "../../c/bekstaudi.h"
+// the ranges of a trie, the set of a value, a build into a buffer, and the set of scattered points;
+// the values of a text also by the C++ classes.
+#include "../../c/bekstaudi.hpp"
 #include "icu_trie.hpp"
 #include <algorithm>
 #include <unicode/uset.h>
@@ -100,6 +101,19 @@ static void copies(const string &name, const Opened &ours, const UCPTrie *icu, c
             }
             return sum;
         });
+}
+
+// The same by the C++ classes, at once.
+static void by_classes(const string &name, const Opened &ours, const UCPTrie *icu,
+                       const Text &one) {
+    const bekstaudi::trie8 trie(ours.bytes);
+    vector<uint8_t> values(CHARACTERS + 4);
+    row(
+        "cpp_copy_u8", name + "-" + one.name, CHARACTERS,
+        [&] {
+            return sum_of(values, trie.copy_values(one.bytes, values.data(), values.size()).values);
+        },
+        nullptr, [&] { return icu_values(icu, one.bytes, values); });
 }
 
 // Each range is mixed on its own. In a chain each would wait for the one before, and that only
@@ -214,6 +228,8 @@ void c_calls() {
         if (wanted("c_copy_u8"))
             for (size_t room : {256, CHARACTERS + 0})
                 for (const Text &one : texts(CHARACTERS)) copies(name, ours, icu.get(), one, room);
+        if (wanted("cpp_copy_u8"))
+            for (const Text &one : texts(CHARACTERS)) by_classes(name, ours, icu.get(), one);
         if (wanted("c_range_u8")) ranges("c_range_u8", name, ours, icu.get(), ranges_one_by_one);
         if (wanted("c_ranges_u8")) ranges("c_ranges_u8", name, ours, icu.get(), ranges_by_many);
         if (wanted("c_setfor_u8"))

@@ -1,6 +1,6 @@
 // Spans by this repository's C functions compared with ICU, over frozen sets and over boundaries: the
-// words of a text and what is between them in turn, and one long span.
-#include "../../c/bekstaudi.h"
+// words of a text and what is between them in turn, and one long span. Words also by the C++ classes.
+#include "../../c/bekstaudi.hpp"
 #include "icu_set.hpp"
 
 using icu::UnicodeSet;
@@ -67,11 +67,28 @@ static void over(const string &kernel, const Letters &letters, const string &nam
         nullptr, [&] { return icu_cut(text, letters.set.set); });
 }
 
+// The words of a text by the C++ classes.
+static void by_classes(const Letters &letters, const Text &text) {
+    static const bekstaudi::code_point_set set{bekstaudi::view<uint32_t>(letters.ends)};
+    static const bekstaudi::frozen_set frozen(set);
+    const double characters = double(count_of_characters(text.bytes)) * TURNS;
+    const auto icu = [&] { return icu_cut(text.bytes, letters.set.frozen); };
+    row(
+        "cpp_span_words", "frozen-" + text.name, characters,
+        [&] {
+            return cut(text.bytes, [&](const char *at, size_t left, bool held) -> size_t {
+                return frozen.span(std::string_view(at, left), held).size();
+            });
+        },
+        nullptr, icu);
+}
+
 void c_spans() {
-    if (!wanted("c_span_words") && !wanted("c_span_long")) return;
+    if (!wanted("c_span_words") && !wanted("c_span_long") && !wanted("cpp_span_words")) return;
     const Letters letters;
     for (const Text &text : texts(CHARACTERS)) {
         if (wanted("c_span_words")) over("c_span_words", letters, text.name, text.bytes);
+        if (wanted("cpp_span_words")) by_classes(letters, text);
         const string held = held_text(letters.set, text);
         if (wanted("c_span_long") && count_of_characters(held) >= FEWEST)
             over("c_span_long", letters, text.name, held);

@@ -1,7 +1,7 @@
 // Unit tries over generated lists of keys: listed, looked up and built. All libraries read ICU's
 // fast form.
 #ifndef WITHOUT_C
-#include "../../c/bekstaudi.h"
+#include "../../c/bekstaudi.hpp"
 #endif
 #include "bench.hpp"
 #include "calls.hpp"
@@ -219,6 +219,41 @@ static uint64_t c_longest(const vector<uint8_t> &bytes, const vector<uint16_t> &
     return sum;
 }
 
+static std::u16string_view view_of(const uint16_t *units, size_t count) {
+    return {reinterpret_cast<const char16_t *>(units), count};
+}
+
+// The same by the C++ classes.
+static uint64_t cpp_look(const bekstaudi::unit_trie &trie, const List &list) {
+    uint64_t sum = 0;
+    size_t start = 0;
+    for (uint32_t end : list.ends) {
+        sum = mixed(sum, trie[view_of(list.joined.data() + start, end - start)].value_or(7));
+        start = end;
+    }
+    return sum;
+}
+
+static uint64_t cpp_longest(const bekstaudi::unit_trie &trie, const vector<uint16_t> &text) {
+    uint64_t sum = 0;
+    for (size_t start = 0; start < text.size(); start++) {
+        const auto found = trie.longest(view_of(text.data() + start, text.size() - start));
+        sum = mixed(mixed(sum, found ? found->size : 0), found ? found->value : 7);
+    }
+    return sum;
+}
+
+static void read_by_classes(const List &list, const UnicodeString &units, const vector<uint8_t> &bytes) {
+    const bekstaudi::unit_trie trie(bytes);
+    const vector<uint16_t> text = text_of(list);
+    row(
+        "cpp_words", list.name + "-keys", list.joined.size(), [&] { return cpp_look(trie, list); },
+        nullptr, [&] { return icu_look(units, list, false); });
+    row(
+        "cpp_words", list.name + "-longest", text.size(), [&] { return cpp_longest(trie, text); },
+        nullptr, [&] { return icu_longest(units, text); });
+}
+
 static void read_by_c(const List &list, const UnicodeString &units, const vector<uint8_t> &bytes) {
     const vector<uint16_t> text = text_of(list);
     row(
@@ -253,6 +288,7 @@ static void read(const List &list) {
     }
 #ifndef WITHOUT_C
     if (wanted("c_words")) read_by_c(list, units, bytes);
+    if (wanted("cpp_words")) read_by_classes(list, units, bytes);
 #endif
     if (!wanted("c16_look")) return;
     for (bool along : {false, true})
@@ -290,7 +326,7 @@ static void build(const List &list) {
 
 void unit_tries() {
     if (wanted("c16_iter") || wanted("c16_entries") || wanted("c16_look") ||
-        wanted("c16_longest") || wanted("c_words"))
+        wanted("c16_longest") || wanted("c_words") || wanted("cpp_words"))
         for (const List &list : {list_of("words", 10000, name), list_of("locales", 4000, locale),
                                  list_of("emoji", 3000, emoji), list_of("han", 20000, han)})
             read(list);

@@ -133,6 +133,7 @@ static void ill_formed(void) {
                 int64_t first = before ? (int64_t)front : BKS_NO_TEXT, last = after ? (int64_t)back : BKS_NO_TEXT;
                 CHECK(bks_frozen_span(room, (size_t)size, text, end, true) == first);
                 CHECK(bks_set_span(all, 2, text, end, true) == first);
+                CHECK(bks_set_span(NULL, 0, text, end, false) == first);
                 CHECK(bks_frozen_span(room, (size_t)size, text, end, false) == (before ? 0 : BKS_NO_TEXT));
                 CHECK(bks_set_span(all, 2, text, end, false) == (before ? 0 : BKS_NO_TEXT));
                 CHECK(bks_frozen_span_back(room, (size_t)size, text, end, true) == last);
