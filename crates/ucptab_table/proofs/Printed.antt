@@ -7,12 +7,18 @@ use Rattle.std.specs.Fmt.{digits, padded_integral, format_spec, char_count}
 use Rattle.std.proofs.KnownBytes.{Appends-trans}
 use Rattle.std.proofs.lemmas.Fmt.{decimal_digit, decimal_step}
 use Rattle.icu_trie_core.specs.Runs.{Run}
+use Rattle.ucptab_table.specs.Messages.{byte_text}
 use Rattle.ucptab_table.specs.TableText.{answer_line, hex_text, run_line}
 
 -- `{:04X}`
 pub hex_written : (n : ℕ) → padded_integral (format_spec 32 0 4 4 (2 ^ 64 - 1)) false [] (digits 16 true n) ≡ hex_text n
 unfolding padded_integral hex_text char_count
 hex_written n = simp (sub-zero, append-nil)
+
+-- `{:02x}`
+pub byte_written : (n : ℕ) → padded_integral (format_spec 32 0 4 2 (2 ^ 64 - 1)) false [] (digits 16 false n) ≡ byte_text n
+unfolding padded_integral byte_text char_count
+byte_written n = simp (sub-zero, append-nil)
 
 -- the line of a run after a text, in its two parts and in one
 pub run_line-range : (text : List ℕ) (r : Run ℕ) → r.first < r.last

@@ -11,7 +11,7 @@ use Rattle.ucptab_table.specs.declared.fault.TableError.TheVariants.{Row}
 use Rattle.ucptab_table.specs.TableText.{row_of, write_of, IsFaultless, AreRows, IsFirstFault}
 
 -- The first line that is left is the line at this index.
-slice_get_left : (all : List (List ℕ)) (n : ℕ) (line : List ℕ) (more : List (List ℕ)) → drop n all ≡ line ∷ more
+pub slice_get_left : (all : List (List ℕ)) (n : ℕ) (line : List ℕ) (more : List (List ℕ)) → drop n all ≡ line ∷ more
     → slice_get all n ≡ Some line
 slice_get_left [] zero line more left = cc
 slice_get_left [] (suc n) line more left = cc
@@ -33,7 +33,8 @@ module _ (all : List (List ℕ)) (n : ℕ) (line : List ℕ) (more : List (List 
   pub left_after : drop (n + 1) all ≡ more
   left_after = let e = split in cc
 
-  front : take (n + 1) all ≡ take n all ++ line ∷ []
+  -- the lines so far and this one
+  pub front : take (n + 1) all ≡ take n all ++ line ∷ []
   front = let e = split in let at : get_or all n line ≡ line = cc in take_more all n line within ∙ ap (λ x. take n all ++ x ∷ []) at
 
   -- the lines so far and this one have no fault

@@ -1,5 +1,6 @@
 //! Why the program fails, and the line that says so.
 ghost use Rattle.std.specs.Prelude.{◌≡◌, ◌⊎◌, Some};
+ghost use Rattle.ucptab_table.specs.Messages.{expected_text};
 ghost use Rattle.ucptab_table.specs.TableText.{fault_text, row_fault_text};
 ghost use Rattle.ucptab_table.specs.declared.fault.TableError.TheVariants.{Memory, TooLarge};
 
@@ -31,6 +32,18 @@ impl RowFault {
             RowFault::CodePoint => "code point too large",
             RowFault::Reversed => "range reversed",
             RowFault::Value => "value too large",
+        }
+    }
+
+    /// Returns what the test that failed expects of a row, in words.
+    pub fn expected(self) -> &'static str
+        ensures { result.now ≡ expected_text self }
+    {
+        match self {
+            RowFault::NotARow => "HEX;VALUE or HEX..HEX;VALUE",
+            RowFault::CodePoint => "code points up to 10FFFF",
+            RowFault::Reversed => "a range whose end is not below its start",
+            RowFault::Value => "a value up to 4294967295",
         }
     }
 }

@@ -1,5 +1,5 @@
 //! Reads a table: its bytes, its lines and its rows.
-ghost use Rattle.std.specs.Prelude.{◌≡◌, ◌⊎◌, ◌<◌, ℕ, length, ◌∷◌, [], IfOk, IfErr, IfSome, IfNone};
+ghost use Rattle.std.specs.Prelude.{◌≡◌, ◌⊎◌, ◌<◌, ◌-◌, ℕ, length, ◌∷◌, [], slice_get, option_map, IfOk, IfErr, IfSome, IfNone};
 ghost use Rattle.std.specs.Io.KnownBytes.{IsAtEnd};
 ghost use Rattle.std.specs.Str.Lines.{lines, strip_carriage_return};
 ghost use Rattle.ucptab_table.specs.TableText.{AreRows, IsFirstFault};
@@ -54,7 +54,7 @@ fn strip_carriage_return(line: &[u8]) -> &[u8]
 }
 
 /// Returns the first line and what follows its line feed, or `None` if there is no line.
-fn first_line(input: &[u8]) -> Option<(&[u8], &[u8])>
+pub fn first_line(input: &[u8]) -> Option<(&[u8], &[u8])>
     ensures none { IfNone result (lines input.now ≡ []) }
     ensures some { IfSome result (λ cut. lines input.now ≡ cut.0.now ∷ lines cut.1.now) }
     ensures shorter { IfSome result (λ cut. length cut.1.now < length input.now) }
@@ -67,6 +67,24 @@ fn first_line(input: &[u8]) -> Option<(&[u8], &[u8])>
         return None;
     }
     Some((input, &[]))
+}
+
+/// Returns the line of this number, counted from 1, without its line end, or `None` if there are
+/// fewer lines.
+pub fn line_at(input: &[u8], number: u64) -> Option<&[u8]>
+    ensures { 0 < number
+        → option_map (λ line. line.now) result ≡ slice_get (lines input.now) (number - 1) }
+{
+    let mut left = number;
+    let mut others = input;
+    while let Some((line, after)) = first_line(others) {
+        if left <= 1 {
+            return Some(line);
+        }
+        left -= 1;
+        others = after;
+    }
+    None
 }
 
 /// Returns the writes of all rows of the table, in order.

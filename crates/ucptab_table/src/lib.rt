@@ -14,6 +14,7 @@ ghost use Rattle.ucptab_table.specs.declared.fault.TableError.TheVariants.{Memor
 pub mod digits;
 pub mod fault;
 pub mod input;
+pub mod message;
 pub mod rows;
 pub mod streams;
 pub mod text;

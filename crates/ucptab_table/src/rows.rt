@@ -82,7 +82,7 @@ pub fn after(mark: u8, bytes: &[u8]) -> &[u8]
 
 /// Returns the code points of the field `HEX` or `HEX..HEX`, or `None` for any other field.
 #[tactic(auto, unfolding(crate::specs::TableText::code_points_of))]
-fn code_points_of(field: &[u8]) -> Option<CodePoints>
+pub fn code_points_of(field: &[u8]) -> Option<CodePoints>
     ensures { result ≡ code_points_of field.now }
 {
     if let [b'.', end @ ..] = after(b'.', field) {
@@ -120,7 +120,7 @@ fn row_of_numbers(points: CodePoints, value: u64) -> Result<Write<u32>, RowFault
 
 /// Returns the line without its comment, which starts at the first `#`, and without leading and
 /// trailing blanks.
-fn content_of(line: &[u8]) -> &[u8]
+pub fn content_of(line: &[u8]) -> &[u8]
     ensures { result.now ≡ content_of line.now }
 {
     trimmed(before(b'#', line))
