@@ -1,7 +1,9 @@
+mod AskedLemmas
 mod DifferenceLemmas
 mod JsonLemmas
 mod Printed
 mod SameNumbers
+mod RebuildLemmas
 mod ShownLemmas
 mod TomlLemmas
 mod WidthLemmas

@@ -1,6 +1,9 @@
+pub mod Asked
+pub mod Comparison
 pub mod Differences
 pub mod Files
 pub mod Inside
+pub mod Rebuilt
 pub mod Shown
 pub mod Tables
 pub mod TomlFiles

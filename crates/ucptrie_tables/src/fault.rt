@@ -99,12 +99,22 @@ impl TomlFault {
         let line = 1 + before.filter(|byte| *byte == b'\n').count();
         TomlFault { line, error }
     }
+
+    /// Returns the line, counted from 1.
+    pub fn line(&self) -> usize {
+        self.line
+    }
+
+    /// Returns what is wrong with it.
+    pub fn message(&self) -> &str {
+        self.error.message()
+    }
 }
 
 /// Writes the line and the message, without a line feed.
 impl fmt::Display for TomlFault {
     fn fmt<W: fmt::Write>(&self, f: &mut fmt::Formatter<W>) -> fmt::Result {
-        let (line, message) = (self.line, self.error.message());
+        let (line, message) = (self.line, self.message());
         write!(f, "line {line}: {message}")
     }
 }
@@ -115,22 +125,22 @@ impl error::Error for TomlFault {}
 #[derive(Debug, Drop, Error)]
 pub enum ReadFault {
     /// It has the signature of ICU's binary form, and is not a trie in it.
-    #[error("{0}")]
+    #[error("not a trie in ICU's binary form: {0}")]
     Binary(BinaryError),
     /// It has no signature, and is not a text in UTF-8.
-    #[error("neither a trie in the binary form nor a text in UTF-8")]
+    #[error("neither a trie in ICU's binary form nor a text in UTF-8")]
     Text,
     /// It starts with `{`, and is not JSON.
-    #[error("{0}")]
+    #[error("not JSON: {0}")]
     Json(serde_json::Error),
     /// Its JSON is not a trie.
-    #[error("{0}")]
+    #[error("the JSON is not a trie: {0}")]
     TrieJson(TrieJsonError),
     /// It is not TOML, nor in any of the other forms.
     #[error("not TOML: {0}")]
     Toml(TomlFault),
     /// Its TOML is not a trie.
-    #[error("{0}")]
+    #[error("the TOML is not a trie: {0}")]
     TrieToml(TrieFromTomlError),
     /// An allocation failed.
     #[error("no memory")]

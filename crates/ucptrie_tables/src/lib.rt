@@ -5,9 +5,12 @@
 //! - `width`: how many bits a value has in a file; `values`: the same numbers as values of another
 //!   type
 //! - `read`: the table that a file has in ICU's binary form, in JSON or in TOML
+//! - `properties`: the table of one of the properties in a TOML file
 //! - `written`: a table in one of the forms, as the bytes of a file
 //! - `shown`: what a table is, in lines, and its ranges; `sizes`: the bounds on its cells
-//! - `diff`: the ranges in which two tables differ
+//! - `diff`: the ranges in which two tables differ; `compare`: where two files differ
+//! - `rebuild`: the same values in a trie of another type, with another width or error value
+//! - `asked`: the numbers that words and texts ask for
 //! - `source`: names in C and in Rust; `c_source` and `rust_source` write these; `pattern`: texts
 //!   with places for a name and for numbers; `cells`: the cells of a trie as numbers in a text
 //! - `toml_text`: a table in TOML
@@ -24,12 +27,16 @@ ghost use Rattle.ucptrie_tables.specs.Tables.{binary_bytes, IsTableOf, IsWhyNotB
 ghost use Rattle.ucptrie_tables.specs.declared.fault.BuildFault.TheVariants.{Table as TableFault};
 ghost use Rattle.ucptrie_tables.specs.declared.table.Table.{Table};
 
+pub mod asked;
 mod c_source;
 mod cells;
+pub mod compare;
 pub mod diff;
 pub mod fault;
 mod pattern;
+pub mod properties;
 pub mod read;
+pub mod rebuild;
 mod rust_source;
 pub mod shown;
 pub mod sizes;

@@ -1,10 +1,12 @@
 //! The table that a file has.
-ghost use Rattle.std.specs.Prelude.{◌≡◌, ◌^◌, ◌<◌, ℕ, true, false, option_map, Err, IfErr, IfOk, MatchResult};
+ghost use Rattle.std.specs.Prelude.{◌≡◌, ◌^◌, ◌<◌, ℕ, Some, true, false, option_map, Err, IfErr, IfOk, IfSome, MatchResult};
 ghost use Rattle.toml.specs.Data.{get_member};
+ghost use Rattle.toml.specs.Parse.{parse_document};
 ghost use Rattle.toml.specs.View.{table_view, view};
 ghost use Rattle.icu_trie_core.specs.ValueNumbers.{fitting};
 ghost use Rattle.ucptrie_tables.specs.Files.{HasNoForm, HasSignature, HasSwappedSignature, IsBinaryOf, IsJsonOf, IsSwappedOf, IsTakenForJson, IsTakenForToml, IsTomlOf, IsWhyNoBinary, IsWhyNoJson, IsWhyNoSwapped, IsWhyNoToml, starts_object};
 ghost use Rattle.ucptrie_tables.specs.Inside.Numbers.{HasNumbersOf};
+ghost use Rattle.ucptrie_tables.specs.Inside.TomlTries.{IsTomlTrieOf, IsWhyNoTomlTrie, IsWhyNotToml};
 ghost use Rattle.ucptrie_tables.specs.TomlFiles.{first_property, trie_of_property, trie_of_table, trie_table, width_of};
 ghost use Rattle.ucptrie_tables.specs.declared.fault.ReadFault.TheVariants.{Memory, Text};
 
@@ -92,7 +94,7 @@ fn table_of_json(alloc: Global, text: &str) -> Result<Table, ReadFault>
 }
 
 /// Returns the value at a key.
-fn value_at<'a>(table: &'a toml::Table, key: &str) -> Option<&'a toml::Value>
+pub(crate) fn value_at<'a>(table: &'a toml::Table, key: &str) -> Option<&'a toml::Value>
     ensures { option_map (λ v. view v.now) result ≡ get_member key.now (table_view table.now) }
 {
     table.get(key)
@@ -110,7 +112,7 @@ fn first_property(property: &toml::Value) -> Option<&toml::Value>
 
 /// Returns the trie of a property's table. For normalization, icuexportdata writes a trie in its
 /// place.
-fn trie_of_table(property: &toml::Table) -> Option<&toml::Table>
+pub(crate) fn trie_of_table(property: &toml::Table) -> Option<&toml::Table>
     ensures { option_map (λ t. table_view t.now) result ≡ trie_of_table (table_view property.now) }
 {
     match value_at(property, "code_point_trie") {
@@ -151,20 +153,43 @@ fn width_of(read: &CodePointTrieToml) -> ValueWidth
     }
 }
 
+/// Reads a TOML file.
+pub(crate) fn file_of_toml(alloc: Global, text: &str) -> Result<toml::Table, ReadFault>
+    ensures ok { IfOk result (λ file. parse_document text.now ≡ Some (table_view file)) }
+    ensures err { IfErr result (IsWhyNotToml text.now) }
+{
+    match toml::table_from_str(alloc, text) {
+        Ok(file) => Ok(file),
+        Err(error) if error.is_memory() => Err(ReadFault::Memory),
+        Err(error) => Err(ReadFault::Toml(TomlFault::new(text, error))),
+    }
+}
+
+/// Returns the table of a trie in TOML.
+pub(crate) fn table_of_members(alloc: Global, table: &toml::Table) -> Result<Table, ReadFault>
+    ensures ok { IfOk result (IsTomlTrieOf (table_view table.now)) }
+    ensures err { IfErr result (IsWhyNoTomlTrie (table_view table.now)) }
+{
+    let read = CodePointTrieToml::from_table(alloc, table)?;
+    let trie = CodePointTrie::try_from(&read)?;
+    let width = width_of(&read);
+    Ok(Table { trie, width })
+}
+
 /// Reads a table in TOML.
 fn table_of_toml(alloc: Global, text: &str) -> Result<Table, ReadFault>
     ensures ok { IfOk result (IsTomlOf text.now) }
     ensures err { IfErr result (IsWhyNoToml text.now) }
 {
-    let file = match toml::table_from_str(alloc, text) {
-        Ok(file) => file,
-        Err(error) if error.is_memory() => return Err(ReadFault::Memory),
-        Err(error) => return Err(ReadFault::Toml(TomlFault::new(text, error))),
-    };
-    let read = CodePointTrieToml::from_table(alloc, trie_table(&file))?;
-    let trie = CodePointTrie::try_from(&read)?;
-    let width = width_of(&read);
-    Ok(Table { trie, width })
+    let file = file_of_toml(alloc, text)?;
+    table_of_members(alloc, trie_table(&file))
+}
+
+/// Returns whether a text is taken for JSON: whether its first byte after white space is `{`.
+fn is_object(text: &str) -> bool
+    ensures { result ≡ starts_object text.now }
+{
+    text.trim_start().starts_with('{')
 }
 
 /// Reads a table in JSON or in TOML.
@@ -174,11 +199,22 @@ fn table_of_text(alloc: Global, text: &str) -> Result<Table, ReadFault>
     ensures toml { starts_object text.now ≡ false
         → MatchResult result (IsTomlOf text.now) (IsWhyNoToml text.now) }
 {
-    if text.trim_start().starts_with('{') {
+    if is_object(text) {
         table_of_json(alloc, text)
     } else {
         table_of_toml(alloc, text)
     }
+}
+
+/// Returns the text of a file that is taken for TOML, or `None` for any other file.
+pub(crate) fn toml_text(file: &[u8]) -> Option<&str>
+    ensures { IfSome result (λ text. IsTakenForToml file.now × (text.now ≡ file.now)) }
+{
+    if let [b'3', b'i', b'r', b'T', ..] | [b'T', b'r', b'i', b'3', ..] = file {
+        return None;
+    }
+    let text = str::from_utf8(file).ok()?;
+    if !is_object(text) { Some(text) } else { None }
 }
 
 /// Reads the table that a file has.

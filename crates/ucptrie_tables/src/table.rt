@@ -36,7 +36,7 @@ pub struct TableOptions {
 }
 
 /// Returns the first value in the trie's data that has more bits.
-fn first_wider(trie: &CodePointTrie<'_, u32>, width: ValueWidth) -> Option<u32>
+pub(crate) fn first_wider(trie: &CodePointTrie<'_, u32>, width: ValueWidth) -> Option<u32>
     ensures none { IfNone result (All (λ v. v < 2 ^ bits_of width) trie.now.values) }
     ensures first { result ≡ first_wider width trie.now.values }
 {

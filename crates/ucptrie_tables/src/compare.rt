@@ -1,0 +1,52 @@
+//! Where the bytes of a file differ from those that it should have.
+ghost use Rattle.std.specs.Prelude.{◌≡◌, ◌≢◌, ◌+◌, ◌≤◌, length, IfNone, IfSome, slice_get, take};
+ghost use Rattle.ucptrie_tables.specs.Comparison.{line_feeds, IsFirstDifference};
+
+/// The first difference of two byte strings.
+#[derive(Clone, Copy, Debug, PartialEq, Eq)]
+pub struct Difference {
+    /// How many bytes before it are equal.
+    pub offset: usize,
+    /// Its line, counted from 1.
+    pub line: usize,
+}
+
+/// Counts the line feeds.
+fn line_feeds(bytes: &[u8]) -> usize
+    ensures { result ≡ line_feeds bytes.now }
+{
+    bytes.iter().filter(|byte| **byte == b'\n').count()
+}
+
+/// Returns how many bytes at the start are equal.
+fn equal_bytes(found: &[u8], wanted: &[u8]) -> usize
+    ensures same { take result found.now ≡ take result wanted.now }
+    ensures other { found.now ≢ wanted.now
+        → slice_get found.now result ≢ slice_get wanted.now result }
+    ensures within { result ≤ length wanted.now }
+{
+    let shorter = found.len().min(wanted.len());
+    for place in 0..shorter {
+        if found[place] != wanted[place] {
+            return place;
+        }
+    }
+    shorter
+}
+
+/// Returns the first difference of the bytes that a file has from those that are wanted, or `None`
+/// if they are equal.
+pub fn first_difference(found: &[u8], wanted: &[u8]) -> Option<Difference>
+    ensures none { IfNone result (found.now ≡ wanted.now) }
+    ensures first { IfSome result (λ d. IsFirstDifference found.now wanted.now d.offset) }
+    ensures line { IfSome result (λ d. d.line ≡ line_feeds (take d.offset wanted.now) + 1) }
+{
+    if found == wanted {
+        return None;
+    }
+    let offset = equal_bytes(found, wanted);
+    Some(Difference {
+        offset,
+        line: line_feeds(&wanted[..offset]) + 1,
+    })
+}
