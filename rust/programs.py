@@ -18,7 +18,7 @@ PUBLIC = {
     r"icu_trie_formats": "codepointtrie",
     r"icu_trie_binary::binary": "codepointtrie::binary",
     r"icu_trie(?:_core)?::(?:cptrie|header|map_value|range|value)": "codepointtrie",
-    r"icu_trie_builder(?:::(?:error|writes))?": "codepointtrie",
+    r"icu_trie_builder(?:::(?:builder|error|writes))?": "codepointtrie",
 }
 RULES = [
     (r"\bicu_trie_core::cells::Steps\b", "crate::ledger::Steps"),
@@ -29,14 +29,16 @@ RULES = [
     (r"\bErr\(MapError::Memory\)(?= =>)", "Err(_)"),
     (r"\buse std::str;\n", ""),
     (r"\buse std::\{error, fmt\};", "use core::{error, fmt};"),
-    (r"\buse std::\{env, fs, io\};", "use crate::host::{env, fs, io};"),
+    (r"\buse std::\{((?:env|fs|io)(?:, (?:env|fs|io))*)\};", r"use crate::host::{\1};"),
     (r"\bstd::(env|fs|io|process|collections::BTreeSet)\b", lambda it: f"crate::host::{it[1].split('::')[-1]}"),
     (r"\beprintln!\(rt; ", "writeln!(io::stderr(), "),
-    # anyhow, clap, serde_json and toml.
-    (r"\buse anyhow::", "use crate::context::"),
+    # clap, serde_json and toml.
     (r"\buse clap::builder::ValueParser;", "use crate::formats::ValueParser;"),
     (r"\buse clap::error::ErrorKind;\n", ""),
     (r"\b(ArgMatches|Arg|Command)<'\w+>", r"\1"),
+    (r"\bmatches\.get_str\((\x02\d+\x03|id)\)", r"matches.get_one::<String>(\1).map(String::as_str)"),
+    (r"\bmatches\.get_one\((\x02\d+\x03)\)", r"matches.get_one::<u32>(\1).copied()"),
+    (r"\bmatches\.get_strs(\(\x02\d+\x03\))\.unwrap_or\(&\[\]\)", r"matches.get_many::<String>\1.into_iter().flatten()"),
     (r"\bValue::from_str\(alloc, ", "serde_json::from_str::<Value>("),
     (r"\btoml::table_from_str\(alloc, ", "crate::formats::table_from_str("),
     (r"\btoml::Table\b", "toml::value::Table"),
@@ -45,18 +47,13 @@ RULES = [
 # What one source has in another form here, and how often.
 EDITS = {
     "ucptrie/main": [
-        (r"\bfn form<'a>(\(matches: &ArgMatches\) -> Result<Form)<'a>", r"fn form\1<'_>", 1),
-        (r"matches\.get_str\((\x02\d+\x03|id)\)", r"matches.get_one::<String>(\1).map(String::as_str)", 6),
-        (r"matches\.get_one\((\x02\d+\x03)\)", r"matches.get_one::<u32>(\1).copied()", 2),
-        (r"matches\.get_strs(\(\x02\d+\x03\))\.unwrap_or\(&\[\]\)", r"matches.get_many::<String>\1.into_iter().flatten()", 1),
         # clap ends the program if an allocation fails.
-        (r"use crate::support::AllocError;\n", "", 1),
         (r"(?s)    if matches!\(error\.kind\(\), ErrorKind::OutOfMemory\) \{.*?\n    \}\n", "", 1),
-        (r"fn not_taken\(rt: &HostRuntime, ", "fn not_taken(", 1),
-        (r"not_taken\(rt, ", "not_taken(", 1),
         (r"error\.print\(rt\)", "error.print()", 1),
         (r"error\.exit_code\(\) as u8", "if error.use_stderr() { 2 } else { 0 }", 1),
     ],
+    "ucptrie/output": [(r"\bfn target<'a>(\(matches: &ArgMatches\) -> Result<Target)<'a>", r"fn target\1<'_>", 1)],
+    "ucptrie/tables": [(r"\bfn form<'a>(\(matches: &ArgMatches\) -> Result<Form)<'a>", r"fn form\1<'_>", 1)],
     "ucptrie/words": [
         (r"(name|about): &'a str", r"\1: &'static str", 2),
         (r"(\.arg\(arg_of\(row\)\))\?", r"\1", 1),

@@ -45,13 +45,14 @@ def of_one_version(where, pattern):
 
 
 def versions():
-    """The version of the header and of each package is that of the file VERSION."""
+    """The version of the header, of each package and of ucptrie is that of the file VERSION."""
     yield of_one_version("c/bekstaudi.h", r'#define BKS_VERSION "([^"]*)"')
     parts = "".join(f"{int(it):02}" for it in version().split(".")).lstrip("0")
     with open(f"{TOP}/c/bekstaudi.h", encoding="utf-8") as file:
         found = re.findall(r"#define BKS_VERSION_NUMBER (\d+)", file.read())
     print(f"BKS_VERSION_NUMBER: {found}")
     yield found == [parts]
+    yield of_one_version("crates/ucptrie/src/words.rt", r'\bVERSION: &str = "([^"]*)"')
     for package in ("bekstaudi", "bekstaudi-c", "ucptab", "ucptrie"):
         yield of_one_version(f"rust/{package}/Cargo.toml", r'(?m)^(?:bekstaudi = \{ )?version = "([^"]*)"')
 

@@ -16,6 +16,12 @@ def bytes_of(text):
     return re.sub(rb"\\(r|t|\\|x[0-9a-f]{2})", byte, said)
 
 
+def word_of(text):
+    """A word of a command line, in which \\xHH is this byte."""
+    byte = lambda it: bytes([int(it[1], 16)])
+    return os.fsdecode(re.sub(rb"\\x([0-9a-f]{2})", byte, os.fsencode(text)))
+
+
 def changed(source, changes):
     """The bytes of a file of the data, with some of them changed."""
     found = bytearray(open(f"{DATA}/{source}", "rb").read())
@@ -59,15 +65,21 @@ class Row:
         lines = [shlex.split(it) for it in self.texts("$")]
         choices = [word.split("|") for words in lines for word in words]
         for chosen in itertools.product(*choices):
-            left = iter(chosen)
+            left = map(word_of, chosen)
             yield [[next(left) for _ in words] for words in lines]
 
     def settings(self):
         """The values of the words behind `?`, for each run."""
         given = dict(it.partition(" ")[::2] for it in self.texts("?"))
+        given.pop("memory", None)
         numbers = {it.upper(): given[it].split() for it in given if given[it]}
         for chosen in itertools.product(*numbers.values()):
             yield dict(zip(numbers, chosen))
+
+    def memory(self):
+        """The status of a run in which an allocation fails, or None if none is to fail."""
+        given = dict(it.partition(" ")[::2] for it in self.texts("?"))
+        return int(given["memory"] or 1) if "memory" in given else None
 
     def inputs(self):
         """The input of each run."""

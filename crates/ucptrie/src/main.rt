@@ -2,219 +2,129 @@
 //! and reads and shows them.
 #![tactic(auto)]
 
+mod asked;
+mod build;
+mod convert;
+mod fault;
 mod names;
+mod output;
+mod streams;
+mod tables;
 mod words;
 
-use anyhow::{Context, Error, Result, anyhow};
+use crate::asked::asked;
+use crate::build::build;
+use crate::convert::convert;
+use crate::fault::{Fault, about, about_arguments};
+use crate::output::{deliver, target};
+use crate::streams::{put, say};
+use crate::tables::table_at;
+use crate::words::program_words;
 use clap::ArgMatches;
 use clap::error::ErrorKind;
-use icu_trie_core::header::TrieType;
-use names::{module_name, name_of};
-use std::alloc::AllocError;
-use std::io::{Read, Write};
 use std::process::ExitCode;
-use std::{env, fs, io};
-use ucptab_table::digits::hexadecimal;
-use ucptab_table::fault::TableError;
-use ucptrie_tables::built;
+use std::{env, io};
 use ucptrie_tables::diff::differences_text;
-use ucptrie_tables::fault::BuildFault;
-use ucptrie_tables::read::read_table;
 use ucptrie_tables::shown::{answered, shown};
-use ucptrie_tables::table::{Table, TableOptions};
-use ucptrie_tables::width::ValueWidth;
-use ucptrie_tables::written::{Form, written};
-use words::program_words;
 
-/// Returns the trie type that the arguments name.
-fn trie_type(matches: &ArgMatches<'_>) -> TrieType {
-    match matches.get_str("type") {
-        Some("small") => TrieType::Small,
-        _ => TrieType::Fast,
-    }
+/// Makes a table by `build` or `convert`, and sends it to its target.
+fn make(rt: &HostRuntime, name: &str, matches: &ArgMatches<'_>) -> Result<(), Fault> {
+    let target = target(rt.alloc(), matches)?;
+    let bytes = if name == "build" {
+        build(rt, matches)?
+    } else {
+        convert(rt, matches)?
+    };
+    let is_binary = matches.get_str("as") == Some("icu");
+    deliver(rt, target, &bytes, is_binary)
 }
 
-/// Returns the width that the arguments name.
-fn width(matches: &ArgMatches<'_>) -> ValueWidth {
-    match matches.get_str("width") {
-        Some("8") => ValueWidth::Bits8,
-        Some("16") => ValueWidth::Bits16,
-        _ => ValueWidth::Bits32,
-    }
-}
-
-/// Returns the error for a word that is not what it has to be.
-fn refused(word: &str, why: &str) -> Error {
-    anyhow!("{word}: {why}")
-}
-
-/// Returns the form that the arguments name.
-fn form<'a>(matches: &ArgMatches<'a>) -> Result<Form<'a>> {
-    let name = name_of(matches.get_str("name").unwrap_or("table"))?;
-    Ok(match matches.get_str("as") {
-        Some("icu") => Form::Icu,
-        Some("toml") => Form::Toml,
-        Some("json") => Form::Json,
-        Some("c") => Form::C(name),
-        Some("rust") => Form::Rust(module_name(name)?),
-        _ => Form::Rows,
-    })
-}
-
-/// Returns what a table is to be, apart from its rows.
-fn options(matches: &ArgMatches<'_>) -> TableOptions {
-    TableOptions {
-        trie_type: trie_type(matches),
-        width: width(matches),
-        default: matches.get_one("default").unwrap_or(0),
-        error: matches.get_one("error").unwrap_or(0),
-    }
-}
-
-/// Reads all of standard input.
-fn input(rt: &HostRuntime) -> Result<Vec<u8>> {
-    let mut bytes = Vec::new(rt.alloc());
-    rt.stdin().read_to_end(&mut bytes)?;
-    Ok(bytes)
-}
-
-/// Returns the error for a fault. For a map that is too large, it says why.
-fn told(fault: BuildFault) -> Error {
-    match fault {
-        BuildFault::Table(TableError::TooLarge) => {
-            anyhow!("too large: more different blocks of values than fit into a trie")
-        }
-        _ => fault.into(),
-    }
-}
-
-/// Builds a table of the rows on standard input, in the form that the arguments name.
-fn build(rt: &HostRuntime, matches: &ArgMatches<'_>) -> Result<Vec<u8>> {
-    let form = form(matches)?;
-    let rows = input(rt)?;
-    built(rt.alloc(), &rows, options(matches), form).map_err(told)
-}
-
-/// Reads a file, or standard input if its name is `-`.
-fn bytes_at(rt: &HostRuntime, path: &str) -> Result<Vec<u8>> {
-    if path == "-" {
-        return input(rt);
-    }
-    Ok(fs::read(rt, path)?)
-}
-
-/// Reads the table of the file that the argument `id` names.
-fn table_at(rt: &HostRuntime, matches: &ArgMatches<'_>, id: &str) -> Result<Table> {
-    let path = matches.get_str(id).context("no file")?;
-    let bytes = bytes_at(rt, path).context(path)?;
-    let table = read_table(rt.alloc(), &bytes).context(path)?;
-    Ok(table)
-}
-
-/// Returns the table of a file in the form that the arguments name.
-///
-/// Rows are ranges. The ranges of a table that is not coherent may differ from its values, so its
-/// rows would make another table and are not written.
-fn convert(rt: &HostRuntime, matches: &ArgMatches<'_>) -> Result<Vec<u8>> {
-    let form = form(matches)?;
-    let path = matches.get_str("file").context("no file")?;
+/// Prints what a table is, in lines.
+fn show(rt: &HostRuntime, matches: &ArgMatches<'_>) -> Result<(), Fault> {
     let table = table_at(rt, matches, "file")?;
-    if matches!(form, Form::Rows) && !table.trie.is_coherent() {
-        let why = "not coherent, so its ranges may differ from its look-ups: no rows are written";
-        return Err(refused(path, why));
-    }
-    Ok(written(rt.alloc(), &table, form).context(path)?)
+    let text = shown(rt.alloc(), &table)?;
+    put(rt, text.as_bytes())
 }
 
-/// Returns what a table is, in lines.
-fn show(rt: &HostRuntime, matches: &ArgMatches<'_>) -> Result<String> {
-    let table = table_at(rt, matches, "file")?;
-    Ok(shown(rt.alloc(), &table)?)
-}
-
-/// Returns the number that a word asks for.
-fn number_of(word: &str) -> Result<u32> {
-    match hexadecimal(word.as_bytes()) {
-        Some(number) => Ok(number),
-        None => Err(refused(word, "not 1 to 8 hexadecimal digits")),
-    }
-}
-
-/// Returns the numbers that the arguments ask for.
-fn asked(rt: &HostRuntime, matches: &ArgMatches<'_>) -> Result<Vec<u32>> {
-    let mut asked = Vec::new(rt.alloc());
-    for word in matches.get_strs("asked").unwrap_or(&[]) {
-        asked.push(number_of(word)?)?;
-    }
-    Ok(asked)
-}
-
-/// Returns the value of each asked number in a table, in lines.
-fn get(rt: &HostRuntime, matches: &ArgMatches<'_>) -> Result<String> {
+/// Prints the value of each asked number in a table, in lines.
+fn get(rt: &HostRuntime, matches: &ArgMatches<'_>) -> Result<(), Fault> {
     let asked = asked(rt, matches)?;
     let table = table_at(rt, matches, "file")?;
-    Ok(answered(rt.alloc(), &table, &asked)?)
+    let text = answered(rt.alloc(), &table, &asked)?;
+    put(rt, text.as_bytes())
 }
 
-/// Returns the ranges in which two tables differ, in lines.
-fn diff(rt: &HostRuntime, matches: &ArgMatches<'_>) -> Result<String> {
+/// Prints the ranges in which two tables differ, in lines. Returns 1 if there is a line, and 0 if
+/// there is none.
+fn diff(rt: &HostRuntime, matches: &ArgMatches<'_>) -> Result<u8, Fault> {
     let first = table_at(rt, matches, "first")?;
     let second = table_at(rt, matches, "second")?;
-    Ok(differences_text(rt.alloc(), &first.trie, &second.trie)?)
+    let text = differences_text(rt.alloc(), &first.trie, &second.trie)?;
+    put(rt, text.as_bytes())?;
+    Ok(if text.is_empty() { 0 } else { 1 })
 }
 
-/// Returns what a command writes to standard output.
-fn written_by(rt: &HostRuntime, name: &str, matches: &ArgMatches<'_>) -> Result<Vec<u8>> {
-    let text = match name {
-        "build" => return build(rt, matches),
-        "convert" => return convert(rt, matches),
+/// Does what a command asks for, and returns the status.
+fn run(rt: &HostRuntime, name: &str, matches: &ArgMatches<'_>) -> Result<u8, Fault> {
+    match name {
+        "build" | "convert" => make(rt, name, matches)?,
         "show" => show(rt, matches)?,
         "get" => get(rt, matches)?,
-        "diff" => diff(rt, matches)?,
-        _ => return Err(Error::msg("no command")),
-    };
-    Ok(text.into_bytes())
+        _ => return diff(rt, matches),
+    }
+    Ok(0)
 }
 
-/// Prints why the arguments are rejected, and returns the status. A failed allocation is not a
-/// fault of the arguments.
-fn not_taken(rt: &HostRuntime, error: &clap::Error) -> Result<ExitCode> {
+/// Prints a fault, and returns its status.
+fn failed(rt: &HostRuntime, fault: &Fault, is_diff: bool) -> u8 {
+    if let Some(line) = fault.line() {
+        say(rt, line);
+    }
+    fault.status(is_diff)
+}
+
+/// Prints help or the version, or why the arguments are rejected, and returns the status. A failed
+/// allocation is not a fault of the arguments.
+fn not_taken(rt: &HostRuntime, error: &clap::Error) -> u8 {
     if matches!(error.kind(), ErrorKind::OutOfMemory) {
-        return Err(AllocError.into());
+        return failed(rt, &Fault::Memory, false);
     }
-    error.print(rt)?;
-    Ok(ExitCode::from(error.exit_code() as u8))
-}
-
-/// Writes to standard output, and returns the status. Prints no error if the reader has closed the
-/// pipe, as `head` does.
-fn put(rt: &HostRuntime, bytes: &[u8]) -> Result<ExitCode> {
-    match rt.stdout().write_all(bytes) {
-        Ok(()) => Ok(ExitCode::SUCCESS),
-        Err(error) if matches!(error.kind(), io::ErrorKind::BrokenPipe) => Ok(ExitCode::from(1)),
-        Err(error) => Err(error.into()),
+    match error.print(rt) {
+        Ok(()) => error.exit_code() as u8,
+        Err(error) => failed(rt, &about(rt.alloc(), "standard output", error), false),
     }
 }
 
-/// Does what the arguments ask for, and returns the status.
-fn run(rt: &HostRuntime) -> Result<ExitCode> {
-    let words: Vec<String> = env::args(rt)?.collect(rt.alloc())?;
-    let command = program_words(rt.alloc())?;
-    let matches = match command.try_get_matches_from(words.as_slice()) {
+/// Returns the words of the command line.
+fn given_words(rt: &HostRuntime) -> Result<Vec<String>, Fault> {
+    match env::args(rt) {
+        Ok(words) => Ok(words.collect(rt.alloc())?),
+        Err(error) if matches!(error.kind(), io::ErrorKind::OutOfMemory) => Err(Fault::Memory),
+        Err(_) => Err(about_arguments(rt.alloc(), "arguments", "expected UTF-8")),
+    }
+}
+
+/// Does what the words ask for, and returns the status.
+fn status(rt: &HostRuntime, words: &[String]) -> u8 {
+    let Ok(command) = program_words(rt.alloc()) else {
+        return failed(rt, &Fault::Memory, false);
+    };
+    let matches = match command.try_get_matches_from(words) {
         Ok(matches) => matches,
         Err(error) => return not_taken(rt, &error),
     };
-    let (name, matches) = matches.subcommand().context("no command")?;
-    let bytes = written_by(rt, name, matches)?;
-    put(rt, &bytes)
+    let Some((name, matches)) = matches.subcommand() else {
+        return 2;
+    };
+    match run(rt, name, matches) {
+        Ok(status) => status,
+        Err(fault) => failed(rt, &fault, name == "diff"),
+    }
 }
 
 fn main(rt: HostRuntime) -> ExitCode {
-    match run(&rt) {
-        Ok(status) => status,
-        Err(error) => {
-            let _ = eprintln!(rt; "ucptrie: {error:#}");
-            ExitCode::from(1)
-        }
-    }
+    ExitCode::from(match given_words(&rt) {
+        Ok(words) => status(&rt, &words),
+        Err(fault) => failed(&rt, &fault, false),
+    })
 }

@@ -1,6 +1,6 @@
 //! Names in source.
-use crate::refused;
-use anyhow::Result;
+use crate::fault::{Fault, about};
+use std::alloc::Global;
 use ucptrie_tables::source::is_name;
 
 /// The words that cannot name a module in Rust: its keywords, including the reserved ones, and `_`.
@@ -13,18 +13,18 @@ const KEPT_BY_RUST: [&str; 53] = [
 ];
 
 /// Returns the word if each name in source can start with it.
-pub fn name_of(word: &str) -> Result<&str> {
+pub fn name_of(alloc: Global, word: &str) -> Result<&str, Fault> {
     if !is_name(word) {
         let why = "expected letters, digits and _, not starting with a digit";
-        return Err(refused(word, why));
+        return Err(about(alloc, word, why));
     }
     Ok(word)
 }
 
 /// Returns the name if it can be that of a module in Rust.
-pub fn module_name(name: &str) -> Result<&str> {
+pub fn module_name(alloc: Global, name: &str) -> Result<&str, Fault> {
     if KEPT_BY_RUST.iter().any(|kept| *kept == name) {
-        return Err(refused(name, "a reserved word of Rust"));
+        return Err(about(alloc, name, "a reserved word of Rust"));
     }
     Ok(name)
 }

@@ -4,7 +4,6 @@
 
 extern crate alloc;
 
-mod context;
 mod formats;
 mod host;
 mod ledger;

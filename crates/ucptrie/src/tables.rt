@@ -1,0 +1,121 @@
+//! The tables of files, and how a table is to be written.
+use crate::fault::{Fault, about, said};
+use crate::names::{module_name, name_of};
+use crate::streams::{bytes_at, input_name};
+use clap::ArgMatches;
+use icu_trie_core::header::TrieType;
+use std::alloc::{AllocError, Global};
+use ucptrie_tables::fault::{ReadFault, TomlFault};
+use ucptrie_tables::properties::{PropertyFault, read_property};
+use ucptrie_tables::table::Table;
+use ucptrie_tables::width::ValueWidth;
+use ucptrie_tables::written::Form;
+
+/// Returns the trie type that the arguments name.
+pub fn trie_type(matches: &ArgMatches<'_>) -> Option<TrieType> {
+    match matches.get_str("type") {
+        Some("fast") => Some(TrieType::Fast),
+        Some("small") => Some(TrieType::Small),
+        _ => None,
+    }
+}
+
+/// Returns the width that the arguments name.
+pub fn width(matches: &ArgMatches<'_>) -> Option<ValueWidth> {
+    match matches.get_str("width") {
+        Some("8") => Some(ValueWidth::Bits8),
+        Some("16") => Some(ValueWidth::Bits16),
+        Some("32") => Some(ValueWidth::Bits32),
+        _ => None,
+    }
+}
+
+/// Returns the form that the arguments name.
+pub fn form<'a>(alloc: Global, matches: &ArgMatches<'a>) -> Result<Form<'a>, Fault> {
+    let name = name_of(alloc, matches.get_str("name").unwrap_or("table"))?;
+    Ok(match matches.get_str("as") {
+        Some("icu") => Form::Icu,
+        Some("toml") => Form::Toml,
+        Some("json") => Form::Json,
+        Some("c") => Form::C(name),
+        Some("rust") => Form::Rust(module_name(alloc, name)?),
+        _ => Form::Rows,
+    })
+}
+
+/// Returns the line about a text in no known form.
+fn toml_line(alloc: Global, name: &str, fault: &TomlFault) -> Result<String, AllocError> {
+    let (number, why) = (fault.line(), fault.message());
+    let mut line = String::new(alloc);
+    write!(
+        line,
+        "{name}:{number}: not TOML, JSON or ICU's binary form: {why}"
+    )?;
+    Ok(line)
+}
+
+/// Returns the fault of a file that has no table.
+fn unread(alloc: Global, path: &str, fault: ReadFault) -> Fault {
+    let name = input_name(path);
+    match fault {
+        ReadFault::Memory => Fault::Memory,
+        ReadFault::Toml(fault) => said(toml_line(alloc, name, &fault)),
+        _ => about(alloc, name, fault),
+    }
+}
+
+/// Returns the line about a property with no trie in a file.
+fn missing_line(
+    alloc: Global,
+    name: &str,
+    property: &str,
+    found: &str,
+) -> Result<String, AllocError> {
+    let mut line = String::new(alloc);
+    write!(
+        line,
+        "{name}: expected the property {property} with a trie, found "
+    )?;
+    line.push_str(if found.is_empty() { "none" } else { found })?;
+    Ok(line)
+}
+
+/// Returns the line about properties of which one has to be chosen.
+fn several_line(alloc: Global, name: &str, found: &str) -> Result<String, AllocError> {
+    let mut line = String::new(alloc);
+    write!(
+        line,
+        "{name}: several properties have a trie, choose one by --property: {found}"
+    )?;
+    Ok(line)
+}
+
+/// Returns the fault of a file that has no table of the property.
+fn unchosen(alloc: Global, path: &str, property: &str, fault: PropertyFault) -> Fault {
+    let name = input_name(path);
+    match fault {
+        PropertyFault::Read(fault) => unread(alloc, path, fault),
+        PropertyFault::NotToml => about(alloc, name, "not TOML, so it has no properties"),
+        PropertyFault::Missing(found) => said(missing_line(alloc, name, property, &found)),
+        PropertyFault::Several(found) => said(several_line(alloc, name, &found)),
+    }
+}
+
+/// Reads the table of a file, or of standard input if the file's name is `-`. In TOML it is that of
+/// the property that the arguments name.
+pub fn table_of(rt: &HostRuntime, matches: &ArgMatches<'_>, path: &str) -> Result<Table, Fault> {
+    let bytes = bytes_at(rt, path)?;
+    if bytes.is_empty() {
+        return Err(about(rt.alloc(), input_name(path), "the file is empty"));
+    }
+    let property = matches.get_str("property");
+    match read_property(rt.alloc(), &bytes, property) {
+        Ok(table) => Ok(table),
+        Err(fault) => Err(unchosen(rt.alloc(), path, property.unwrap_or(""), fault)),
+    }
+}
+
+/// Reads the table of the file that the argument `id` names.
+pub fn table_at(rt: &HostRuntime, matches: &ArgMatches<'_>, id: &str) -> Result<Table, Fault> {
+    table_of(rt, matches, matches.get_str(id).unwrap_or("-"))
+}
