@@ -1,0 +1,32 @@
+# Completion of ucptrie's arguments in bash: source this file.
+_ucptrie() {
+    local word=${COMP_WORDS[COMP_CWORD]} before=${COMP_WORDS[COMP_CWORD - 1]} words=
+    COMPREPLY=()
+    if [ "$COMP_CWORD" = 1 ]; then
+        words='build convert show get diff help --help -h --version -V'
+        mapfile -t COMPREPLY < <(compgen -W "$words" -- "$word")
+        return
+    fi
+    case $before in
+        --as) words='icu toml json c rust rows' ;;
+        --type) words='fast small' ;;
+        --width) words='8 16 32' ;;
+        --name | --default | --error | --property) return ;;
+        --output | -o | --check | --from) mapfile -t COMPREPLY < <(compgen -f -- "$word"); return ;;
+        *)
+            case ${COMP_WORDS[1]} in
+                build) words='--type --width --default --error --as --name --output -o --check --help -h' ;;
+                convert)
+                    words='--property --type --width --error --as --name --output -o --check --help -h' ;;
+                show | diff) words='--property --help -h' ;;
+                get) words='--property --from --help -h' ;;
+                help) words='build convert show get diff help' ;;
+            esac ;;
+    esac
+    mapfile -t COMPREPLY < <(compgen -W "$words" -- "$word")
+    case ${COMP_WORDS[1]}$before in
+        convert--* | build--*) ;;
+        convert* | show* | get* | diff*) mapfile -t -O "${#COMPREPLY[@]}" COMPREPLY < <(compgen -f -- "$word") ;;
+    esac
+}
+complete -o filenames -F _ucptrie ucptrie
