@@ -5,7 +5,7 @@ ghost use Rattle.std.specs.Prelude.{◌≡◌, ◌<◌};
 
 use icu_trie_core::cells::Steps;
 use std::env;
-use std::io::{ErrorKind, Read, Write};
+use std::io::{self, ErrorKind, Read, Write};
 use std::marker::Brand;
 use std::process::ExitCode;
 use std::sync::ledger::{Blank, Ledger};
@@ -14,11 +14,12 @@ use ucptab_table::streams::{Failed, Sink, Source};
 use ucptab_table::text::write_fault;
 use ucptab_table::{run_words, write_usage};
 
-/// A reader with a count of its failures.
+/// A reader with a count of its failures, and the last one.
 #[derive(Drop)]
 struct Input<R: Read, L: Ledger> {
     reader: R,
     failures: Steps<L>,
+    error: Option<io::Error>,
 }
 
 impl<R: Read, L: Ledger> Source for Input<R, L> {
@@ -29,19 +30,21 @@ impl<R: Read, L: Ledger> Source for Input<R, L> {
     fn read(&mut self, buf: &mut [u8]) -> Result<usize, Failed> {
         match self.reader.read(buf) {
             Ok(n) => Ok(n),
-            Err(_) => {
+            Err(error) => {
                 self.failures.tick();
+                self.error = Some(error);
                 Err(Failed)
             }
         }
     }
 }
 
-/// A writer with a count of its failures.
+/// A writer with a count of its failures, and the last one.
 #[derive(Drop)]
 struct Output<W: Write, L: Ledger> {
     writer: W,
     failures: Steps<L>,
+    error: Option<io::Error>,
 }
 
 impl<W: Write, L: Ledger> Sink for Output<W, L> {
@@ -52,8 +55,9 @@ impl<W: Write, L: Ledger> Sink for Output<W, L> {
     fn write(&mut self, buf: &[u8]) -> Result<(), Failed> {
         match self.writer.write_all(buf) {
             Ok(()) => Ok(()),
-            Err(_) => {
+            Err(error) => {
                 self.failures.tick();
+                self.error = Some(error);
                 Err(Failed)
             }
         }
@@ -71,6 +75,16 @@ fn without_words<W: Sink>(writer: &mut W, why: ErrorKind) -> u8 {
     1
 }
 
+/// Says on standard error that a stream failed, unless its reader has closed the pipe.
+fn say(rt: &HostRuntime, stream: &str, failure: &Option<io::Error>) {
+    match failure {
+        Some(error) if error.kind() != ErrorKind::BrokenPipe => {
+            let _ = eprintln!(rt; "ucptab: {stream}: {error}");
+        }
+        _ => {}
+    }
+}
+
 /// Runs the program over standard input and output, and returns its status. Each stream has a
 /// ledger for its failures.
 fn status<L: Ledger, K: Ledger>(rt: &HostRuntime, reads: Blank, writes: Blank) -> u8
@@ -84,10 +98,12 @@ fn status<L: Ledger, K: Ledger>(rt: &HostRuntime, reads: Blank, writes: Blank) -
     let mut reader = Input {
         reader: rt.stdin(),
         failures: Steps::<L>::new(reads),
+        error: None,
     };
     let mut writer = Output {
         writer: rt.stdout(),
         failures: Steps::<K>::new(writes),
+        error: None,
     };
     let args = match env::args(rt) {
         Ok(args) => args,
@@ -98,7 +114,10 @@ fn status<L: Ledger, K: Ledger>(rt: &HostRuntime, reads: Blank, writes: Blank) -
         return 1;
     };
     let words: Vec<String> = words;
-    run_words(rt.alloc(), &words, &mut reader, &mut writer)
+    let status = run_words(rt.alloc(), &words, &mut reader, &mut writer);
+    say(rt, "standard input", &reader.error);
+    say(rt, "standard output", &writer.error);
+    status
 }
 
 fn main(rt: HostRuntime) -> ExitCode {
