@@ -91,7 +91,7 @@ pub fn line_message(
     Ok(text)
 }
 
-/// Returns the message about a row's fault in line `number` of the bytes, counted from 1.
+/// Returns the message about the fault of the row with this number, counted from 1.
 ///
 /// # Errors
 /// Returns [`AllocError`] if an allocation fails.

@@ -8,7 +8,8 @@
 //! - `properties`: the table of one of the properties in a TOML file
 //! - `written`: a table in one of the forms, as the bytes of a file
 //! - `shown`: what a table is, in lines, and its ranges; `sizes`: the bounds on its cells
-//! - `diff`: the ranges in which two tables differ; `compare`: where two files differ
+//! - `diff`: the ranges in which two tables differ; `compare`: the first difference of
+//!   two files
 //! - `rebuild`: the same values in a trie of another type, with another width or error value
 //! - `asked`: the numbers that words and texts ask for
 //! - `source`: names in C and in Rust; `c_source` and `rust_source` write these; `pattern`: texts
