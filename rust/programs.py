@@ -52,7 +52,7 @@ EDITS = {
         (r"error\.print\(rt\)", "error.print()", 1),
         (r"error\.exit_code\(\) as u8", "if error.use_stderr() { 2 } else { 0 }", 1),
     ],
-    "ucptrie/output": [(r"\bfn target<'a>(\(matches: &ArgMatches\) -> Result<Target)<'a>", r"fn target\1<'_>", 1)],
+    "ucptrie/output": [(r"\bfn target_of<'a>(\(matches: &ArgMatches\) -> Result<Target)<'a>", r"fn target_of\1<'_>", 1)],
     "ucptrie/tables": [(r"\bfn form<'a>(\(matches: &ArgMatches\) -> Result<Form)<'a>", r"fn form\1<'_>", 1)],
     "ucptrie/words": [
         (r"(name|about): &'a str", r"\1: &'static str", 2),

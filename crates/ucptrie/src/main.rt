@@ -16,7 +16,7 @@ use crate::asked::asked;
 use crate::build::build;
 use crate::convert::convert;
 use crate::fault::{Fault, about, about_arguments};
-use crate::output::{deliver, target};
+use crate::output::{deliver, target_of};
 use crate::streams::{put, say};
 use crate::tables::table_at;
 use crate::words::program_words;
@@ -29,7 +29,7 @@ use ucptrie_tables::shown::{answered, shown};
 
 /// Makes a table by `build` or `convert`, and sends it to its target.
 fn make(rt: &HostRuntime, name: &str, matches: &ArgMatches<'_>) -> Result<(), Fault> {
-    let target = target(rt.alloc(), matches)?;
+    let target = target_of(rt.alloc(), matches)?;
     let bytes = if name == "build" {
         build(rt, matches)?
     } else {

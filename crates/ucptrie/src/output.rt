@@ -21,7 +21,7 @@ pub enum Target<'a> {
 }
 
 /// Returns where the arguments send the bytes.
-pub fn target<'a>(alloc: Global, matches: &ArgMatches<'a>) -> Result<Target<'a>, Fault> {
+pub fn target_of<'a>(alloc: Global, matches: &ArgMatches<'a>) -> Result<Target<'a>, Fault> {
     match (matches.get_str("output"), matches.get_str("check")) {
         (None | Some("-"), None) => Ok(Target::Output),
         (Some(path), None) => Ok(Target::File(path)),
