@@ -72,9 +72,10 @@ enum bks_status {
 enum bks_refusal {
     BKS_NO_MEMORY = -1,  /* an allocation failed */
     BKS_NO_TRIE = -2,    /* the trie was not made by bks_trie_open, or the units are not a trie */
-    BKS_NO_TEXT = -3,    /* the text is not UTF-8; of spans: not at their start. To find where, call
-                            bks_set_span(NULL, 0, text, size, false): it returns the offset of the
-                            first ill-formed sequence, or BKS_NO_TEXT if that is 0 */
+    BKS_NO_TEXT = -3,    /* the text is not UTF-8; of spans and of the keys at its start: not at its
+                            start. To find where, call bks_set_span(NULL, 0, text, size, false): it
+                            returns the offset of the first ill-formed sequence, or BKS_NO_TEXT if
+                            that is 0 */
     BKS_NO_KEY = -4,     /* no key of a unit trie is a prefix of the text */
     BKS_NO_FORM = -5,    /* the type or the width does not exist */
     BKS_WIDE_VALUE = -6, /* a value has more bits than the width */
@@ -403,9 +404,10 @@ int64_t bks_units_longest(const void *units, size_t size, const uint16_t *text, 
                           int32_t *value);
 
 /* Finds the longest key that is a prefix of a UTF-8 text. Returns how many bytes of the text it
- * takes, and stores its value in *value. A key that ends within a character does not count.
- * Errors: BKS_NO_KEY, BKS_NO_TEXT; *value is then unchanged. All of the text is validated first: of
- * a long text, pass no more than the longest key takes, up to the end of a character. */
+ * takes, and stores its value in *value. A key that ends within a character does not count. It reads
+ * the first character, and no more of the text than some key continues with. An ill-formed sequence
+ * ends the text. Errors: BKS_NO_KEY; BKS_NO_TEXT, exactly if the text is not empty and does not
+ * start with a character; *value is then unchanged. */
 int64_t bks_units_longest_utf8(const void *units, size_t size, const char *text, size_t text_size,
                                int32_t *value);
 
@@ -474,8 +476,9 @@ size_t bks_units_prefixes(const void *units, size_t size, const uint16_t *text, 
                           bks_prefix *found, size_t room);
 
 /* The same for a UTF-8 text, with lengths in bytes. A key that ends within a character does not
- * count. Returns how many there are, or BKS_NO_TEXT. All of the text is validated first: of a long
- * text, pass no more than the longest key takes, up to the end of a character. */
+ * count. It reads as much as bks_units_longest_utf8, and an ill-formed sequence ends the text.
+ * Returns how many keys there are, or BKS_NO_TEXT, exactly if the text is not empty and does not
+ * start with a character; `found` is then unchanged. */
 int64_t bks_units_prefixes_utf8(const void *units, size_t size, const char *text, size_t text_size,
                                 bks_prefix *found, size_t room);
 

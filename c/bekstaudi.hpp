@@ -727,9 +727,9 @@ public:
         return match{static_cast<std::size_t>(size), value};
     }
 
-    // Returns the longest key that is a prefix of a UTF-8 text, or nothing if no key is. All of the
-    // text is validated first: of a long text, pass no more than the longest key takes, up to the
-    // end of a character. Throws text_refused if the text is not UTF-8.
+    // Returns the longest key that is a prefix of a UTF-8 text, or nothing if no key is. Reads no
+    // more of the text than some key continues with. An ill-formed sequence ends the text. Throws
+    // text_refused if the text is not empty and does not start with a character.
     std::optional<match> longest(std::string_view text) const {
         std::int32_t value = 0;
         view<char> bytes(text);
@@ -760,7 +760,9 @@ public:
     }
 
     // Returns all keys that are prefixes of a UTF-8 text, the shortest first. A key that ends within
-    // a character does not count. Throws text_refused if the text is not UTF-8.
+    // a character does not count. Reads no more of the text than some key continues with. An
+    // ill-formed sequence ends the text. Throws text_refused if the text is not empty and does not
+    // start with a character.
     std::vector<match> prefixes(std::string_view text) const {
         view<char> bytes(text);
         return matches_of([&](bks_prefix *found, std::size_t room) {

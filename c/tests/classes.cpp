@@ -226,7 +226,8 @@ static void unit_tries() {
     CHECK(!words.longest("ba") && !words.longest(u"") && !none.longest("a"));
     CHECK(pair.longest("\xF0\x9F\x98\x80!")->size == 4 && pair.longest(u"\xD83D\xDE00")->value == 2);
     CHECK(!pair.longest("\xF0\x9F\x98\x81") && pair.longest(u"\xD83D\xDE01")->size == 1);
-    CHECK(throws<bekstaudi::text_refused>([&] { words.longest("a\xFF"); }));
+    CHECK(words.longest("a\xFF")->size == 1 && words.longest("ab\xC3")->value == 100);
+    CHECK(throws<bekstaudi::text_refused>([&] { words.longest("\xFF" "a"); }));
     bekstaudi::unit_trie::cursor cursor(words);
     CHECK(!cursor.value() && cursor.step(u'a') == BKS_INTERMEDIATE_VALUE && cursor.value() == 1);
     CHECK(cursor.step(u'b') == BKS_FINAL_VALUE && cursor.value() == 100);
@@ -242,7 +243,8 @@ static void unit_tries() {
     CHECK(are(words.prefixes("b"), {}) && are(none.prefixes(u""), {}));
     CHECK(are(pair.prefixes("\xF0\x9F\x98\x80"), {{4, 2}}));
     CHECK(are(pair.prefixes(u"\xD83D\xDE00"), {{1, 1}, {2, 2}}));
-    CHECK(throws<bekstaudi::text_refused>([&] { words.prefixes("a\xFF"); }));
+    CHECK(are(words.prefixes("a\xFF"), {{1, 1}}) && are(words.prefixes("ab\xC3"), {{1, 1}, {2, 100}}));
+    CHECK(throws<bekstaudi::text_refused>([&] { words.prefixes("\xFF" "a"); }));
     bekstaudi::unit_trie::cursor next(words);
     CHECK(next.next_units() == std::vector<char16_t>{u'a'} && !next.unique_value());
     CHECK(next.step(u'a') && next.next_units() == std::vector<char16_t>{u'b'} && !next.unique_value());

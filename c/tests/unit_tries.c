@@ -44,27 +44,54 @@ static uint32_t along(const void *units, size_t size, const uint16_t *text, size
     return told;
 }
 
-/* The same of a text in UTF-8, by its characters. */
+/* What a text in UTF-8 finds: its longest key with the value, and how many keys are prefixes. */
+typedef struct match {
+    int64_t longest;
+    int32_t value;
+    int64_t count;
+} match;
+
+static const match no_text = {BKS_NO_TEXT, STAYS, BKS_NO_TEXT};
+
+/* A text in UTF-8, which may be ill-formed, before a closed page. */
+static void finds(const void *units, size_t size, const char *text, size_t bytes, match wanted) {
+    char *closed = (char *)before_closed_page(bytes);
+    bks_prefix found[KEY + 2];
+    int32_t value = STAYS;
+    memcpy(closed, text, bytes);
+    for (size_t i = 0; i < KEY + 2; i++) found[i] = (bks_prefix){77, 77};
+    CHECK(bks_units_longest_utf8(units, size, closed, bytes, &value) == wanted.longest);
+    CHECK(value == wanted.value);
+    CHECK(bks_units_prefixes_utf8(units, size, closed, bytes, found, KEY + 2) == wanted.count);
+    size_t count = wanted.count < 0 ? 0 : (size_t)wanted.count;
+    CHECK(found[count].length == 77 && found[count].value == 77);
+    if (count > 0) CHECK(found[count - 1].length == (size_t)wanted.longest);
+    if (count > 0) CHECK(found[count - 1].value == wanted.value);
+    released(closed, bytes);
+}
+
+/* The same of a text in UTF-8, by its characters, and of some of these before ill-formed bytes. */
 static void in_utf8(const void *units, size_t size, const uint32_t *characters, size_t count) {
-    static char text[4 * KEY];
+    static const char *const faults[] = {"\xFF", "\xC3", "\x80z", "\xED\xA0\xBD", "\xF0\x9F\x98"};
+    static char text[4 * KEY + 4];
     static uint16_t key[2 * KEY];
-    size_t bytes = 0, n = 0;
-    int32_t longest = STAYS, value = STAYS;
-    int64_t most = bks_units_get(units, size, key, 0, &longest) ? 0 : BKS_NO_KEY;
-    for (size_t i = 0; i < count; i++) {
+    size_t bytes = 0, n = 0, cut = below((uint32_t)count + 1);
+    match found = {BKS_NO_KEY, STAYS, 0};
+    for (size_t i = 0;; i++) {
+        if (bks_units_get(units, size, key, n, &found.value))
+            found.longest = (int64_t)bytes, found.count++;
+        if (i == cut) {
+            const char *fault = faults[below(5)];
+            memcpy(text + bytes, fault, strlen(fault));
+            finds(units, size, text, bytes + strlen(fault), i == 0 ? no_text : found);
+        }
+        if (i == count) break;
         uint32_t c = characters[i];
         if (c >= 0x10000) key[n++] = (uint16_t)(0xD7C0 + (c >> 10));
         key[n++] = (uint16_t)(c < 0x10000 ? c : 0xDC00 | (c & 0x3FF));
         bytes += write_utf8(c, text + bytes);
-        if (bks_units_get(units, size, key, n, &longest)) most = (int64_t)bytes;
     }
-    char *closed = (char *)before_closed_page(bytes);
-    memcpy(closed, text, bytes);
-    CHECK(bks_units_longest_utf8(units, size, closed, bytes, &value) == most && value == longest);
-    released(closed, bytes);
-    value = STAYS;
-    CHECK(bks_units_longest_utf8(units, size, "a\xFF", 2, &value) == BKS_NO_TEXT && value == STAYS);
-    CHECK(bks_units_longest_utf8(units, size, "\xED\xA0\xBD", 3, &value) == BKS_NO_TEXT);
+    finds(units, size, text, bytes, found);
 }
 
 /* A few texts over any bytes, which follow the units in them. */
@@ -176,6 +203,54 @@ static void within_a_character(void) {
     CHECK(value == STAYS);
 }
 
+/* Texts that are ill-formed somewhere: in a trie of "a" and "ab", in one of the empty key, and in
+   none. What follows the keys does not matter. */
+static void ill_formed(void) {
+    static const struct {
+        const char *units, *text;
+        match found;
+    } texts[] = {
+        {"30 61 B0 62 8064", "a\xFF", {1, 1, 1}},
+        {"30 61 B0 62 8064", "a\xFF" "b", {1, 1, 1}},
+        {"30 61 B0 62 8064", "a\xC3", {1, 1, 1}},
+        {"30 61 B0 62 8064", "ab\xE2\x82", {2, 100, 2}},
+        {"30 61 B0 62 8064", "abc\xF0\x9F\x98", {2, 100, 2}},
+        {"30 61 B0 62 8064", "b\xFF", {BKS_NO_KEY, STAYS, 0}},
+        {"30 61 B0 62 8064", "\xFF" "ab", {BKS_NO_TEXT, STAYS, BKS_NO_TEXT}},
+        {"30 61 B0 62 8064", "\x80", {BKS_NO_TEXT, STAYS, BKS_NO_TEXT}},
+        {"30 61 B0 62 8064", "\xC3", {BKS_NO_TEXT, STAYS, BKS_NO_TEXT}},
+        {"30 61 B0 62 8064", "\xED\xA0\xBD", {BKS_NO_TEXT, STAYS, BKS_NO_TEXT}},
+        {"8007", "a\xFF", {0, 7, 1}},
+        {"8007", "\xFF", {BKS_NO_TEXT, STAYS, BKS_NO_TEXT}},
+        {"", "a\xFF", {BKS_NO_KEY, STAYS, 0}},
+        {"", "\xFF", {BKS_NO_TEXT, STAYS, BKS_NO_TEXT}},
+    };
+    for (size_t i = 0; i < sizeof texts / sizeof texts[0]; i++) {
+        uint8_t units[16];
+        size_t size = 2 * read_units(texts[i].units, units);
+        finds(units, size, texts[i].text, strlen(texts[i].text), texts[i].found);
+    }
+}
+
+/* The keys at each position of a long text, whose last byte is ill-formed. If each call read all of
+   the text, this would take a minute. */
+static void at_each_position(void) {
+    enum { LONG = 1 << 20 };
+    static char text[LONG];
+    uint8_t units[16];
+    size_t size = 2 * read_units("30 61 B0 62 8064", units);
+    for (size_t i = 0; i < LONG; i++) text[i] = (char)('a' + i % 3);
+    text[LONG - 1] = '\xFF';
+    for (size_t i = 0; i < LONG; i++) {
+        int32_t value = STAYS;
+        int64_t longest = bks_units_longest_utf8(units, size, text + i, LONG - i, &value);
+        int64_t count = bks_units_prefixes_utf8(units, size, text + i, LONG - i, NULL, 0);
+        if (i == LONG - 1) CHECK(longest == BKS_NO_TEXT && count == BKS_NO_TEXT);
+        else if (i % 3 > 0) CHECK(longest == BKS_NO_KEY && count == 0);
+        else CHECK(longest == 2 && value == 100 && count == 2);
+    }
+}
+
 /* Prefixes of the bytes, and bytes of which a few are changed. */
 static void broken(const uint8_t *units, size_t size, int damages) {
     uint8_t *copy = before_closed_page(size);
@@ -204,6 +279,8 @@ int main(int count, char **words) {
         broken(units, 2 * read_units(rows[i].units, units), 20);
     }
     within_a_character();
+    ill_formed();
+    at_each_position();
     for (int i = 2; i < count; i++) {
         size_t size;
         uint8_t *units = file_bytes(words[i], &size);

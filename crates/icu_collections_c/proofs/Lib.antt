@@ -21,4 +21,5 @@ mod UnitLemmas
 mod UnitBuildingLemmas
 mod UnitTextLemmas
 mod UnitPrefixLemmas
+mod TextStepLemmas
 mod UnitPageLemmas

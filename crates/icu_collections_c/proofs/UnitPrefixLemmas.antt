@@ -1,11 +1,9 @@
 -- The prefixes of a text that have a value, as a cursor passes the text.
 use Rattle.std.proofs.Common.{◌≡◌, ◌∙◌, refl, sym, ap, subst, ℕ, ℤ, zero, suc, ◌+◌, ◌-◌, ◌<◌, ◌≤◌, Bool, true, false, not, List, [], ◌∷◌, ◌++◌, Option, Some, None, length, take, drop, append-nil, length-append, arith, inl, inr}
 use Rattle.std.specs.Prelude.{map}
-use Rattle.std.specs.Str.{IsUtf8, chars}
 use Rattle.std.proofs.Math.ListN.{set}
 use Rattle.std.proofs.lemmas.Bool.{cases_lt}
 use Rattle.std.proofs.lemmas.List.{drop_all, length-drop, length-map, length-take-le, map-append, take_all}
-use Rattle.std.proofs.lemmas.Str.{encodes-chars, length-le-encodes}
 use Rattle.icu_char16trie.specs.Grammar.{IsTrieOf}
 use Rattle.icu_char16trie.specs.Matches.{HasValueAlong, match_at}
 use Rattle.icu_char16trie.specs.Steps.{StepsAlong}
@@ -14,7 +12,7 @@ use Rattle.icu_char16trie.specs.UnitPlaces.{At, HasPassed, is_empty_at, value_at
 use Rattle.icu_char16trie.specs.declared.place.Place.TheVariants.{Node}
 use Rattle.icu_char16trie.proofs.CallerLemmas.{none_along, none_beyond}
 use Rattle.icu_collections_c.specs.Buffers.{written}
-use Rattle.icu_collections_c.specs.UnitPrefixes.{AreValued, GivesPrefixes, HasFound, prefix_of}
+use Rattle.icu_collections_c.specs.UnitPrefixes.{AreValued, HasFound, prefix_of}
 use Rattle.icu_collections_c.specs.declared.unit_prefixes.Prefix.{Prefix}
 
 -- ---- one more item in a buffer
@@ -134,32 +132,36 @@ few-valued P size (suc n) xs h =
     at_most_one k None = omega arith
     at_most_one k (Some v) = omega arith
 
--- The cursor has passed the first k items of a text: `front k` are their units. The prefixes with a
--- value among the first k + 1 are found.
-pub record HasLooked (units : List ℕ) (front : ℕ → List ℕ) (size : ℕ → ℕ) (all : List Prefix) (k : ℕ) (cursor : At)
-    (found : List Prefix) (n : ℕ) : Type 0 where
+-- Found holds for all prefixes with a value of a text of `most` items.
+abbrev pub AllValued : (ℕ → Option ℤ → Type 0) → (ℕ → ℕ) → ℕ → (List (ℕ × ℤ) → Type 0) → Type 0
+AllValued HasValue size most Found = (xs : List (ℕ × ℤ)) × AreValued HasValue size (suc most) xs × Found xs
+
+-- The cursor has passed the first k items of a text: `front k` are their units. Found holds for the prefixes with a value among the
+-- first k + 1.
+pub record HasLooked (units : List ℕ) (front : ℕ → List ℕ) (size : ℕ → ℕ) (k : ℕ) (cursor : At)
+    (Found : List (ℕ × ℤ) → Type 0) : Type 0 where
   pub units_are : cursor.units ≡ units
   pub steps : StepsAlong units (Node 0) (front k) cursor.place
   pub after : (m : UnitMap) → IsTrieOf units m → HasPassed cursor m (front k)
   pub xs : List (ℕ × ℤ)
   pub exact : AreValued (λ j v. HasValueAlong units (front j) v) size (suc k) xs
   pub keys : (m : UnitMap) → IsTrieOf units m → AreValued (λ j v. value_of m (front j) ≡ v) size (suc k) xs
-  pub are : HasFound xs all found n
+  pub are : Found xs
 
 -- There are no more of them than prefixes.
-pub few-looked : {units : List ℕ} {front : ℕ → List ℕ} {size : ℕ → ℕ} {all : List Prefix} {k : ℕ} {cursor : At} {found : List Prefix}
-    {n : ℕ} → HasLooked units front size all k cursor found n → n ≤ suc k
+pub few-looked : {units : List ℕ} {front : ℕ → List ℕ} {size : ℕ → ℕ} {k : ℕ} {cursor : At} {Found : List (ℕ × ℤ) → Type 0}
+    (was : HasLooked units front size k cursor Found) → length was.xs ≤ suc k
 few-looked {units = units} {front = front} {size = size} {k = k} was =
-    omega (arith, was.are.count, few-valued (λ j v. HasValueAlong units (front j) v) size (suc k) was.xs was.exact)
+    few-valued (λ j v. HasValueAlong units (front j) v) size (suc k) was.xs was.exact
 
-module _ (units : List ℕ) (front : ℕ → List ℕ) (size : ℕ → ℕ) (all : List Prefix) where
+module _ (units : List ℕ) (front : ℕ → List ℕ) (size : ℕ → ℕ) where
   -- Before the first item.
-  pub looked_first : (cursor : At) (found : List Prefix) (n : ℕ) (v : Option ℤ) → cursor.units ≡ units
+  pub looked_first : (cursor : At) (Found : List (ℕ × ℤ) → Type 0) (v : Option ℤ) → cursor.units ≡ units
       → front 0 ≡ [] → cursor.place ≡ Node 0 → ((m : UnitMap) → IsTrieOf units m → HasPassed cursor m [])
       → v ≡ value_at cursor.units cursor.place
       → ((m : UnitMap) (w : List ℕ) → HasPassed cursor m w → v ≡ value_of m w)
-      → HasFound (match_at (size 0) v) all found n → HasLooked units front size all 0 cursor found n
-  looked_first cursor found n v same none at root value values are =
+      → Found (match_at (size 0) v) → HasLooked units front size 0 cursor Found
+  looked_first cursor Found v same none at root value values are =
       let steps : StepsAlong units (Node 0) (front 0) cursor.place = rw none at in
       record {
         units_are = same;
@@ -172,15 +174,15 @@ module _ (units : List ℕ) (front : ℕ → List ℕ) (size : ℕ → ℕ) (all
       }
 
   -- After one more item.
-  pub looked_next : (k next : ℕ) → next ≡ suc k → (old new : At) (found found' : List Prefix) (n n' : ℕ) (v : Option ℤ)
-      → HasLooked units front size all k old found n → new.units ≡ units
+  pub looked_next : (k next : ℕ) → next ≡ suc k → (old new : At) (Found Found' : List (ℕ × ℤ) → Type 0) (v : Option ℤ)
+      → HasLooked units front size k old Found → new.units ≡ units
       → StepsAlong units (Node 0) (front next) new.place
       → ((m : UnitMap) → IsTrieOf units m → HasPassed new m (front next))
       → v ≡ value_at new.units new.place
       → ((m : UnitMap) (w : List ℕ) → HasPassed new m w → v ≡ value_of m w)
-      → ((xs : List (ℕ × ℤ)) → HasFound xs all found n → HasFound (xs ++ match_at (size next) v) all found' n')
-      → HasLooked units front size all next new found' n'
-  looked_next k next is old new found found' n n' v was same steps after value values put = record {
+      → ((xs : List (ℕ × ℤ)) → Found xs → Found' (xs ++ match_at (size next) v))
+      → HasLooked units front size next new Found'
+  looked_next k next is old new Found Found' v was same steps after value values found = record {
     units_are = same;
     steps = steps;
     after = after;
@@ -199,15 +201,15 @@ module _ (units : List ℕ) (front : ℕ → List ℕ) (size : ℕ → ℕ) (all
       sym (values m (front next) (after m h)),
       refl,
     );
-    are = put was.xs was.are;
+    are = found was.xs was.are;
   }
 
   -- All items are passed.
-  module _ (k : ℕ) (cursor : At) (found : List Prefix) (n : ℕ) (was : HasLooked units front size all k cursor found n) where
-    pub looked_all_exact : GivesPrefixes (λ j v. HasValueAlong units (front j) v) size k all found n
+  module _ (k : ℕ) (cursor : At) (Found : List (ℕ × ℤ) → Type 0) (was : HasLooked units front size k cursor Found) where
+    pub looked_all_exact : AllValued (λ j v. HasValueAlong units (front j) v) size k Found
     looked_all_exact = (was.xs, was.exact, was.are)
 
-    pub looked_all_keys : (m : UnitMap) → IsTrieOf units m → GivesPrefixes (λ j v. value_of m (front j) ≡ v) size k all found n
+    pub looked_all_keys : (m : UnitMap) → IsTrieOf units m → AllValued (λ j v. value_of m (front j) ≡ v) size k Found
     looked_all_keys m h = (was.xs, was.keys m h, was.are)
 
     -- No key continues after the items so far.
@@ -217,7 +219,7 @@ module _ (units : List ℕ) (front : ℕ → List ℕ) (size : ℕ → ℕ) (all
       all_of : suc k + (most - k) ≡ suc most
       all_of = omega (arith, within)
 
-      pub looked_ends_exact : GivesPrefixes (λ j v. HasValueAlong units (front j) v) size most all found n
+      pub looked_ends_exact : AllValued (λ j v. HasValueAlong units (front j) v) size most Found
       looked_ends_exact = (
         was.xs,
         subst (λ i. AreValued (λ j v. HasValueAlong units (front j) v) size i was.xs) all_of
@@ -229,7 +231,7 @@ module _ (units : List ℕ) (front : ℕ → List ℕ) (size : ℕ → ℕ) (all
           step : (j : ℕ) → (u : ℕ) × (more : List ℕ) × (front j ≡ front k ++ u ∷ more) → HasValueAlong units (front j) None
           step j more = rw more.2 (none_along units (front k) cursor.place more.0 more.1 was.steps (rw was.units_are at ends))
 
-      pub looked_ends_keys : (m : UnitMap) → IsTrieOf units m → GivesPrefixes (λ j v. value_of m (front j) ≡ v) size most all found n
+      pub looked_ends_keys : (m : UnitMap) → IsTrieOf units m → AllValued (λ j v. value_of m (front j) ≡ v) size most Found
       looked_ends_keys m h = (
         was.xs,
         subst (λ i. AreValued (λ j v. value_of m (front j) ≡ v) size i was.xs) all_of
@@ -241,12 +243,6 @@ module _ (units : List ℕ) (front : ℕ → List ℕ) (size : ℕ → ℕ) (all
           step : (j : ℕ) → (u : ℕ) × (more : List ℕ) × (front j ≡ front k ++ u ∷ more) → value_of m (front j) ≡ None
           step j more = ap (value_of m) more.2 ∙ none_beyond m (front k) more.0 more.1 (none m (front k) (was.after m h))
 
--- ---- the items of a text
-
 pub no_more : (b : Bool) → not b ≡ true → b ≡ false
 no_more true e = cc
 no_more false e = refl
-
--- There are no more characters than bytes.
-pub chars_within : (text : List ℕ) → IsUtf8 text → length (chars text) ≤ length text
-chars_within text u = omega (arith, length-le-encodes (chars text), ap length (encodes-chars text u))

@@ -11,3 +11,4 @@ pub mod Pages
 pub mod SetPlaces
 pub mod ShortCharacters
 pub mod TextCells
+pub mod TextSteps

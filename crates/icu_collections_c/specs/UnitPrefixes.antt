@@ -1,8 +1,11 @@
 -- The keys of a unit trie that are prefixes of a text, as C sees them.
 use Rattle.std.specs.Prelude.{◌≡◌, ◌⊎◌, ◌-◌, ◌^◌, min, ℕ, ℤ, zero, suc, pos, List, [], ◌++◌, Option, encode_utf8_all, length, map, take}
+use Rattle.std.specs.Str.{chars}
 use Rattle.icu_char16trie.specs.Matches.{match_at}
+use Rattle.icu_frozen_sets.specs.TextFronts.{IsTextUpTo}
 use Rattle.icu_collections_c.specs.Buffers.{written}
 use Rattle.icu_collections_c.specs.Status.{refused}
+use Rattle.icu_collections_c.specs.UnitTries.{StartsIllFormed}
 use Rattle.icu_collections_c.specs.declared.status.Refusal.TheVariants.{NoText}
 use Rattle.icu_collections_c.specs.declared.unit_prefixes.Prefix.{Prefix}
 
@@ -31,15 +34,25 @@ abbrev pub GivesPrefixes : (ℕ → Option ℤ → Type 0) → (ℕ → ℕ) →
 GivesPrefixes HasValue size most old new n =
     (xs : List (ℕ × ℤ)) × AreValued HasValue size (suc most) xs × HasFound xs old new n
 
--- The same for a UTF-8 text, 2^63 - 1 if there are more, one after each byte of a text of that
--- size. If the bytes are not a text: `NoText`, and the buffer is unchanged.
-abbrev pub AnswersPrefixes : Type 0 → (ℕ → Option ℤ → Type 0) → (ℕ → ℕ) → ℕ → List Prefix
-    → List Prefix → ℤ → Type 0
-AnswersPrefixes text HasValue size most old new returned =
-    (text × (n : ℕ) × (returned ≡ pos (min n (2 ^ 63 - 1)))
-    × GivesPrefixes HasValue size most old new n)
-    ⊎ (¬ text × (returned ≡ refused NoText) × (new ≡ old))
-
 -- How many bytes of UTF-8 the first k of some characters take.
 abbrev pub bytes_before : List ℕ → ℕ → ℕ
 bytes_before cs k = length (encode_utf8_all (take k cs))
+
+-- The same for a UTF-8 text, with lengths in bytes. HasValue cs k v says that the value of the
+-- first k of the characters cs is v.
+abbrev pub GivesTextPrefixes : (List ℕ → ℕ → Option ℤ → Type 0) → List ℕ → List Prefix
+    → List Prefix → ℕ → Type 0
+GivesTextPrefixes HasValue text old new n =
+    GivesPrefixes (HasValue (chars text)) (bytes_before (chars text)) (length (chars text)) old new
+    n
+
+-- For bytes that may be ill-formed, whose longest UTF-8 prefix is the text: the prefixes of the
+-- text, and 2^63 - 1 if there are more, one after each byte of a text of that size. `NoText`, with
+-- the buffer unchanged, exactly if the bytes are not empty and do not start with a character.
+abbrev pub AnswersPrefixes : (List ℕ → ℕ → Option ℤ → Type 0) → List ℕ → List Prefix → List Prefix
+    → ℤ → Type 0
+AnswersPrefixes HasValue bytes old new returned =
+    (StartsIllFormed bytes × (returned ≡ refused NoText) × (new ≡ old))
+    ⊎ (¬ (StartsIllFormed bytes)
+    × ((n : ℕ) × IsTextUpTo bytes n × ((count : ℕ) × (returned ≡ pos (min count (2 ^ 63 - 1)))
+    × GivesTextPrefixes HasValue (take n bytes) old new count)))

@@ -1,5 +1,7 @@
 -- What C learns about a unit trie in bytes.
-use Rattle.std.specs.Prelude.{◌≡◌, ◌⊎◌, ℕ, ℤ, pos, Bool, true, false, List, Option, Some, None}
+use Rattle.std.specs.Prelude.{◌≡◌, ◌⊎◌, ℕ, ℤ, pos, ◌<◌, ◌≤◌, Bool, true, false, List, Option, Some, None, length, take}
+use Rattle.std.specs.Str.{IsCharBoundary, IsUtf8, StartsWithNoChar}
+use Rattle.icu_frozen_sets.specs.TextFronts.{IsTextUpTo}
 use Rattle.icu_char16trie.specs.CursorPlaces as cursors
 use Rattle.icu_char16trie.specs.Matches.{HasValueAlong}
 use Rattle.icu_char16trie.specs.UnitPlaces.{At}
@@ -49,11 +51,23 @@ abbrev pub GivesMatchThat : (Option (ℕ × ℤ) → Type 0) → ℤ → ℤ →
 GivesMatchThat P old returned new =
     (found : Option (ℕ × ℤ)) × P found × GivesMatch found old returned new
 
--- The same for a UTF-8 text. If the bytes are not a text: `NoText`, and the old value is unchanged.
-abbrev pub GivesMatchInText : Type 0 → (Option (ℕ × ℤ) → Type 0) → ℤ → ℤ → ℤ → Type 0
-GivesMatchInText text P old returned new =
-    (text × GivesMatchThat P old returned new)
-    ⊎ (¬ text × (returned ≡ refused NoText) × (new ≡ old))
+-- The bytes are not empty and do not start with a character.
+abbrev pub StartsIllFormed : List ℕ → Type 0
+StartsIllFormed bytes = (0 < length bytes) × StartsWithNoChar bytes
+
+-- For bytes that may be ill-formed, whose longest UTF-8 prefix is the text: the result for a match
+-- in the text with property P, or for none. `NoText`, with the old value unchanged, exactly if the
+-- bytes are not empty and do not start with a character.
+abbrev pub AnswersMatchInText : (List ℕ → Option (ℕ × ℤ) → Type 0) → List ℕ → ℤ → ℤ → ℤ → Type 0
+AnswersMatchInText P bytes old returned new =
+    (StartsIllFormed bytes × (returned ≡ refused NoText) × (new ≡ old))
+    ⊎ (¬ (StartsIllFormed bytes)
+    × ((n : ℕ) × IsTextUpTo bytes n × GivesMatchThat (P (take n bytes)) old returned new))
+
+-- The first n bytes are UTF-8. If all bytes are, n is a character boundary.
+abbrev pub EndsAtBoundary : List ℕ → ℕ → Type 0
+EndsAtBoundary bytes n =
+    (n ≤ length bytes) × IsUtf8 (take n bytes) × (IsUtf8 bytes → IsCharBoundary bytes n)
 
 -- The numbers of the results of a step, as `enum bks_step` of bekstaudi.h and ICU's
 -- UStringTrieResult name them.

@@ -19,6 +19,7 @@
 //! - `spans`: the spans of a text; `kinds`: what they test characters for
 //! - `short_characters`: tests characters of one and two bytes for them
 //! - `unit_tries`: look-ups in unit tries; `units`: helpers of them
+//! - `text_steps`: steps of a cursor along a text in UTF-8
 //! - `unit_texts`: unit tries whose keys are texts in UTF-8; `unit_keys`: transcodes them
 //! - `unit_prefixes`: the keys that are prefixes of a text
 //! - `unit_nodes`: the units that can come next, and the one value of all keys from there on
@@ -46,6 +47,7 @@ pub mod sets;
 mod short_characters;
 pub mod spans;
 pub mod status;
+mod text_steps;
 pub mod texts;
 pub mod tries;
 pub mod unit_building;

@@ -1,14 +1,15 @@
 //! All keys of a unit trie that are prefixes of a text.
-ghost use Rattle.std.specs.Prelude.{◌≡◌, ℕ, ℤ, ◌+◌, ◌<◌, ◌≤◌, ◌^◌, ◌++◌, List, length, slice_set};
-ghost use Rattle.std.specs.Str.{IsUtf8, chars};
+ghost use Rattle.std.specs.Prelude.{◌≡◌, ℕ, ℤ, ◌+◌, ◌<◌, ◌≤◌, ◌^◌, ◌++◌, List, length, slice_set, take};
 ghost use Rattle.icu_char16trie.specs.Grammar.{IsTrieOf};
 ghost use Rattle.icu_char16trie.specs.Matches.{HasCharsStepped, HasCharsValue, HasFrontStepped, HasFrontValue, match_at};
 ghost use Rattle.icu_char16trie.specs.UnitMap.{UnitMap};
-ghost use Rattle.icu_collections_c.specs.UnitPrefixes.{AnswersPrefixes, GivesPrefixes, HasFound, bytes_before};
+ghost use Rattle.icu_collections_c.specs.UnitPrefixes.{AnswersPrefixes, GivesPrefixes, GivesTextPrefixes, HasFound};
 ghost use Rattle.icu_collections_c.specs.UnitTries.{units_of};
 ghost use Rattle.icu_collections_c.specs.declared.unit_prefixes.Prefix.{Prefix};
+ghost use Rattle.icu_frozen_sets.specs.TextFronts.{IsTextUpTo};
 
 use crate::status::Refusal;
+use crate::text_steps::{pass_character, starts_ill_formed};
 use crate::units::trie_in;
 
 /// The most prefixes that can be returned: `i64::MAX`.
@@ -81,27 +82,26 @@ pub extern "C" fn bks_units_prefixes(units: &[u8], text: &[u16], found: &mut [Pr
     count
 }
 
-/// Writes all keys that are prefixes of a text. The length of each is in bytes of the text.
-fn prefixes_of(units: &[u8], text: &str, found: &mut [Prefix]) -> usize
+/// Writes all keys that consist of the first characters of bytes that may be ill-formed. The length
+/// of each is in bytes.
+#[inline(always)]
+fn prefixes_in(units: &[u8], bytes: &[u8], found: &mut [Prefix]) -> usize
     ensures keys { (m : UnitMap) → IsTrieOf (units_of units.now) m
-        → GivesPrefixes (HasCharsValue m (chars text.now)) (bytes_before (chars text.now))
-        (length (chars text.now)) found.old found.new result }
-    ensures exact { GivesPrefixes (HasCharsStepped (units_of units.now) (chars text.now))
-        (bytes_before (chars text.now)) (length (chars text.now)) found.old found.new result }
+        → (n : ℕ) × IsTextUpTo bytes.now n
+        × GivesTextPrefixes (HasCharsValue m) (take n bytes.now) found.old found.new result }
+    ensures exact { (n : ℕ) × IsTextUpTo bytes.now n
+        × GivesTextPrefixes (HasCharsStepped (units_of units.now)) (take n bytes.now) found.old
+        found.new result }
 {
     let trie = trie_in(units);
     let mut cursor = trie.cursor();
     let value = cursor.value();
     let mut count = put(found, 0, 0, value);
     let mut end = 0;
-    for c in text.chars() {
-        if cursor.is_empty() {
-            return count;
-        }
-        cursor.step(c);
-        end += c.len_utf8();
+    while let Some(next) = pass_character(&mut cursor, bytes, end) {
         let value = cursor.value();
-        count = put(found, count, end, value);
+        count = put(found, count, next, value);
+        end = next;
     }
     count
 }
@@ -111,20 +111,21 @@ fn prefixes_of(units: &[u8], text: &str, found: &mut [Prefix]) -> usize
 /// at a character boundary: only keys are found that are the UTF-16 form of the first characters of
 /// the text.
 ///
+/// Reads the first character, and no more of the text than some key continues with. An ill-formed
+/// sequence ends the text.
+///
 /// # Errors
-/// Returns the number of [`Refusal::NoText`] if the text is not UTF-8. The buffer is then
-/// unchanged.
+/// Returns the number of [`Refusal::NoText`] if the text is not empty and does not start with a
+/// character. The buffer is then unchanged.
 #[unsafe(no_mangle)]
 pub extern "C" fn bks_units_prefixes_utf8(units: &[u8], text: &[u8], found: &mut [Prefix]) -> i64
     ensures keys { (m : UnitMap) → IsTrieOf (units_of units.now) m
-        → AnswersPrefixes (IsUtf8 text.now) (HasCharsValue m (chars text.now))
-        (bytes_before (chars text.now)) (length (chars text.now)) found.old found.new result }
-    ensures exact { AnswersPrefixes (IsUtf8 text.now)
-        (HasCharsStepped (units_of units.now) (chars text.now)) (bytes_before (chars text.now))
-        (length (chars text.now)) found.old found.new result }
+        → AnswersPrefixes (HasCharsValue m) text.now found.old found.new result }
+    ensures exact { AnswersPrefixes (HasCharsStepped (units_of units.now)) text.now found.old
+        found.new result }
 {
-    match str::from_utf8(text) {
-        Ok(text) => prefixes_of(units, text, found).min(MOST) as i64,
-        Err(_) => Refusal::NoText.number(),
+    if starts_ill_formed(text) {
+        return Refusal::NoText.number();
     }
+    prefixes_in(units, text, found).min(MOST) as i64
 }

@@ -3,8 +3,7 @@
 //! Two bytes are a unit, the low byte first, at any address. An odd last byte is not part of any
 //! unit. Any bytes are accepted: if a unit is needed and missing, nothing matches, and if the units
 //! of a value are cut off, the value is 0.
-ghost use Rattle.std.specs.Prelude.{◌≡◌, ℕ, pos, List, [], ◌∷◌, ◌++◌, not};
-ghost use Rattle.std.specs.Str.{IsCharBoundary, IsUtf8};
+ghost use Rattle.std.specs.Prelude.{◌≡◌, ℕ, pos, List, [], ◌∷◌, ◌++◌, IfSome, not, take};
 ghost use Rattle.icu_char16trie.specs.Grammar.{IsTrieOf};
 ghost use Rattle.icu_char16trie.specs.Matches.{IsLongestInText, IsLongestMatch, IsLongestStepped, IsLongestSteppedInText};
 ghost use Rattle.icu_char16trie.specs.Passed.{answer_at, result_of};
@@ -12,10 +11,12 @@ ghost use Rattle.icu_char16trie.specs.Steps.{StepsTo};
 ghost use Rattle.icu_char16trie.specs.UnitMap.{UnitMap, goes_on, value_of};
 ghost use Rattle.icu_char16trie.specs.UnitPlaces.{HasPassed, value_at};
 ghost use Rattle.icu_char16trie.specs.declared.place.Place.{Place};
-ghost use Rattle.icu_collections_c.specs.UnitTries.{GivesMatchInText, GivesMatchThat, GivesValue, GivesValueAlong, at, place_of, root, step_number, units_of};
+ghost use Rattle.icu_collections_c.specs.UnitTries.{AnswersMatchInText, EndsAtBoundary, GivesMatchThat, GivesValue, GivesValueAlong, at, place_of, root, step_number, units_of};
+ghost use Rattle.icu_frozen_sets.specs.TextFronts.{IsTextUpTo};
 
 use crate::status::Refusal;
-use crate::units::{give, give_match, step_number, trie_in};
+use crate::text_steps::{pass_character, starts_ill_formed};
+use crate::units::{give, give_match, later_match, step_number, trie_in};
 use icu_char16trie::char16trie::{Char16TrieCursor, CursorPlace};
 
 /// The position of a cursor in a unit trie, passed by value (`UCharsTrie::State`). All zeros is the
@@ -78,26 +79,51 @@ pub extern "C" fn bks_units_longest(units: &[u8], text: &[u16], value: &mut i32)
     give_match(trie_in(units).longest_match(text), value)
 }
 
+/// Finds the longest key that consists of the first characters of bytes that may be ill-formed.
+/// Returns how many bytes it takes, and its value.
+#[inline(always)]
+fn longest_in(units: &[u8], bytes: &[u8]) -> Option<(usize, i32)>
+    ensures keys { (m : UnitMap) → IsTrieOf (units_of units.now) m
+        → (n : ℕ) × IsTextUpTo bytes.now n × IsLongestInText m (take n bytes.now) result }
+    ensures exact { (n : ℕ) × IsTextUpTo bytes.now n
+        × IsLongestSteppedInText (units_of units.now) (take n bytes.now) result }
+    ensures boundary { IfSome result (λ found. EndsAtBoundary bytes.now found.0) }
+{
+    let trie = trie_in(units);
+    let mut cursor = trie.cursor();
+    let value = cursor.value();
+    let mut found = later_match(0, value, None);
+    let mut end = 0;
+    while let Some(next) = pass_character(&mut cursor, bytes, end) {
+        let value = cursor.value();
+        found = later_match(next, value, found);
+        end = next;
+    }
+    found
+}
+
 /// Finds the longest key that is a prefix of a UTF-8 text. Returns how many bytes of the text it
 /// takes and stores its value in `value`. The prefix ends at a character boundary: only keys are
 /// found that are the UTF-16 form of the first characters of the text.
 ///
+/// Reads the first character, and no more of the text than some key continues with. An ill-formed
+/// sequence ends the text.
+///
 /// # Errors
-/// Returns the number of [`Refusal::NoText`] if the text is not UTF-8, and of [`Refusal::NoKey`] if
-/// no key is a prefix of it. `value` is then unchanged.
+/// Returns the number of [`Refusal::NoText`] if the text is not empty and does not start with a
+/// character, and of [`Refusal::NoKey`] if no key is a prefix of it. `value` is then unchanged.
 #[unsafe(no_mangle)]
 pub extern "C" fn bks_units_longest_utf8(units: &[u8], text: &[u8], value: &mut i32) -> i64
     ensures keys { (m : UnitMap) → IsTrieOf (units_of units.now) m
-        → GivesMatchInText (IsUtf8 text.now) (IsLongestInText m text.now) value.old result
-        value.new }
-    ensures exact { GivesMatchInText (IsUtf8 text.now)
-        (IsLongestSteppedInText (units_of units.now) text.now) value.old result value.new }
-    ensures boundary { (n : ℕ) → result ≡ pos n → IsCharBoundary text.now n }
+        → AnswersMatchInText (IsLongestInText m) text.now value.old result value.new }
+    ensures exact { AnswersMatchInText (IsLongestSteppedInText (units_of units.now)) text.now
+        value.old result value.new }
+    ensures boundary { (n : ℕ) → result ≡ pos n → EndsAtBoundary text.now n }
 {
-    match str::from_utf8(text) {
-        Ok(text) => give_match(trie_in(units).longest_match_str(text), value),
-        Err(_) => Refusal::NoText.number(),
+    if starts_ill_formed(text) {
+        return Refusal::NoText.number();
     }
+    give_match(longest_in(units, text), value)
 }
 
 /// Moves the cursor by one more unit, and returns whether a key ends there and whether a key

@@ -1,8 +1,10 @@
 //! Unit tries in bytes, and the results of their look-ups.
 ghost use Rattle.std.specs.Prelude.{◌≡◌, ℕ, ◌<◌, ◌^◌, List, IfSome, not};
+ghost use Rattle.icu_char16trie.specs.Matches.{match_at};
 ghost use Rattle.icu_char16trie.specs.Passed.{answer_at, result_of};
 ghost use Rattle.icu_char16trie.specs.UnitMap.{UnitMap, goes_on, value_of};
 ghost use Rattle.icu_char16trie.specs.UnitPlaces.{HasPassed};
+ghost use Rattle.icu_collections_c.specs.Inside.TextSteps.{last_of};
 ghost use Rattle.icu_collections_c.specs.UnitTries.{GivesMatch, GivesValue, step_number, units_of};
 
 use crate::status::Refusal;
@@ -31,6 +33,22 @@ pub(crate) fn give(found: Option<i32>, value: &mut i32) -> bool
             true
         }
         None => false,
+    }
+}
+
+/// Returns the match of the first `length` bytes if they have a value, and otherwise the earlier
+/// match.
+#[inline(always)]
+pub(crate) fn later_match(
+    length: usize,
+    value: Option<i32>,
+    found: Option<(usize, i32)>,
+) -> Option<(usize, i32)>
+    ensures { result ≡ last_of found (match_at length value) }
+{
+    match value {
+        Some(value) => Some((length, value)),
+        None => found,
     }
 }
 

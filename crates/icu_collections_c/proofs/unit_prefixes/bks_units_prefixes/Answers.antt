@@ -6,7 +6,7 @@ use Rattle.icu_char16trie.specs.UnitMap.{UnitMap, goes_on}
 use Rattle.icu_char16trie.specs.UnitPlaces.{HasPassed, is_empty_at}
 use Rattle.icu_char16trie.specs.declared.place.Place.TheVariants.{Node}
 use Rattle.icu_char16trie.proofs.CallerLemmas.{front_more}
-use Rattle.icu_collections_c.specs.UnitPrefixes.{GivesPrefixes}
+use Rattle.icu_collections_c.specs.UnitPrefixes.{GivesPrefixes, HasFound}
 use Rattle.icu_collections_c.specs.UnitTries.{units_of}
 use Rattle.icu_collections_c.proofs.UnitLemmas.{along_push}
 use Rattle.icu_collections_c.proofs.UnitPrefixLemmas.{HasFound-none, few-looked, looked_all_exact, looked_all_keys, looked_ends_exact, looked_ends_keys, looked_first, looked_next, no_more}
@@ -15,8 +15,9 @@ use Rattle.icu_collections_c.proofs.unit_prefixes.bks_units_prefixes.Goals as go
 pub loop-i-init : goal.loop-i-init
 loop-i-init c = record {
   within = omega arith;
-  looked = looked_first (units_of c.args.units.now) (λ k. take k c.args.text.now) (λ k. k) c.args.found.now c.cursor-cursor.result
-      c.put-count.new.found c.put-count.result c.value-value.result (c.cursor-cursor.ensures.units ∙ c.trie_in-trie.ensures) refl
+  looked = looked_first (units_of c.args.units.now) (λ k. take k c.args.text.now) (λ k. k) c.cursor-cursor.result
+      (λ xs. HasFound xs c.args.found.now c.put-count.new.found c.put-count.result) c.value-value.result
+      (c.cursor-cursor.ensures.units ∙ c.trie_in-trie.ensures) refl
       c.cursor-cursor.ensures.place (λ m h. c.cursor-cursor.ensures.root m (rw c.trie_in-trie.ensures h)) c.value-value.ensures.exact
       c.value-value.ensures.value (c.put-count.ensures [] c.args.found.now (HasFound-none c.args.found.now));
 }
@@ -24,7 +25,7 @@ loop-i-init c = record {
 pub put-count-requires-in-loop-i : goal.put-count-requires-in-loop-i
 put-count-requires-in-loop-i c =
     let was = c.loop-i.invariant.looked in
-    omega (arith, few-looked was, c.loop-i-test.true)
+    omega (arith, few-looked was, was.are.count, c.loop-i-test.true)
 
 pub loop-i-preserved : goal.loop-i-preserved
 loop-i-preserved c =
@@ -37,8 +38,10 @@ loop-i-preserved c =
     subst (λ z. StepsTo z c.loop-i.cursor.place (get_or text i 0) c.step16.new.self.place) was.units_are c.step16.ensures.exact in
     record {
       within = omega (arith, c.loop-i-test.true);
-      looked = looked_next all (λ k. take k text) (λ k. k) c.args.found.now i (i + 1) (omega arith) c.loop-i.cursor c.step16.new.self
-          c.loop-i.found c.put-count-in-loop-i.new.found c.loop-i.count c.put-count-in-loop-i.result c.value-value-in-loop-i.result was
+      looked = looked_next all (λ k. take k text) (λ k. k) i (i + 1) (omega arith) c.loop-i.cursor c.step16.new.self
+          (λ xs. HasFound xs c.args.found.now c.loop-i.found c.loop-i.count)
+          (λ xs. HasFound xs c.args.found.now c.put-count-in-loop-i.new.found c.put-count-in-loop-i.result)
+          c.value-value-in-loop-i.result was
           (c.step16.ensures.units ∙ was.units_are)
           (rw more (along_push all (Node 0) c.loop-i.cursor.place c.step16.new.self.place _ _ was.steps step))
           (λ m h. rw more (c.step16.ensures.after m _ (was.after m h)))
@@ -55,10 +58,12 @@ returns-then-is_empty c =
     let none : (m : UnitMap) (w : List ℕ) → HasPassed c.loop-i.cursor m w → goes_on m w ≡ false =
     λ m w h. no_more _ (sym (c.is_empty.ensures.empty m w h) ∙ c.if-is_empty.true) in
     record {
-      keys = looked_ends_keys (units_of c.args.units.now) (λ k. take k text) (λ k. k) c.args.found.now i c.loop-i.cursor c.loop-i.found
-          c.loop-i.count was (length text) c.loop-i.invariant.within ends none (front_more text i);
-      exact = looked_ends_exact (units_of c.args.units.now) (λ k. take k text) (λ k. k) c.args.found.now i c.loop-i.cursor c.loop-i.found
-          c.loop-i.count was (length text) c.loop-i.invariant.within ends none (front_more text i);
+      keys = looked_ends_keys (units_of c.args.units.now) (λ k. take k text) (λ k. k) i c.loop-i.cursor
+          (λ xs. HasFound xs c.args.found.now c.loop-i.found c.loop-i.count) was (length text) c.loop-i.invariant.within ends none
+          (front_more text i);
+      exact = looked_ends_exact (units_of c.args.units.now) (λ k. take k text) (λ k. k) i c.loop-i.cursor
+          (λ xs. HasFound xs c.args.found.now c.loop-i.found c.loop-i.count) was (length text) c.loop-i.invariant.within ends none
+          (front_more text i);
     }
 
 pub returns : goal.returns
@@ -68,12 +73,11 @@ returns c =
     let over : c.loop-i.i ≡ length text = omega (arith, c.loop-i-test.false, c.loop-i.invariant.within) in
     record {
       keys = λ m h. subst (λ k. GivesPrefixes (HasFrontValue m text) (λ j. j) k c.args.found.now c.loop-i.found c.loop-i.count) over
-          (looked_all_keys (units_of c.args.units.now) (λ k. take k text)
-          (λ k. k) c.args.found.now c.loop-i.i c.loop-i.cursor c.loop-i.found
-          c.loop-i.count was m h);
+          (looked_all_keys (units_of c.args.units.now) (λ k. take k text) (λ k. k) c.loop-i.i c.loop-i.cursor
+          (λ xs. HasFound xs c.args.found.now c.loop-i.found c.loop-i.count) was m h);
       exact = subst
           (λ k. GivesPrefixes (HasFrontStepped (units_of c.args.units.now) text)
           (λ j. j) k c.args.found.now c.loop-i.found c.loop-i.count) over
-          (looked_all_exact (units_of c.args.units.now) (λ k. take k text) (λ k. k) c.args.found.now c.loop-i.i c.loop-i.cursor
-          c.loop-i.found c.loop-i.count was);
+          (looked_all_exact (units_of c.args.units.now) (λ k. take k text) (λ k. k) c.loop-i.i c.loop-i.cursor
+          (λ xs. HasFound xs c.args.found.now c.loop-i.found c.loop-i.count) was);
     }
