@@ -13,6 +13,7 @@ mod RangeLemmas
 mod RunLemmas
 mod SetLemmas
 mod KindLemmas
+mod PlainLemmas
 mod ShortLemmas
 mod SpanLemmas
 mod SetMakingLemmas

@@ -1,10 +1,11 @@
 -- The loops of spans: what they have passed, and why they stop.
-use Rattle.std.proofs.Common.{◌≡◌, ◌∙◌, sym, ap, subst, refl, ℕ, zero, suc, add-zero, ◌+◌, ◌-◌, ◌*◌, ◌<◌, ◌≤◌, List, [], ◌∷◌, ◌++◌, append_assoc, length, take, drop, get_or, Bool, true, false, arith, inl, inr, encode_utf8}
+use Rattle.std.proofs.Common.{◌≡◌, ◌∙◌, sym, ap, subst, refl, ℕ, zero, suc, add-zero, ◌+◌, ◌-◌, ◌*◌, ◌^◌, ◌<◌, ◌≤◌, List, [], ◌∷◌, ◌++◌, append_assoc, length, take, drop, get_or, Bool, true, false, arith, inl, inr, encode_utf8, to_z, w64}
 use Rattle.std.specs.Prelude.{ℤ, pos, ◌⊎◌}
 use Rattle.std.specs.Char.{IsScalar, len_utf8}
 use Rattle.std.specs.List.{All, take_while}
 use Rattle.std.specs.Str.{IsCharBoundary, IsUtf8, StartsWithNoChar, all_scalars, chars, encode_utf8_all}
 use mathlib.Core.Bool.{beq}
+use Rattle.std.proofs.lemmas.Int.{to_z_pos}
 use Rattle.std.proofs.lemmas.Bool.{and_parts, cases_lt, cond-false, cond-true, le-ltb, lt-ltb, true≢false}
 use Rattle.std.proofs.lemmas.List.Sums.{take_while-cons}
 use Rattle.std.proofs.lemmas.List.{append-nil, drop_more, drop-append-le, drop-drop, drop-take, length-append, length-drop, length-take-le, nil_from_length, take-append-drop, take-take, take_all, drop_at, take_at}
@@ -356,6 +357,26 @@ pub ascii_other : (is_in : ℕ → Bool) (held : Bool) (bytes : List ℕ) (n : �
 ascii_other is_in held bytes n before l low differs =
     answers_other is_in held bytes n (omega arith) before (get_or bytes n 0) (drop (n + 1) bytes) (ascii_scalar _ low)
     (ascii_step bytes n l low) (is_other _ _ differs)
+
+-- A length as it is returned.
+pub as_returned : (is_in : ℕ → Bool) (held : Bool) (bytes : List ℕ) (n : ℕ) → n < 2 ^ 63 → AnswersSpan is_in held bytes (pos n)
+    → AnswersSpan is_in held bytes (to_z w64 n)
+as_returned is_in held bytes n small a = rw (to_z_pos w64 n small) a
+
+-- Characters of the kind up to `start`, and ASCII of the kind from there to n.
+module _ (is_in : ℕ → Bool) (held : Bool) (bytes : List ℕ) (start n : ℕ) (order : start ≤ n) (within : n ≤ length bytes)
+    (ascii : (i : ℕ) → start ≤ i → i < n → get_or bytes i 0 < 128) (passed : ArePassed (λ c. beq (is_in c) held) bytes start n)
+    (before : AllHeld is_in held (take start bytes)) where
+  pub after_ascii : AllHeld is_in held (take n bytes)
+  after_ascii = ascii_held is_in held bytes start n (record { order = order; within = within; ascii = ascii }) passed before
+
+  pub ascii_to_end : n < 2 ^ 63 → length bytes ≤ n → AnswersSpan is_in held bytes (to_z w64 n)
+  ascii_to_end small all = as_returned is_in held bytes n small (answers_end is_in held bytes n within after_ascii (omega arith))
+
+  pub ascii_to_other : n < 2 ^ 63 → n < length bytes → get_or bytes n 0 < 128 → beq (is_in (get_or bytes n 0)) held ≡ false
+      → AnswersSpan is_in held bytes (to_z w64 n)
+  ascii_to_other small more low differs =
+      as_returned is_in held bytes n small (ascii_other is_in held bytes n after_ascii more low differs)
 
 -- ---- units
 pub count_append : (cs ds : List ℕ) → unit_count (cs ++ ds) ≡ unit_count cs + unit_count ds

@@ -5,17 +5,23 @@ ghost use mathlib.Core.Bool.{beq};
 ghost use Rattle.icu_invlist.specs.InversionList.{IsValid, holds};
 ghost use Rattle.icu_collections_c.specs.Frozen.{is_held};
 ghost use Rattle.icu_collections_c.specs.Inside.Kinds.{IsRangeOfKind};
+ghost use Rattle.icu_collections_c.specs.Inside.ShortCharacters.{AreShortWords};
 
 use crate::frozen::{PLACE_WORDS, contains, place_of, word};
-use crate::short_characters::past_short;
+use crate::plain_characters::{others_of, past_plain};
+use crate::short_characters::has_short;
+use crate::spans::long_span;
 use icu_zerovec::CODE_POINT_LIMIT;
 use std::marker::Model;
 
+/// A span goes on by tables from so many bytes on. Making them takes about as long as passing these.
+pub(crate) const LONG: usize = 64;
+
 /// The code points in a set, or those outside it.
 pub(crate) trait Kind {
-    ghost use Rattle.std.specs.Prelude.{◌≡◌, ◌-◌, ◌<◌, ◌≤◌, ℕ, Bool, length, slice_index, take};
+    ghost use Rattle.std.specs.Prelude.{◌≡◌, ◌<◌, ◌≤◌, ℕ, ℤ, Bool, true, Some, length, slice_index, take};
     ghost use mathlib.Core.Bool.{beq};
-    ghost use Rattle.icu_collections_c.specs.Spans.{AllHeld};
+    ghost use Rattle.icu_collections_c.specs.Spans.{AllHeld, AnswersSpan};
 
     /// There is such a set.
     ghost is_sound: { Self → Type 0 };
@@ -37,19 +43,25 @@ pub(crate) trait Kind {
         ensures same { self.new ≡ self.old }
         ensures is { is_sound self.old → result ≡ beq (is_in self.old c) (held self.old) };
 
-    /// Passes some more characters of this kind that take at most two bytes in UTF-8, if that is
-    /// faster than one by one, and returns the offset after them. The byte before `start` is no
-    /// lead byte.
-    fn past_short(&mut self, bytes: &[u8], start: usize) -> usize
-        requires some { 0 < start }
-        requires within { start ≤ length bytes.now }
-        requires whole { slice_index bytes.now (start - 1) < 0xC0 }
+    /// Passes some ASCII characters of this kind, if that is faster than one by one, and returns the
+    /// offset after them.
+    fn past_plain(&mut self, bytes: &[u8], start: usize) -> usize
+        requires { start ≤ length bytes.now }
         ensures same { self.new ≡ self.old }
         ensures order { start ≤ result }
         ensures within { result ≤ length bytes.now }
-        ensures passed { is_sound self.old
-            → AllHeld (is_in self.old) (held self.old) (take start bytes.now)
-            → AllHeld (is_in self.old) (held self.old) (take result bytes.now) };
+        ensures ascii { (i : ℕ) → start ≤ i → i < result → slice_index bytes.now i < 128 }
+        ensures passed { is_sound self.old → (i : ℕ) → start ≤ i → i < result
+            → beq (is_in self.old (slice_index bytes.now i)) (held self.old) ≡ true };
+
+    /// Returns the result of the span, if it is found faster in another way from here on. The first
+    /// `passed` bytes are characters of this kind.
+    fn rest(&mut self, bytes: &[u8], passed: usize) -> Option<i64>
+        requires { passed ≤ length bytes.now }
+        ensures same { self.new ≡ self.old }
+        ensures found { (r : ℤ) → result ≡ Some r → is_sound self.old
+            → AllHeld (is_in self.old) (held self.old) (take passed bytes.now)
+            → AnswersSpan (is_in self.old) (held self.old) bytes.now r };
 }
 
 /// A kind by the words of a frozen set.
@@ -112,8 +124,86 @@ impl<'a> Kind for FrozenKind<'a> {
     }
 
     #[inline(always)]
-    fn past_short(&mut self, bytes: &[u8], start: usize) -> usize {
-        past_short(self.table, self.held, bytes, start)
+    fn past_plain(&mut self, _bytes: &[u8], start: usize) -> usize {
+        start
+    }
+
+    #[inline(always)]
+    fn rest(&mut self, bytes: &[u8], passed: usize) -> Option<i64> {
+        if passed < LONG {
+            return None;
+        }
+        Some(long_span(self.table, self.held, bytes, passed))
+    }
+}
+
+/// A kind by tables that are made of a frozen set.
+#[derive(Drop)]
+pub(crate) struct LongKind<'a> {
+    table: &'a [u64],
+    held: bool,
+    /// The words of characters of one and two bytes.
+    words: [u64; 36],
+    /// 0 for each ASCII character of this kind, and 1 for each other one.
+    others: [u8; 256],
+}
+
+impl<'a> Model for LongKind<'a> {
+    ghost use Rattle.icu_collections_c.specs.Inside.Kinds.{NumbersAndHeld};
+    ghost use Rattle.icu_collections_c.specs.Inside.ShortCharacters.{AreLongTables};
+
+    ghost Value = { NumbersAndHeld };
+
+    ghost view = { λ a. record { numbers = a.table.now; held = a.held } };
+
+    ghost invariant = { λ a. AreLongTables a.table.now a.held a.words a.others };
+}
+
+impl<'a> LongKind<'a> {
+    /// Returns the kind by the frozen set at the start of the words of the table.
+    #[inline(always)]
+    pub(crate) fn new(table: &'a [u64], held: bool, words: [u64; 36]) -> LongKind<'a>
+        requires { AreShortWords table.now held words }
+        ensures { result ≡ record { numbers = table.now; held = held } }
+    {
+        let others = others_of(&words);
+        LongKind {
+            table,
+            held,
+            words,
+            others,
+        }
+    }
+}
+
+impl<'a> Kind for LongKind<'a> {
+    ghost is_sound = { λ kind. Unit {0} };
+
+    ghost is_in = { λ kind. is_held kind.numbers };
+
+    ghost held = { λ kind. kind.held };
+
+    #[inline(always)]
+    fn has(&mut self, c: u32) -> bool {
+        if c < 0x800 {
+            return has_short(&self.words, c);
+        }
+        contains(self.table, c) == self.held
+    }
+
+    #[inline(always)]
+    fn has_ascii(&mut self, c: u32) -> bool {
+        has_short(&self.words, c)
+    }
+
+    #[inline(always)]
+    fn past_plain(&mut self, bytes: &[u8], start: usize) -> usize {
+        past_plain(&self.others, bytes, start)
+    }
+
+    #[inline(always)]
+    fn rest(&mut self, _bytes: &[u8], _passed: usize) -> Option<i64> {
+        None
     }
 }
 
@@ -221,7 +311,12 @@ impl<'a> Kind for EndsKind<'a> {
     }
 
     #[inline(always)]
-    fn past_short(&mut self, _bytes: &[u8], start: usize) -> usize {
+    fn past_plain(&mut self, _bytes: &[u8], start: usize) -> usize {
         start
+    }
+
+    #[inline(always)]
+    fn rest(&mut self, _bytes: &[u8], _passed: usize) -> Option<i64> {
+        None
     }
 }

@@ -1,6 +1,7 @@
 //! Characters of one and two bytes in any order. Eight bytes are tested at once, without a jump
 //! that depends on which of them are ASCII.
-ghost use Rattle.std.specs.Prelude.{◌≡◌, ◌+◌, ◌-◌, ◌<◌, ◌≤◌, true, length, take, slice_index};
+ghost use Rattle.std.specs.Prelude.{◌≡◌, ℕ, ◌+◌, ◌-◌, ◌/◌, ◌%◌, ◌<◌, ◌≤◌, ◌==◌, Bool, List, true, false, length, take, slice_index};
+ghost use Rattle.std.specs.Int.{bit_at};
 ghost use Rattle.icu_collections_c.specs.Frozen.{is_held};
 ghost use Rattle.icu_collections_c.specs.Spans.{AllHeld};
 ghost use Rattle.icu_collections_c.specs.Inside.ShortCharacters.{AreShortWords, OfEach, has_bit, is_paired, word_of};
@@ -14,7 +15,7 @@ const LEADS: u64 = 0xFFFF_FFFC;
 /// Returns the words of a kind: one for each byte that starts a character of two bytes, and those
 /// of the bytes that start a character.
 #[inline(always)]
-fn short_words(table: &[u64], held: bool) -> [u64; 36]
+pub(crate) fn short_words(table: &[u64], held: bool) -> [u64; 36]
     ensures { AreShortWords table.now held result }
 {
     let mut words = [0; 36];
@@ -90,52 +91,51 @@ fn are_next_short(words: &[u64; 36], bytes: &[u8], end: usize) -> bool
     are_paired(window) && have_bits(words, window)
 }
 
-/// The highest bit of each of eight bytes.
-const HIGH_BITS: u64 = 0x8080_8080_8080_8080;
-
-/// Returns the eight bytes as a number. It is a single read.
+/// Returns true if one of the eight bytes is not ASCII.
 #[inline(always)]
-fn number_of(bytes: &[u8]) -> u64
+fn are_mixed(bytes: &[u8]) -> bool
     requires { length bytes.now ≡ 8 }
+    ensures yes { result ≡ true → (k : ℕ) × (k < 8) × (128 ≤ slice_index bytes.now k) }
+    ensures no { result ≡ false → (k : ℕ) → k < 8 → slice_index bytes.now k < 128 }
 {
-    u64::from_le_bytes([
-        bytes[0], bytes[1], bytes[2], bytes[3], bytes[4], bytes[5], bytes[6], bytes[7],
-    ])
+    let mut mixed = false;
+    for k in 0..8 {
+        if bytes[k] >= 0x80 {
+            mixed = true;
+        }
+    }
+    mixed
 }
 
-/// Returns true if the eight bytes are ASCII.
+/// Returns whether a character of at most two bytes is of the kind.
 #[inline(always)]
-fn are_ascii(bytes: &[u8]) -> bool
-    requires { length bytes.now ≡ 8 }
+pub(crate) fn has_short(words: &[u64; 36], c: u32) -> bool
+    requires { c < 2048 }
+    ensures { result ≡ (bit_at (slice_index words.now (c / 64)) (c % 64) == 1) }
 {
-    number_of(bytes) & HIGH_BITS == 0
+    (words[(c / 64) as usize] >> (c % 64)) & 1 == 1
 }
 
-/// After three steps in ASCII it is faster to pass ASCII alone.
-const PLAIN: usize = 3;
-
-/// Passes characters of at most two bytes that are of the kind, and returns the offset after them.
-/// It may stop before the last of them, as where more ASCII follows. The byte before `start` is no
-/// lead byte.
+/// Passes characters of at most two bytes that are of the kind, as long as each eight bytes have one
+/// of two, and returns the offset after them. It may stop before the last of them. It passes none at
+/// the start of the bytes, or after a lead byte.
 #[inline(never)]
-pub(crate) fn past_short(table: &[u64], held: bool, bytes: &[u8], start: usize) -> usize
-    requires some { 0 < start }
-    requires within { start ≤ length bytes.now }
-    requires whole { slice_index bytes.now (start - 1) < 0xC0 }
+pub(crate) fn past_short(words: &[u64; 36], bytes: &[u8], start: usize) -> usize
+    requires { start ≤ length bytes.now }
     ensures order { start ≤ result }
     ensures within { result ≤ length bytes.now }
-    ensures passed { AllHeld (is_held table.now) held (take start bytes.now)
-        → AllHeld (is_held table.now) held (take result bytes.now) }
+    ensures passed { (table : List ℕ) (held : Bool) → AreShortWords table held words.now
+        → AllHeld (is_held table) held (take start bytes.now)
+        → AllHeld (is_held table) held (take result bytes.now) }
 {
-    let words = short_words(table, held);
+    if start == 0 {
+        return start;
+    }
+    if bytes[start - 1] >= 0xC0 {
+        return start;
+    }
     let mut end = start;
-    let mut plain = 0;
-    while plain < PLAIN && are_next_short(&words, bytes, end) {
-        plain = if are_ascii(&bytes[end..end + 8]) {
-            plain + 1
-        } else {
-            0
-        };
+    while are_next_short(words, bytes, end) && are_mixed(&bytes[end..end + 8]) {
         end += 8;
     }
     if bytes[end - 1] >= 0xC0 { end - 1 } else { end }

@@ -30,3 +30,9 @@ has_bit words before byte = bit_at (slice_index words (word_of before byte)) (by
 abbrev pub OfEach : (ℕ → ℕ → Bool) → List ℕ → ℕ → ℕ → Type 0
 OfEach test bytes start end = (i : ℕ) → start ≤ i → i < end
     → test (slice_index bytes (i - 1)) (slice_index bytes i) ≡ true
+
+-- The words of a kind, and a table with 0 only for ASCII characters of the kind, and bytes that are
+-- not ASCII.
+pub record AreLongTables (table : List ℕ) (held : Bool) (words others : List ℕ) : Type 0 where
+  pub short : AreShortWords table held words
+  pub plain : (c : ℕ) → c < 128 → slice_index others c ≡ 0 → beq (is_held table c) held ≡ true

@@ -2,13 +2,13 @@ use Rattle.std.proofs.Common.{◌≤◌, ◌-◌, length}
 use Rattle.icu_collections_c.specs.Inside.ShortCharacters.{OfEach, has_bit, is_paired}
 use Rattle.icu_collections_c.proofs.short_characters.past_short.Given as goal
 
-abbrev pub invariant-loop-plain : goal.invariant-loop-plain
-invariant-loop-plain l = record {
+abbrev pub invariant-loop-end : goal.invariant-loop-end
+invariant-loop-end l = record {
   order : l.start ≤ l.end;
   within : l.end ≤ length l.bytes;
   paired : OfEach is_paired l.bytes l.start l.end;
   bits : OfEach (has_bit l.words) l.bytes l.start l.end;
 }
 
-abbrev pub decreases-loop-plain : goal.decreases-loop-plain
-decreases-loop-plain l = length l.bytes - l.end
+abbrev pub decreases-loop-end : goal.decreases-loop-end
+decreases-loop-end l = length l.bytes - l.end

@@ -1,21 +1,9 @@
--- A text in ASCII is passed here, and what follows it by `frozen_span_from`.
-use Rattle.std.proofs.Common.{◌^◌, ◌<◌, arith, length, rules, w64, ℕ, Bool, List}
-use Rattle.std.proofs.lemmas.Int.{to_z-of_z, to_z_pos}
+-- A short text in ASCII is passed here, and what follows it by `frozen_span_from`.
+use Rattle.std.proofs.Common.{◌^◌, ◌<◌, ◌≤◌, arith, length, rules, w64, ℕ, Bool, List}
+use Rattle.std.proofs.lemmas.Int.{to_z-of_z}
 use Rattle.icu_collections_c.specs.Frozen.{is_held}
-use Rattle.icu_collections_c.proofs.SpanLemmas.{PassesAscii, answers_end, ascii_held, ascii_other, starts}
+use Rattle.icu_collections_c.proofs.SpanLemmas.{after_ascii, ascii_to_end, ascii_to_other, starts}
 use Rattle.icu_collections_c.proofs.spans.frozen_span.Goals as goal
-
-pub returns-then-passed-bytes : goal.returns-then-passed-bytes
-returns-then-passed-bytes c =
-    let is_in = is_held c.args.kind.now.numbers in
-    let held : Bool = c.args.kind.now.held in
-    let bytes : List ℕ = c.args.bytes.now in
-    let n : ℕ = c.past_ascii-passed.result in
-    let a = c.past_ascii-passed.ensures in
-    let passes : PassesAscii bytes 0 n = record { order = a.order; within = a.within; ascii = a.ascii } in
-    let alike = ascii_held is_in held bytes 0 n passes (a.passed tt) (starts is_in held bytes) in
-    let small : n < 2 ^ 63 = search rules in
-    rw (to_z_pos w64 n small) (answers_end is_in held bytes n a.within alike (omega (arith, a.within, c.if-passed-bytes.true)))
 
 pub returns-then-bytes-passed-lt128 : goal.returns-then-bytes-passed-lt128
 returns-then-bytes-passed-lt128 c =
@@ -24,12 +12,21 @@ returns-then-bytes-passed-lt128 c =
     let bytes : List ℕ = c.args.bytes.now in
     let n : ℕ = c.past_ascii-passed.result in
     let a = c.past_ascii-passed.ensures in
-    let passes : PassesAscii bytes 0 n = record { order = a.order; within = a.within; ascii = a.ascii } in
-    let alike = ascii_held is_in held bytes 0 n passes (a.passed tt) (starts is_in held bytes) in
     let small : n < 2 ^ 63 = search rules in
-    let more : n < length bytes = omega (arith, c.if-passed-bytes.false) in
-    rw (to_z_pos w64 n small) (ascii_other is_in held bytes n alike more c.if-bytes-passed-lt128.true
-    (a.stops tt more c.if-bytes-passed-lt128.true))
+    let more : n < length bytes = omega (arith, c.if-passed-near.true, c.min-near.ensures) in
+    ascii_to_other is_in held bytes 0 n a.order (omega (arith, more)) a.ascii (a.passed tt) (starts is_in held bytes) small more
+    c.if-bytes-passed-lt128.true (a.stops tt c.if-passed-near.true c.if-bytes-passed-lt128.true)
+
+pub returns-then-passed-bytes : goal.returns-then-passed-bytes
+returns-then-passed-bytes c =
+    let is_in = is_held c.args.kind.now.numbers in
+    let held : Bool = c.args.kind.now.held in
+    let bytes : List ℕ = c.args.bytes.now in
+    let n : ℕ = c.past_ascii-passed.result in
+    let a = c.past_ascii-passed.ensures in
+    let small : n < 2 ^ 63 = search rules in
+    let within : n ≤ length bytes = omega (arith, a.within, c.min-near.ensures) in
+    ascii_to_end is_in held bytes 0 n a.order within a.ascii (a.passed tt) (starts is_in held bytes) small c.if-passed-bytes.true
 
 pub returns : goal.returns
 returns c =
@@ -38,6 +35,6 @@ returns c =
     let bytes : List ℕ = c.args.bytes.now in
     let n : ℕ = c.past_ascii-passed.result in
     let a = c.past_ascii-passed.ensures in
-    let passes : PassesAscii bytes 0 n = record { order = a.order; within = a.within; ascii = a.ascii } in
-    let alike = ascii_held is_in held bytes 0 n passes (a.passed tt) (starts is_in held bytes) in
+    let within : n ≤ length bytes = omega (arith, a.within, c.min-near.ensures) in
+    let alike = after_ascii is_in held bytes 0 n a.order within a.ascii (a.passed tt) (starts is_in held bytes) in
     rw (to_z-of_z w64 c.frozen_span_from.result (search rules)) ((rw a.same at c.frozen_span_from.ensures) alike)

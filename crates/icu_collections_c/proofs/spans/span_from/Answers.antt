@@ -1,10 +1,9 @@
--- The loop passes ASCII and what `past_short` passes, and one longer character at a time.
+-- The loop passes ASCII, eight bytes at a time as far as `past_plain` does, and other characters one by one.
 use Rattle.std.proofs.Common.{◌≡◌, ◌∙◌, ◌+◌, ◌^◌, ◌<◌, ◌≤◌, ◌++◌, ap, arith, drop, encode_utf8, length, rules, sym, w64, ℕ, List}
-use Rattle.std.proofs.lemmas.Int.{to_z_pos}
 use Rattle.std.proofs.lemmas.List.{drop-drop, take_rest}
 use Rattle.std.proofs.lemmas.Str.{length-encode}
 use mathlib.Core.Bool.{beq}
-use Rattle.icu_collections_c.proofs.SpanLemmas.{PassesAscii, answers_end, answers_fault, answers_other, ascii_held, ascii_other, is_alike, is_other, one_more, past_part}
+use Rattle.icu_collections_c.proofs.SpanLemmas.{after_ascii, answers_end, answers_fault, answers_other, as_returned, ascii_to_end, ascii_to_other, is_alike, is_other, one_more, past_part}
 use Rattle.icu_collections_c.proofs.spans.span_from.Goals as goal
 
 pub returns-then-passed-bytes : goal.returns-then-passed-bytes
@@ -12,63 +11,51 @@ returns-then-passed-bytes g c = λ sound all.
     let is_in = g.K.Kind.is_in c.args.kind.now in
     let held = g.K.Kind.held c.args.kind.now in
     let bytes : List ℕ = c.args.bytes.now in
+    let plain : ℕ = c.past_plain-plain.result in
     let n : ℕ = c.past_ascii-passed.result in
+    let p = c.past_plain-plain.ensures in
     let a = c.past_ascii-passed.ensures in
-    let passes : PassesAscii bytes c.loop-passed.passed n = record { order = a.order; within = a.within; ascii = a.ascii } in
-    let alike = ascii_held is_in held bytes c.loop-passed.passed n passes ((rw c.loop-passed.invariant.same at a.passed) sound)
+    let kind = c.rest.ensures.same ∙ c.loop-passed.invariant.same in
+    let before = after_ascii is_in held bytes c.loop-passed.passed plain p.order p.within p.ascii ((rw kind at p.passed) sound)
     (c.loop-passed.invariant.alike sound all) in
     let small : n < 2 ^ 63 = search rules in
-    rw (to_z_pos w64 n small) (answers_end is_in held bytes n a.within alike (omega (arith, a.within, c.if-passed-bytes.true)))
+    ascii_to_end is_in held bytes plain n a.order a.within a.ascii ((rw (p.same ∙ kind) at a.passed) sound) before small
+    c.if-passed-bytes.true
 
 pub returns-then-bytes-passed-lt128-2 : goal.returns-then-bytes-passed-lt128-2
 returns-then-bytes-passed-lt128-2 g c = λ sound all.
     let is_in = g.K.Kind.is_in c.args.kind.now in
     let held = g.K.Kind.held c.args.kind.now in
     let bytes : List ℕ = c.args.bytes.now in
+    let plain : ℕ = c.past_plain-plain.result in
     let n : ℕ = c.past_ascii-passed.result in
+    let p = c.past_plain-plain.ensures in
     let a = c.past_ascii-passed.ensures in
-    let passes : PassesAscii bytes c.loop-passed.passed n = record { order = a.order; within = a.within; ascii = a.ascii } in
-    let alike = ascii_held is_in held bytes c.loop-passed.passed n passes ((rw c.loop-passed.invariant.same at a.passed) sound)
+    let kind = c.rest.ensures.same ∙ c.loop-passed.invariant.same in
+    let before = after_ascii is_in held bytes c.loop-passed.passed plain p.order p.within p.ascii ((rw kind at p.passed) sound)
     (c.loop-passed.invariant.alike sound all) in
     let small : n < 2 ^ 63 = search rules in
     let more : n < length bytes = omega (arith, c.if-passed-bytes.false) in
-    rw (to_z_pos w64 n small) (ascii_other is_in held bytes n alike more c.if-bytes-passed-lt128-2.true
-    ((rw c.loop-passed.invariant.same at a.stops) sound more c.if-bytes-passed-lt128-2.true))
+    ascii_to_other is_in held bytes plain n a.order a.within a.ascii ((rw (p.same ∙ kind) at a.passed) sound) before small more
+    c.if-bytes-passed-lt128-2.true ((rw (p.same ∙ kind) at a.stops) sound more c.if-bytes-passed-lt128-2.true)
 
-pub loop-passed-preserved-then-wait-gt0 : goal.loop-passed-preserved-then-wait-gt0
-loop-passed-preserved-then-wait-gt0 g c = record {
-  same = c.past_ascii-passed.ensures.same ∙ c.loop-passed.invariant.same;
+pub loop-passed-preserved-then-bytes-passed-lt128 : goal.loop-passed-preserved-then-bytes-passed-lt128
+loop-passed-preserved-then-bytes-passed-lt128 g c = record {
+  same = c.past_ascii-passed.ensures.same ∙ (c.past_plain-plain.ensures.same ∙ (c.rest.ensures.same ∙ c.loop-passed.invariant.same));
   within = c.past_ascii-passed.ensures.within;
   alike = λ sound all.
       let is_in = g.K.Kind.is_in c.args.kind.now in
       let held = g.K.Kind.held c.args.kind.now in
       let bytes : List ℕ = c.args.bytes.now in
+      let plain : ℕ = c.past_plain-plain.result in
       let n : ℕ = c.past_ascii-passed.result in
+      let p = c.past_plain-plain.ensures in
       let a = c.past_ascii-passed.ensures in
-      let passes : PassesAscii bytes c.loop-passed.passed n = record { order = a.order; within = a.within; ascii = a.ascii } in
-      let alike = ascii_held is_in held bytes c.loop-passed.passed n passes ((rw c.loop-passed.invariant.same at a.passed) sound)
+      let kind = c.rest.ensures.same ∙ c.loop-passed.invariant.same in
+      let before = after_ascii is_in held bytes c.loop-passed.passed plain p.order p.within p.ascii ((rw kind at p.passed) sound)
       (c.loop-passed.invariant.alike sound all) in
-      alike;
+      after_ascii is_in held bytes plain n a.order a.within a.ascii ((rw (p.same ∙ kind) at a.passed) sound) before;
 }
-
-pub loop-passed-preserved-then-bytes-passed-lt128 : goal.loop-passed-preserved-then-bytes-passed-lt128
-loop-passed-preserved-then-bytes-passed-lt128 g c =
-    let short = c.past_short-passed.ensures in
-    let kind = c.past_ascii-passed.ensures.same ∙ c.loop-passed.invariant.same in
-    record {
-      same = short.same ∙ kind;
-      within = short.within;
-      alike = λ sound all.
-          let is_in = g.K.Kind.is_in c.args.kind.now in
-          let held = g.K.Kind.held c.args.kind.now in
-          let bytes : List ℕ = c.args.bytes.now in
-          let n : ℕ = c.past_ascii-passed.result in
-          let a = c.past_ascii-passed.ensures in
-          let passes : PassesAscii bytes c.loop-passed.passed n = record { order = a.order; within = a.within; ascii = a.ascii } in
-          let alike = ascii_held is_in held bytes c.loop-passed.passed n passes ((rw c.loop-passed.invariant.same at a.passed) sound)
-          (c.loop-passed.invariant.alike sound all) in
-          (rw kind at short.passed) sound alike;
-    }
 
 pub returns-then-passed-gt0 : goal.returns-then-passed-gt0
 returns-then-passed-gt0 g c = λ sound all.
@@ -79,8 +66,8 @@ returns-then-passed-gt0 g c = λ sound all.
     let within : n ≤ length bytes = c.loop-passed.invariant.within in
     let alike = c.loop-passed.invariant.alike sound all in
     let small : n < 2 ^ 63 = search rules in
-    rw (to_z_pos w64 n small) (answers_fault is_in held bytes n within alike c.if-passed-gt0.true
-    (rw (take_rest bytes n) at c.in_default.ensures))
+    as_returned is_in held bytes n small (answers_fault is_in held bytes n within alike c.if-passed-gt0.true
+    (rw (take_rest bytes n) at c.in_default-first_character.ensures))
 
 pub returns-then-not-has : goal.returns-then-not-has
 returns-then-not-has g c = λ sound all.
@@ -91,9 +78,9 @@ returns-then-not-has g c = λ sound all.
     let within : n ≤ length bytes = c.loop-passed.invariant.within in
     let alike = c.loop-passed.invariant.alike sound all in
     let small : n < 2 ^ 63 = search rules in
-    let part = rw (take_rest bytes n) at c.in-Some.ensures in
-    let is : c.has.result ≡ beq (is_in c.in-Some.c) held = (rw (c.loop-passed.invariant.same, c.from.ensures) at c.has.ensures.is) sound in
-    rw (to_z_pos w64 n small) (answers_other is_in held bytes n within alike c.in-Some.c (drop c.in-Some.size (drop n bytes)) part.0
+    let part = rw (take_rest bytes n) at c.in-Some-first_character.ensures in
+    let is : c.has.result ≡ beq (is_in c.in-Some-first_character.c) held = (rw (c.rest.ensures.same ∙ c.loop-passed.invariant.same, c.from.ensures) at c.has.ensures.is) sound in
+    as_returned is_in held bytes n small (answers_other is_in held bytes n within alike c.in-Some-first_character.c (drop c.in-Some-first_character.size (drop n bytes)) part.0
     part.2 (is_other _ _ (sym is ∙ c.if-not-has.true)))
 
 pub loop-passed-preserved : goal.loop-passed-preserved
@@ -101,19 +88,19 @@ loop-passed-preserved g c =
     let bytes : List ℕ = c.args.bytes.now in
     let n : ℕ = c.loop-passed.passed in
     let within : n ≤ length bytes = c.loop-passed.invariant.within in
-    let part = rw (take_rest bytes n) at c.in-Some.ensures in
-    let there : n + c.in-Some.size ≤ length bytes = past_part bytes n c.in-Some.size c.in-Some.c within part.1 part.2 in
+    let part = rw (take_rest bytes n) at c.in-Some-first_character.ensures in
+    let there : n + c.in-Some-first_character.size ≤ length bytes = past_part bytes n c.in-Some-first_character.size c.in-Some-first_character.c within part.1 part.2 in
     record {
-      same = c.has.ensures.same ∙ c.loop-passed.invariant.same;
+      same = c.has.ensures.same ∙ (c.rest.ensures.same ∙ c.loop-passed.invariant.same);
       within = there;
       alike = λ sound all.
           let is_in = g.K.Kind.is_in c.args.kind.now in
           let held = g.K.Kind.held c.args.kind.now in
           let alike = c.loop-passed.invariant.alike sound all in
-          let is : c.has.result ≡ beq (is_in c.in-Some.c) held =
-          (rw (c.loop-passed.invariant.same, c.from.ensures) at c.has.ensures.is) sound in
-          one_more is_in held bytes n within alike c.in-Some.c c.in-Some.size part.0 (part.1 ∙ sym (length-encode c.in-Some.c))
-          (part.2 ∙ ap (λ (bs : List ℕ). encode_utf8 c.in-Some.c ++ bs) (drop-drop c.in-Some.size n bytes)) there
+          let is : c.has.result ≡ beq (is_in c.in-Some-first_character.c) held =
+          (rw (c.rest.ensures.same ∙ c.loop-passed.invariant.same, c.from.ensures) at c.has.ensures.is) sound in
+          one_more is_in held bytes n within alike c.in-Some-first_character.c c.in-Some-first_character.size part.0 (part.1 ∙ sym (length-encode c.in-Some-first_character.c))
+          (part.2 ∙ ap (λ (bs : List ℕ). encode_utf8 c.in-Some-first_character.c ++ bs) (drop-drop c.in-Some-first_character.size n bytes)) there
           (is_alike _ _ (sym is ∙ c.if-not-has.false));
     }
 
@@ -126,4 +113,4 @@ returns g c = λ sound all.
     let within : n ≤ length bytes = c.loop-passed.invariant.within in
     let alike = c.loop-passed.invariant.alike sound all in
     let small : n < 2 ^ 63 = search rules in
-    rw (to_z_pos w64 n small) (answers_end is_in held bytes n within alike (omega (arith, within, c.loop-passed-test.false)))
+    as_returned is_in held bytes n small (answers_end is_in held bytes n within alike (omega (arith, within, c.loop-passed-test.false)))

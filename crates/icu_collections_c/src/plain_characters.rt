@@ -1,0 +1,91 @@
+//! ASCII, eight bytes at a time: the table of a kind, and how many bytes are ASCII.
+ghost use Rattle.std.specs.Prelude.{◌≡◌, ℕ, ◌+◌, ◌*◌, ◌/◌, ◌%◌, ◌<◌, ◌≤◌, ◌==◌, true, length, slice_index};
+ghost use Rattle.std.specs.Int.{bit_at};
+
+use crate::short_characters::has_short;
+
+/// Returns the table with 0 for each ASCII character that is of the kind with these words, and 1 for
+/// each other one. It has 0 for each other byte.
+#[inline(always)]
+pub(crate) fn others_of(words: &[u64; 36]) -> [u8; 256]
+    ensures { (c : ℕ) → c < 128 → slice_index result c ≡ 0
+        → (bit_at (slice_index words.now (c / 64)) (c % 64) == 1) ≡ true }
+{
+    let mut others = [0; 256];
+    for c in 0..128_u32 {
+        others[c as usize] = u8::from(!has_short(words, c));
+    }
+    others
+}
+
+/// Returns true if the table has 0 for each of eight bytes.
+#[inline(always)]
+fn are_plain(others: &[u8; 256], bytes: &[u8]) -> bool
+    requires { length bytes.now ≡ 8 }
+    ensures { result ≡ true → (k : ℕ) → k < 8
+        → slice_index others.now (slice_index bytes.now k) ≡ 0 }
+{
+    let mut plain = true;
+    for k in 0..8 {
+        if others[usize::from(bytes[k])] != 0 {
+            plain = false;
+        }
+    }
+    plain
+}
+
+/// The highest bit of each of eight bytes.
+const HIGH_BITS: u64 = 0x8080_8080_8080_8080;
+
+/// Returns the highest bits of eight bytes, the first byte in the lowest bits.
+#[inline(always)]
+fn high_bits(bytes: &[u8]) -> u64
+    requires { length bytes.now ≡ 8 }
+    ensures { (k : ℕ) → k < 8 → bit_at result (8 * k + 7) ≡ 0 → slice_index bytes.now k < 128 }
+{
+    HIGH_BITS
+        & u64::from_le_bytes([
+            bytes[0], bytes[1], bytes[2], bytes[3], bytes[4], bytes[5], bytes[6], bytes[7],
+        ])
+}
+
+/// Returns how many of eight bytes are ASCII, from the first one on.
+#[inline(always)]
+fn ascii_count(bytes: &[u8]) -> usize
+    requires { length bytes.now ≡ 8 }
+    ensures most { result ≤ 8 }
+    ensures ascii { (k : ℕ) → k < result → slice_index bytes.now k < 128 }
+{
+    let high = high_bits(bytes);
+    if high == 0 {
+        8
+    } else {
+        (high.trailing_zeros() / 8) as usize
+    }
+}
+
+/// Passes ASCII for which the table has 0, eight bytes at a time, and returns the offset after it.
+/// It stops at another character, or at the last seven bytes.
+#[inline(always)]
+pub(crate) fn past_plain(others: &[u8; 256], bytes: &[u8], start: usize) -> usize
+    requires { start ≤ length bytes.now }
+    ensures order { start ≤ result }
+    ensures within { result ≤ length bytes.now }
+    ensures ascii { (i : ℕ) → start ≤ i → i < result → slice_index bytes.now i < 128 }
+    ensures passed { (i : ℕ) → start ≤ i → i < result
+        → slice_index others.now (slice_index bytes.now i) ≡ 0 }
+{
+    let mut end = start;
+    while bytes.len() - end >= 8 {
+        let window = &bytes[end..end + 8];
+        if !are_plain(others, window) {
+            return end;
+        }
+        let count = ascii_count(window);
+        end += count;
+        if count < 8 {
+            return end;
+        }
+    }
+    end
+}
