@@ -49,19 +49,14 @@ fn high_bits(bytes: &[u8]) -> u64
         ])
 }
 
-/// Returns how many of eight bytes are ASCII, from the first one on.
+/// Returns the index of the first byte whose highest bit is 1, from the highest bits of eight bytes.
 #[inline(always)]
-fn ascii_count(bytes: &[u8]) -> usize
-    requires { length bytes.now ≡ 8 }
-    ensures most { result ≤ 8 }
-    ensures ascii { (k : ℕ) → k < result → slice_index bytes.now k < 128 }
+fn first_high(high: u64) -> usize
+    requires { 0 < high }
+    ensures most { result < 8 }
+    ensures before { (k : ℕ) → k < result → bit_at high (8 * k + 7) ≡ 0 }
 {
-    let high = high_bits(bytes);
-    if high == 0 {
-        8
-    } else {
-        (high.trailing_zeros() / 8) as usize
-    }
+    (high.trailing_zeros() / 8) as usize
 }
 
 /// Passes ASCII for which the table has 0, eight bytes at a time, and returns the offset after it.
@@ -81,11 +76,11 @@ pub(crate) fn past_plain(others: &[u8; 256], bytes: &[u8], start: usize) -> usiz
         if !are_plain(others, window) {
             return end;
         }
-        let count = ascii_count(window);
-        end += count;
-        if count < 8 {
-            return end;
+        let high = high_bits(window);
+        if high > 0 {
+            return end + first_high(high);
         }
+        end += 8;
     }
     end
 }
