@@ -1,10 +1,9 @@
 -- ASCII, eight bytes at a time: the highest bits of eight bytes, and runs of bytes that pass a test.
-use Rattle.std.proofs.Common.{◌≡◌, ◌∙◌, sym, ap, subst, refl, ℕ, zero, suc, ◌+◌, ◌-◌, ◌*◌, ◌/◌, ◌%◌, ◌^◌, ◌<◌, ◌≤◌, List, [], ◌∷◌, length, take, drop, get_or, arith, inl, inr, w64}
+use Rattle.std.proofs.Common.{◌≡◌, ◌∙◌, subst, refl, ℕ, zero, suc, ◌+◌, ◌-◌, ◌*◌, ◌<◌, ◌≤◌, List, [], ◌∷◌, take, drop, get_or, arith, inl, inr, w64}
 use Rattle.std.specs.Int.{bit_at, from_le_bytes}
 use Rattle.std.specs.Prelude.{bit_and}
 use Rattle.std.proofs.lemmas.Bool.{cases_lt}
 use Rattle.std.proofs.lemmas.List.{get_or-drop, get_or-take}
-use Rattle.std.proofs.lemmas.Nat.{le_bytes_8}
 use Rattle.std.proofs.lemmas.Nat.Bits.{bit_at-lt, bit_at_and}
 
 -- The bit of a number that a mask leaves.
@@ -21,14 +20,22 @@ module _ (bytes : List ℕ) (n : ℕ) (fits : (i : ℕ) → get_or bytes i 0 < 2
 
   -- If the highest bit of byte k is 0, that byte is ASCII.
   pub high_of : (k : ℕ) → k < 8 → bit_at (bit_and 0x8080_8080_8080_8080 n) (8 * k + 7) ≡ 0 → get_or bytes k 0 < 128
-  high_of zero l h = omega (arith, sum, fits 0, fits 1, fits 2, fits 3, fits 4, fits 5, fits 6, fits 7, left_bit 0x8080_8080_8080_8080 n 7 refl h)
-  high_of (suc zero) l h = omega (arith, sum, fits 0, fits 1, fits 2, fits 3, fits 4, fits 5, fits 6, fits 7, left_bit 0x8080_8080_8080_8080 n 15 refl h)
-  high_of (suc (suc zero)) l h = omega (arith, sum, fits 0, fits 1, fits 2, fits 3, fits 4, fits 5, fits 6, fits 7, left_bit 0x8080_8080_8080_8080 n 23 refl h)
-  high_of (suc (suc (suc zero))) l h = omega (arith, sum, fits 0, fits 1, fits 2, fits 3, fits 4, fits 5, fits 6, fits 7, left_bit 0x8080_8080_8080_8080 n 31 refl h)
-  high_of (suc (suc (suc (suc zero)))) l h = omega (arith, sum, fits 0, fits 1, fits 2, fits 3, fits 4, fits 5, fits 6, fits 7, left_bit 0x8080_8080_8080_8080 n 39 refl h)
-  high_of (suc (suc (suc (suc (suc zero))))) l h = omega (arith, sum, fits 0, fits 1, fits 2, fits 3, fits 4, fits 5, fits 6, fits 7, left_bit 0x8080_8080_8080_8080 n 47 refl h)
-  high_of (suc (suc (suc (suc (suc (suc zero)))))) l h = omega (arith, sum, fits 0, fits 1, fits 2, fits 3, fits 4, fits 5, fits 6, fits 7, left_bit 0x8080_8080_8080_8080 n 55 refl h)
-  high_of (suc (suc (suc (suc (suc (suc (suc zero))))))) l h = omega (arith, sum, fits 0, fits 1, fits 2, fits 3, fits 4, fits 5, fits 6, fits 7, left_bit 0x8080_8080_8080_8080 n 63 refl h)
+  high_of zero l h =
+      omega (arith, sum, fits 0, fits 1, fits 2, fits 3, fits 4, fits 5, fits 6, fits 7, left_bit 0x8080_8080_8080_8080 n 7 refl h)
+  high_of (suc zero) l h =
+      omega (arith, sum, fits 0, fits 1, fits 2, fits 3, fits 4, fits 5, fits 6, fits 7, left_bit 0x8080_8080_8080_8080 n 15 refl h)
+  high_of (suc (suc zero)) l h =
+      omega (arith, sum, fits 0, fits 1, fits 2, fits 3, fits 4, fits 5, fits 6, fits 7, left_bit 0x8080_8080_8080_8080 n 23 refl h)
+  high_of (suc (suc (suc zero))) l h =
+      omega (arith, sum, fits 0, fits 1, fits 2, fits 3, fits 4, fits 5, fits 6, fits 7, left_bit 0x8080_8080_8080_8080 n 31 refl h)
+  high_of (suc (suc (suc (suc zero)))) l h =
+      omega (arith, sum, fits 0, fits 1, fits 2, fits 3, fits 4, fits 5, fits 6, fits 7, left_bit 0x8080_8080_8080_8080 n 39 refl h)
+  high_of (suc (suc (suc (suc (suc zero))))) l h =
+      omega (arith, sum, fits 0, fits 1, fits 2, fits 3, fits 4, fits 5, fits 6, fits 7, left_bit 0x8080_8080_8080_8080 n 47 refl h)
+  high_of (suc (suc (suc (suc (suc (suc zero)))))) l h =
+      omega (arith, sum, fits 0, fits 1, fits 2, fits 3, fits 4, fits 5, fits 6, fits 7, left_bit 0x8080_8080_8080_8080 n 55 refl h)
+  high_of (suc (suc (suc (suc (suc (suc (suc zero))))))) l h =
+      omega (arith, sum, fits 0, fits 1, fits 2, fits 3, fits 4, fits 5, fits 6, fits 7, left_bit 0x8080_8080_8080_8080 n 63 refl h)
   high_of (suc (suc (suc (suc (suc (suc (suc (suc k)))))))) l h = absurd (omega (arith, l))
 
 -- The test passes some more bytes, the first ones of a window.

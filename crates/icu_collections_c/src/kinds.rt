@@ -14,7 +14,7 @@ use crate::spans::long_span;
 use icu_zerovec::CODE_POINT_LIMIT;
 use std::marker::Model;
 
-/// A span goes on by tables from so many bytes on. Making them takes about as long as passing these.
+/// After so many bytes a span goes on by tables. Making them takes about as long as passing these.
 pub(crate) const LONG: usize = 64;
 
 /// The code points in a set, or those outside it.
@@ -43,8 +43,8 @@ pub(crate) trait Kind {
         ensures same { self.new ≡ self.old }
         ensures is { is_sound self.old → result ≡ beq (is_in self.old c) (held self.old) };
 
-    /// Passes some ASCII characters of this kind, if that is faster than one by one, and returns the
-    /// offset after them.
+    /// Passes some ASCII characters of this kind, if that is faster than one by one, and returns
+    /// the offset after them.
     fn past_plain(&mut self, bytes: &[u8], start: usize) -> usize
         requires { start ≤ length bytes.now }
         ensures same { self.new ≡ self.old }

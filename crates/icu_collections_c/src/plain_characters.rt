@@ -4,8 +4,8 @@ ghost use Rattle.std.specs.Int.{bit_at};
 
 use crate::short_characters::has_short;
 
-/// Returns the table with 0 for each ASCII character that is of the kind with these words, and 1 for
-/// each other one. It has 0 for each other byte.
+/// Returns the table with 0 for each ASCII character that is of the kind with these words, and 1
+/// for each other one. It has 0 for bytes that are not ASCII.
 #[inline(always)]
 pub(crate) fn others_of(words: &[u64; 36]) -> [u8; 256]
     ensures { (c : ℕ) → c < 128 → slice_index result c ≡ 0
@@ -49,7 +49,7 @@ fn high_bits(bytes: &[u8]) -> u64
         ])
 }
 
-/// Returns the index of the first byte whose highest bit is 1, from the highest bits of eight bytes.
+/// Returns the index of the first of eight bytes that is not ASCII, from their highest bits.
 #[inline(always)]
 fn first_high(high: u64) -> usize
     requires { 0 < high }

@@ -107,6 +107,22 @@ fn are_mixed(bytes: &[u8]) -> bool
     mixed
 }
 
+/// Returns true if one of 16 bytes is ASCII.
+#[inline(always)]
+fn have_ascii(bytes: &[u8]) -> bool
+    requires { length bytes.now ≡ 16 }
+    ensures yes { result ≡ true → (k : ℕ) × (k < 16) × (slice_index bytes.now k < 128) }
+    ensures no { result ≡ false → (k : ℕ) → k < 16 → 128 ≤ slice_index bytes.now k }
+{
+    let mut ascii = false;
+    for k in 0..16 {
+        if bytes[k] < 0x80 {
+            ascii = true;
+        }
+    }
+    ascii
+}
+
 /// Returns whether a character of at most two bytes is of the kind.
 #[inline(always)]
 pub(crate) fn has_short(words: &[u64; 36], c: u32) -> bool
@@ -116,9 +132,9 @@ pub(crate) fn has_short(words: &[u64; 36], c: u32) -> bool
     (words[(c / 64) as usize] >> (c % 64)) & 1 == 1
 }
 
-/// Passes characters of at most two bytes that are of the kind, as long as each eight bytes have one
-/// of two, and returns the offset after them. It may stop before the last of them. It passes none at
-/// the start of the bytes, or after a lead byte.
+/// Passes characters of at most two bytes that are of the kind, as long as each eight bytes have
+/// one of two, and returns the offset after them. It may stop before the last of them. It passes
+/// none after 16 bytes without ASCII: one by one, characters of two bytes alone are faster.
 #[inline(never)]
 pub(crate) fn past_short(words: &[u64; 36], bytes: &[u8], start: usize) -> usize
     requires { start ≤ length bytes.now }
@@ -128,7 +144,10 @@ pub(crate) fn past_short(words: &[u64; 36], bytes: &[u8], start: usize) -> usize
         → AllHeld (is_held table) held (take start bytes.now)
         → AllHeld (is_held table) held (take result bytes.now) }
 {
-    if start == 0 {
+    if start < 16 {
+        return start;
+    }
+    if !have_ascii(&bytes[start - 16..start]) {
         return start;
     }
     if bytes[start - 1] >= 0xC0 {

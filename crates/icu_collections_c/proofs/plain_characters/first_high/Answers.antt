@@ -1,4 +1,4 @@
-use Rattle.std.proofs.Common.{ℕ, ◌+◌, ◌*◌, ◌<◌, arith, w64}
+use Rattle.std.proofs.Common.{◌+◌, ◌*◌, arith, w64}
 use Rattle.std.proofs.lemmas.Nat.Bits.{bit_at-trailing_zeros}
 use Rattle.icu_collections_c.proofs.plain_characters.first_high.Goals as goal
 

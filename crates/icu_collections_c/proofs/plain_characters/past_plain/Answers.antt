@@ -1,6 +1,5 @@
 -- The loop passes eight bytes at a time, and then those before the first one that is not ASCII.
 use Rattle.std.proofs.Common.{◌≡◌, ℕ, ◌+◌, ◌-◌, ◌*◌, ◌<◌, arith, get_or, refl}
-use Rattle.std.specs.Int.{bit_at}
 use Rattle.std.proofs.lemmas.Nat.Bits.{bit_at-zero}
 use Rattle.icu_collections_c.proofs.PlainLemmas.{longer_run}
 use Rattle.icu_collections_c.proofs.plain_characters.past_plain.Goals as goal

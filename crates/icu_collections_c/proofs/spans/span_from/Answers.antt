@@ -1,5 +1,5 @@
 -- The loop passes ASCII, eight bytes at a time as far as `past_plain` does, and other characters one by one.
-use Rattle.std.proofs.Common.{◌≡◌, ◌∙◌, ◌+◌, ◌^◌, ◌<◌, ◌≤◌, ◌++◌, ap, arith, drop, encode_utf8, length, rules, sym, w64, ℕ, List}
+use Rattle.std.proofs.Common.{◌≡◌, ◌∙◌, ◌+◌, ◌^◌, ◌<◌, ◌≤◌, ◌++◌, ap, arith, drop, encode_utf8, length, rules, sym, ℕ, List}
 use Rattle.std.proofs.lemmas.List.{drop-drop, take_rest}
 use Rattle.std.proofs.lemmas.Str.{length-encode}
 use mathlib.Core.Bool.{beq}
@@ -78,18 +78,23 @@ returns-then-not-has g c = λ sound all.
     let within : n ≤ length bytes = c.loop-passed.invariant.within in
     let alike = c.loop-passed.invariant.alike sound all in
     let small : n < 2 ^ 63 = search rules in
+    let char : ℕ = c.in-Some-first_character.c in
+    let size : ℕ = c.in-Some-first_character.size in
     let part = rw (take_rest bytes n) at c.in-Some-first_character.ensures in
-    let is : c.has.result ≡ beq (is_in c.in-Some-first_character.c) held = (rw (c.rest.ensures.same ∙ c.loop-passed.invariant.same, c.from.ensures) at c.has.ensures.is) sound in
-    as_returned is_in held bytes n small (answers_other is_in held bytes n within alike c.in-Some-first_character.c (drop c.in-Some-first_character.size (drop n bytes)) part.0
-    part.2 (is_other _ _ (sym is ∙ c.if-not-has.true)))
+    let is : c.has.result ≡ beq (is_in char) held =
+    (rw (c.rest.ensures.same ∙ c.loop-passed.invariant.same, c.from.ensures) at c.has.ensures.is) sound in
+    as_returned is_in held bytes n small (answers_other is_in held bytes n within alike char (drop size (drop n bytes))
+    part.0 part.2 (is_other _ _ (sym is ∙ c.if-not-has.true)))
 
 pub loop-passed-preserved : goal.loop-passed-preserved
 loop-passed-preserved g c =
     let bytes : List ℕ = c.args.bytes.now in
     let n : ℕ = c.loop-passed.passed in
     let within : n ≤ length bytes = c.loop-passed.invariant.within in
+    let char : ℕ = c.in-Some-first_character.c in
+    let size : ℕ = c.in-Some-first_character.size in
     let part = rw (take_rest bytes n) at c.in-Some-first_character.ensures in
-    let there : n + c.in-Some-first_character.size ≤ length bytes = past_part bytes n c.in-Some-first_character.size c.in-Some-first_character.c within part.1 part.2 in
+    let there : n + size ≤ length bytes = past_part bytes n size char within part.1 part.2 in
     record {
       same = c.has.ensures.same ∙ (c.rest.ensures.same ∙ c.loop-passed.invariant.same);
       within = there;
@@ -97,10 +102,10 @@ loop-passed-preserved g c =
           let is_in = g.K.Kind.is_in c.args.kind.now in
           let held = g.K.Kind.held c.args.kind.now in
           let alike = c.loop-passed.invariant.alike sound all in
-          let is : c.has.result ≡ beq (is_in c.in-Some-first_character.c) held =
+          let is : c.has.result ≡ beq (is_in char) held =
           (rw (c.rest.ensures.same ∙ c.loop-passed.invariant.same, c.from.ensures) at c.has.ensures.is) sound in
-          one_more is_in held bytes n within alike c.in-Some-first_character.c c.in-Some-first_character.size part.0 (part.1 ∙ sym (length-encode c.in-Some-first_character.c))
-          (part.2 ∙ ap (λ (bs : List ℕ). encode_utf8 c.in-Some-first_character.c ++ bs) (drop-drop c.in-Some-first_character.size n bytes)) there
+          one_more is_in held bytes n within alike char size part.0 (part.1 ∙ sym (length-encode char))
+          (part.2 ∙ ap (λ (bs : List ℕ). encode_utf8 char ++ bs) (drop-drop size n bytes)) there
           (is_alike _ _ (sym is ∙ c.if-not-has.false));
     }
 
