@@ -6,7 +6,7 @@ use Rattle.std.specs.Int.{bit_at}
 use mathlib.Core.Bool.{beq}
 use Rattle.std.proofs.lemmas.Bool.{cases_eq, cases_lt, cond-false, cond-true, eq-eqb, eqb-true, leb-false, leb-true, lt-ltb, ne_eqb}
 use Rattle.std.proofs.lemmas.Grind.{get_or-set_at}
-use Rattle.std.proofs.lemmas.List.{drop-drop, get_or-drop, get_or-set_other, get_or-take, length-drop}
+use Rattle.std.proofs.lemmas.List.{drop-drop, get_or-drop, get_or-set_other, get_or-take, length-drop, length-set}
 use Rattle.std.proofs.lemmas.Nat.Bits.{bit_at_mask_above, bit_at_mask_below}
 use Rattle.std.proofs.lemmas.Str.{length-encode}
 use Rattle.icu_zerovec.specs.CodePoints.{code_point_limit}
@@ -38,6 +38,40 @@ short_more table held words k place w t n h p e bits before c m = elim (cases_eq
       ∙ (bits (c % 64) (omega arith) ∙ ap (λ (b : Bool). beq b held) (sym (inside ∙ bit)))
   | inr q ↦ ap (λ (j : ℕ). bit_at j (c % 64) == 1) (get_or-set_other words k (c / 64) t 0 q) ∙ before c (omega arith)
 ]
+
+-- The four words of a block.
+pub short_block : (table : List ℕ) (held : Bool) (words : List ℕ) (b p w0 w1 w2 w3 t0 t1 t2 t3 : ℕ) → length words ≡ 36 → b < 8
+    → p ≡ place_in table b → w0 ≡ get_or table (1088 + p) 0 → w1 ≡ get_or table (1088 + p + 1) 0
+    → w2 ≡ get_or table (1088 + p + 2) 0 → w3 ≡ get_or table (1088 + p + 3) 0
+    → ((i : ℕ) → i < 64 → (bit_at t0 i == 1) ≡ beq (bit_at w0 i == 1) held)
+    → ((i : ℕ) → i < 64 → (bit_at t1 i == 1) ≡ beq (bit_at w1 i == 1) held)
+    → ((i : ℕ) → i < 64 → (bit_at t2 i == 1) ≡ beq (bit_at w2 i == 1) held)
+    → ((i : ℕ) → i < 64 → (bit_at t3 i == 1) ≡ beq (bit_at w3 i == 1) held)
+    → ((c : ℕ) → c / 64 < 4 * b → SaysOf table held words c) → (c : ℕ) → c / 64 < 4 * (b + 1)
+    → SaysOf table held (set (set (set (set words (4 * b) t0) (4 * b + 1) t1) (4 * b + 2) t2) (4 * b + 3) t3) c
+short_block table held words b p w0 w1 w2 w3 t0 t1 t2 t3 n l is e0 e1 e2 e3 h0 h1 h2 h3 before c m =
+    let words1 : List ℕ = set words (4 * b) t0 in
+    let words2 : List ℕ = set words1 (4 * b + 1) t1 in
+    let words3 : List ℕ = set words2 (4 * b + 2) t2 in
+    let n1 : length words1 ≡ 36 = length-set words (4 * b) t0 ∙ n in
+    let n2 : length words2 ≡ 36 = length-set words1 (4 * b + 1) t1 ∙ n1 in
+    let n3 : length words3 ≡ 36 = length-set words2 (4 * b + 2) t2 ∙ n2 in
+    let q0 : 4 * b / 4 ≡ b = omega arith in
+    let q1 : (4 * b + 1) / 4 ≡ b = omega arith in
+    let q2 : (4 * b + 2) / 4 ≡ b = omega arith in
+    let q3 : (4 * b + 3) / 4 ≡ b = omega arith in
+    let same0 : 1088 + p ≡ 1088 + p + 4 * b % 4 = omega arith in
+    let same1 : 1088 + p + 1 ≡ 1088 + p + (4 * b + 1) % 4 = omega arith in
+    let same2 : 1088 + p + 2 ≡ 1088 + p + (4 * b + 2) % 4 = omega arith in
+    let same3 : 1088 + p + 3 ≡ 1088 + p + (4 * b + 3) % 4 = omega arith in
+    let one = short_more table held words (4 * b) p w0 t0 n (omega arith) (rw q0 is)
+    (e0 ∙ ap (λ (j : ℕ). get_or table j 0) same0) h0 before in
+    let two = short_more table held words1 (4 * b + 1) p w1 t1 n1 (omega arith) (rw q1 is)
+    (e1 ∙ ap (λ (j : ℕ). get_or table j 0) same1) h1 one in
+    let three = short_more table held words2 (4 * b + 2) p w2 t2 n2 (omega arith) (rw q2 is)
+    (e2 ∙ ap (λ (j : ℕ). get_or table j 0) same2) h2 (λ d k. two d (omega (arith, k))) in
+    short_more table held words3 (4 * b + 3) p w3 t3 n3 (omega arith) (rw q3 is)
+    (e3 ∙ ap (λ (j : ℕ). get_or table j 0) same3) h3 (λ d k. three d (omega (arith, k))) c (omega (arith, m))
 
 -- ---- a byte and the one before it
 lead_before : (before byte : ℕ) → is_paired before byte ≡ true → byte / 64 ≡ 2 → 0xC0 ≤ before

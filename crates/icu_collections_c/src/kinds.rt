@@ -1,5 +1,5 @@
 //! What a span tests characters for: that they are in a set, or that they are outside it.
-ghost use Rattle.std.specs.Prelude.{◌≡◌, ◌-◌, ◌<◌, ◌≤◌, ◌==◌, ℕ, length, slice_index};
+ghost use Rattle.std.specs.Prelude.{◌≡◌, ◌-◌, ◌/◌, ◌%◌, ◌<◌, ◌≤◌, ◌==◌, ℕ, true, length, slice_index};
 ghost use Rattle.std.specs.Int.{bit_at};
 ghost use mathlib.Core.Bool.{beq};
 ghost use Rattle.icu_invlist.specs.InversionList.{IsValid, holds};
@@ -8,7 +8,7 @@ ghost use Rattle.icu_collections_c.specs.Inside.Kinds.{IsRangeOfKind};
 ghost use Rattle.icu_collections_c.specs.Inside.ShortCharacters.{AreShortWords};
 
 use crate::frozen::{PLACE_WORDS, contains, place_of, word};
-use crate::plain_characters::{others_of, past_plain};
+use crate::plain_characters::past_plain;
 use crate::short_characters::has_short;
 use crate::spans::long_span;
 use icu_zerovec::CODE_POINT_LIMIT;
@@ -143,9 +143,9 @@ pub(crate) struct LongKind<'a> {
     table: &'a [u64],
     held: bool,
     /// The words of characters of one and two bytes.
-    words: [u64; 36],
-    /// 0 for each ASCII character of this kind, and 1 for each other one.
-    others: [u8; 256],
+    words: &'a [u64; 36],
+    /// 0 only for ASCII characters of this kind, and bytes that are not ASCII.
+    others: &'a [u8; 256],
 }
 
 impl<'a> Model for LongKind<'a> {
@@ -156,17 +156,23 @@ impl<'a> Model for LongKind<'a> {
 
     ghost view = { λ a. record { numbers = a.table.now; held = a.held } };
 
-    ghost invariant = { λ a. AreLongTables a.table.now a.held a.words a.others };
+    ghost invariant = { λ a. AreLongTables a.table.now a.held a.words.now a.others.now };
 }
 
 impl<'a> LongKind<'a> {
-    /// Returns the kind by the frozen set at the start of the words of the table.
+    /// Returns the kind by the frozen set at the start of the table, with the tables made of it.
     #[inline(always)]
-    pub(crate) fn new(table: &'a [u64], held: bool, words: [u64; 36]) -> LongKind<'a>
-        requires { AreShortWords table.now held words }
+    pub(crate) fn new(
+        table: &'a [u64],
+        held: bool,
+        words: &'a [u64; 36],
+        others: &'a [u8; 256],
+    ) -> LongKind<'a>
+        requires short { AreShortWords table.now held words.now }
+        requires plain { (c : ℕ) → c < 128 → slice_index others.now c ≡ 0
+            → (bit_at (slice_index words.now (c / 64)) (c % 64) == 1) ≡ true }
         ensures { result ≡ record { numbers = table.now; held = held } }
     {
-        let others = others_of(&words);
         LongKind {
             table,
             held,
@@ -186,19 +192,19 @@ impl<'a> Kind for LongKind<'a> {
     #[inline(always)]
     fn has(&mut self, c: u32) -> bool {
         if c < 0x800 {
-            return has_short(&self.words, c);
+            return has_short(self.words, c);
         }
         contains(self.table, c) == self.held
     }
 
     #[inline(always)]
     fn has_ascii(&mut self, c: u32) -> bool {
-        has_short(&self.words, c)
+        has_short(self.words, c)
     }
 
     #[inline(always)]
     fn past_plain(&mut self, bytes: &[u8], start: usize) -> usize {
-        past_plain(&self.others, bytes, start)
+        past_plain(self.others, bytes, start)
     }
 
     #[inline(always)]

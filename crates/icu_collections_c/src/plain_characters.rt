@@ -2,18 +2,29 @@
 ghost use Rattle.std.specs.Prelude.{◌≡◌, ℕ, ◌+◌, ◌*◌, ◌/◌, ◌%◌, ◌<◌, ◌≤◌, ◌==◌, true, length, slice_index};
 ghost use Rattle.std.specs.Int.{bit_at};
 
-use crate::short_characters::has_short;
+/// Writes eight bits to the table, each as a byte that is 0 if the bit is.
+#[inline(always)]
+fn write_bits(others: &mut [u8; 256], start: usize, bits: u8)
+    requires { start + 8 ≤ 256 }
+    ensures bits { (j : ℕ) → j < 8 → slice_index others.new (start + j) ≡ 0 → bit_at bits j ≡ 0 }
+    ensures before { (i : ℕ) → i < start → slice_index others.new i ≡ slice_index others.old i }
+{
+    for j in 0..8 {
+        others[start + j] = bits & (1 << j);
+    }
+}
 
-/// Returns the table with 0 for each ASCII character that is of the kind with these words, and 1
-/// for each other one. It has 0 for bytes that are not ASCII.
+/// Returns a table for the kind with these words. It has 0 for each ASCII character that is of the
+/// kind, and not for the other ones. It has 0 for bytes that are not ASCII.
 #[inline(always)]
 pub(crate) fn others_of(words: &[u64; 36]) -> [u8; 256]
     ensures { (c : ℕ) → c < 128 → slice_index result c ≡ 0
         → (bit_at (slice_index words.now (c / 64)) (c % 64) == 1) ≡ true }
 {
     let mut others = [0; 256];
-    for c in 0..128_u32 {
-        others[c as usize] = u8::from(!has_short(words, c));
+    for k in 0..16 {
+        let word = !words[k / 8];
+        write_bits(&mut others, 8 * k, ((word >> (8 * (k % 8))) % 0x100) as u8);
     }
     others
 }

@@ -19,9 +19,13 @@ pub(crate) fn short_words(table: &[u64], held: bool) -> [u64; 36]
     ensures { AreShortWords table.now held result }
 {
     let mut words = [0; 36];
-    for k in 0..32_u32 {
-        let place = PLACE_WORDS + place_of(table, k / 4) + (k % 4) as usize;
-        words[k as usize] = turned(word(table, place), held);
+    for block in 0..8_u32 {
+        let place = PLACE_WORDS + place_of(table, block);
+        let first = 4 * block as usize;
+        words[first] = turned(word(table, place), held);
+        words[first + 1] = turned(word(table, place + 1), held);
+        words[first + 2] = turned(word(table, place + 2), held);
+        words[first + 3] = turned(word(table, place + 3), held);
     }
     words[32] = words[0];
     words[33] = words[1];

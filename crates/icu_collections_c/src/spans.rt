@@ -7,6 +7,7 @@ ghost use Rattle.icu_collections_c.specs.Frozen.{IsFrozenOf, is_held};
 ghost use Rattle.icu_collections_c.specs.Spans.{AllHeld, AnswersSpan, AnswersSpanBack, AnswersTextSpan, AnswersTextSpanBack, unit_count, unit_span};
 
 use crate::kinds::{EndsKind, FrozenKind, Kind, LONG, LongKind};
+use crate::plain_characters::others_of;
 use crate::short_characters::{past_short, short_words};
 use crate::status::Refusal;
 use icu_trie_text::characters::{first_character, last_character};
@@ -101,8 +102,13 @@ pub(crate) fn long_span(table: &[u64], held: bool, bytes: &[u8], start: usize) -
         → AnswersSpan (is_held table.now) held bytes.now result }
 {
     let words = short_words(table, held);
+    let others = others_of(&words);
     let passed = past_short(&words, bytes, start);
-    span_from(&mut LongKind::new(table, held, words), bytes, passed)
+    span_from(
+        &mut LongKind::new(table, held, &words, &others),
+        bytes,
+        passed,
+    )
 }
 
 /// The same as `span_from`, for a frozen set. It is not inlined, so that a call for a word in ASCII
