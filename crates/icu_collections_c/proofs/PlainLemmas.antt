@@ -64,7 +64,8 @@ byte_bit n s j l =
 pub inverted_bit : (word s j i : ℕ) → word < 2 ^ 64 → j < 8 → s + j ≡ i → i < 64
     → bit_at (bit_not w64 word / 2 ^ s % 256) j ≡ 0 → (bit_at word i == 1) ≡ true
 inverted_bit word s j i fits l e m none =
-    let off : bit_at (bit_not w64 word) i ≡ 0 = ap (λ (x : ℕ). bit_at (bit_not w64 word) x) (sym e) ∙ (sym (byte_bit (bit_not w64 word) s j l) ∙ none) in
+    let off : bit_at (bit_not w64 word) i ≡ 0 =
+    ap (λ (x : ℕ). bit_at (bit_not w64 word) x) (sym e) ∙ (sym (byte_bit (bit_not w64 word) s j l) ∙ none) in
     eq-eqb (bit_at word i) 1 (omega (arith, off, bit_at_not w64 word i fits m, bit_at-lt word i))
 
 -- The test passes some more bytes, the first ones of a window.
