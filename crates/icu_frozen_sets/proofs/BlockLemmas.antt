@@ -1,13 +1,15 @@
 -- Setting blocks of the tables.
 use Rattle.std.proofs.Common.{◌≡◌, ◌∙◌, ℕ, ◌+◌, ◌-◌, ◌/◌, ◌%◌, ◌^◌, ◌<◌, ◌≤◌, List, [], ◌∷◌, length, get_or, set, replicate, refl, ap, sym, arith, zero, suc, zero-add, Bool, true, false, cond, inl, inr}
 use Rattle.std.specs.Int.{bit_at}
-use Rattle.std.specs.Prelude.{nat_eq}
+use Rattle.std.specs.Prelude.{nat_eq, ◌||◌}
 use Rattle.std.proofs.lemmas.Bool.{cases_eq, cases_lt}
 use Rattle.std.proofs.lemmas.Grind.{get_or-set_at}
 use Rattle.std.proofs.lemmas.List.{length-set, length-replicate, get_or_default, get_or_past, get_or-replicate, get_or-set_other}
 use Rattle.std.proofs.lemmas.Nat.Bits.{bit_at_ones, bit_at-zero}
+use Rattle.icu_invlist.specs.InversionList.{between}
 use Rattle.icu_frozen_sets.specs.CodePointBits.{BitTables, has_bit, word_with}
 use Rattle.icu_frozen_sets.specs.Inside.Filling.{AreTables, IsFilling, SetsBlock, block_bit}
+use Rattle.icu_frozen_sets.proofs.BitLemmas.{between_after, between_before, between_in, or_false, or_true}
 
 -- ---- the bits of equal words
 pub bit_of_uniform : (value : Bool) (word k : ℕ) → word ≡ cond value (2 ^ 64 - 1) 0 → k < 64 → nat_eq (bit_at word k) 1 ≡ value
@@ -70,6 +72,53 @@ uniform_block t new block at value s all = record {
   kept = s.kept;
   set = λ c q. s.set c q ∙ sym (bit_of_uniform value _ (c % 64) (all (c / 64 % 4) (omega arith)) (omega arith));
 }
+
+-- The blocks from `from` to before `to` are made full.
+module _ (t : BitTables) (index : List ℕ) (from to : ℕ) (a : AreTables t) (same : length index ≡ length t.index)
+    (full : (b : ℕ) → get_or index b 0 ≡ cond (between from to b) 4 (get_or t.index b 0)) where
+  inside_run : (b : ℕ) → from ≤ b → b < to → get_or index b 0 ≡ 4
+  inside_run b l h = full b ∙ rw (between_in from to b l h) refl
+
+  outside_run : (b : ℕ) → between from to b ≡ false → get_or index b 0 ≡ get_or t.index b 0
+  outside_run b n = full b ∙ rw n refl
+
+  run_placed : (b : ℕ) → b < length index → get_or index b 0 + 4 ≤ length t.words
+  run_placed b h = let p = a.placed b (omega (arith, h, same)) in
+      elim (cases_lt b from) [
+        | inl l ↦ (let e = outside_run b (between_before from to b l) in omega (arith, e, p))
+        | inr l ↦ elim (cases_lt b to) [
+          | inl k ↦ (let e = inside_run b l k in let m = a.least in omega (arith, e, m))
+          | inr k ↦ (let e = outside_run b (between_after from to b k) in omega (arith, e, p))
+        ]
+      ]
+
+  pub run_tables : AreTables (record { index = index; words = t.words })
+  run_tables = record {
+    least = a.least;
+    most = (let m = a.most in omega (arith, m, same));
+    placed = run_placed;
+    none = a.none;
+    all = a.all;
+  }
+
+  bit_at_place : (c n m : ℕ) → n ≡ m
+      → nat_eq (bit_at (get_or t.words (n + c / 64 % 4) 0) (c % 64)) 1 ≡ nat_eq (bit_at (get_or t.words (m + c / 64 % 4) 0) (c % 64)) 1
+  bit_at_place c n m e = ap (λ (k : ℕ). nat_eq (bit_at (get_or t.words (k + c / 64 % 4) 0) (c % 64)) 1) e
+
+  kept_bit : (c : ℕ) → between from to (c / 256) ≡ false
+      → has_bit (record { index = index; words = t.words }) c ≡ (has_bit t c || between from to (c / 256))
+  kept_bit c n = bit_at_place c _ _ (outside_run (c / 256) n) ∙ sym (rw n (or_false _))
+
+  pub run_bits : (c : ℕ) → has_bit (record { index = index; words = t.words }) c ≡ (has_bit t c || between from to (c / 256))
+  run_bits c = elim (cases_lt (c / 256) from) [
+    | inl l ↦ kept_bit c (between_before from to (c / 256) l)
+    | inr l ↦ elim (cases_lt (c / 256) to) [
+      | inl k ↦ bit_at_place c _ 4 (inside_run (c / 256) l k)
+          ∙ (bit_of_uniform true _ (c % 64) (shared_word t true (c / 64 % 4) a (omega arith)) (omega arith)
+          ∙ sym (rw (between_in from to (c / 256) l k) (or_true _)))
+      | inr k ↦ kept_bit c (between_after from to (c / 256) k)
+    ]
+  ]
 
 -- An empty block has no bit.
 pub empty_block : (t : BitTables) (c : ℕ) → AreTables t → get_or t.index (c / 256) 0 ≡ 0 → has_bit t c ≡ false

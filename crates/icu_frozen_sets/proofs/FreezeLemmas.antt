@@ -1,5 +1,5 @@
 -- The ranges of a set are filled one after another.
-use Rattle.std.proofs.Common.{◌≡◌, ◌∙◌, ℕ, ◌+◌, ◌*◌, ◌/◌, ◌<◌, ◌≤◌, List, [], ◌∷◌, length, get_or, min, refl, ap, sym, arith, suc, Bool, true, false, inl, inr}
+use Rattle.std.proofs.Common.{◌≡◌, ◌∙◌, ℕ, ◌+◌, ◌<◌, ◌≤◌, List, [], ◌∷◌, length, get_or, min, refl, ap, sym, arith, suc, Bool, true, false, inl, inr}
 use Rattle.std.specs.Prelude.{nat_lt, nat_le, ◌&&◌, ◌||◌}
 use Rattle.std.specs.List.{All}
 use Rattle.std.specs.declared.ops.RangeInclusive.{RangeInclusive}
@@ -7,29 +7,33 @@ use Rattle.std.proofs.lemmas.Bool.{cases_lt, lt-ltb, le-ltb, le-leb, lt-leb}
 use Rattle.icu_zerovec.specs.CodePoints.{code_point_limit}
 use Rattle.icu_invlist.specs.InversionList.{AreApart, IsOfCodePoints, IsValid, StartsBehind, between, holds, in_ranges}
 use Rattle.icu_frozen_sets.specs.CodePointBits.{BitTables, has_bit}
-use Rattle.icu_frozen_sets.specs.Inside.Filling.{AreTables, IsFilling, IsFrozen, bit_among, filled}
+use Rattle.icu_frozen_sets.specs.Inside.Filling.{AreBelow, AreClosed, AreTables, IsFilling, IsFrozen, bit_among, bits_of, filled}
 use Rattle.icu_frozen_sets.proofs.BitLemmas.{or_false}
+use Rattle.icu_frozen_sets.proofs.MarkLemmas.{below_later}
 
 -- The first of the ranges, if there is one, starts at n or above.
 abbrev pub StartsFrom : ℕ → List (RangeInclusive ℕ) → Type 0
 StartsFrom n [] = Unit {0}
 StartsFrom n (r ∷ rs) = n ≤ r.start
 
+-- All marks in block `at` are below the first of the ranges, if there is one.
+abbrev pub AreBelowFirst : List ℕ → List ℕ → ℕ → List (RangeInclusive ℕ) → Type 0
+AreBelowFirst starts ends at [] = Unit {0}
+AreBelowFirst starts ends at (r ∷ rs) = AreBelow starts ends at r.start
+
 -- Each code point in the set is filled, or in one of the ranges that are left.
-pub record Freezes (ends : List ℕ) (left : List (RangeInclusive ℕ)) (t : BitTables) (block : List ℕ) (at : ℕ) : Type 0 where
+pub record Freezes (set : List ℕ) (left : List (RangeInclusive ℕ)) (t : BitTables) (starts ends : List ℕ) (carried : Bool) (at : ℕ)
+    : Type 0 where
   pub filling : IsFilling t at
+  pub closed : AreClosed starts ends carried
   pub apart : AreApart left
   pub within : All IsOfCodePoints left
-  pub from : StartsFrom (at * 256) left
-  pub held : (c : ℕ) → c < code_point_limit → holds ends c ≡ (filled t block at c || in_ranges left c)
+  pub below : AreBelowFirst starts ends at left
+  pub held : (c : ℕ) → c < code_point_limit → holds set c ≡ (filled t (bits_of starts ends carried) at c || in_ranges left c)
 
 starts_from : (n : ℕ) (rs : List (RangeInclusive ℕ)) → StartsBehind n rs → StartsFrom n rs
 starts_from n [] h = tt
 starts_from n (r ∷ rs) h = omega arith
-
-pub starts_from_zero : (rs : List (RangeInclusive ℕ)) → StartsFrom 0 rs
-starts_from_zero [] = tt
-starts_from_zero (r ∷ rs) = omega arith
 
 starts_lower : (n m : ℕ) (rs : List (RangeInclusive ℕ)) → m ≤ n → StartsFrom n rs → StartsFrom m rs
 starts_lower n m [] l h = tt
@@ -51,22 +55,35 @@ below c end last h e = elim (cases_lt end c) [
   | inr l ↦ lt-ltb c last (omega arith) ∙ sym (le-leb c end l)
 ]
 
-pub freezes_none : (ends : List ℕ) (left : List (RangeInclusive ℕ)) (t : BitTables) (block : List ℕ) (at : ℕ)
-    → IsFilling t at → at ≡ 0 → ((c : ℕ) → filled t block at c ≡ false)
-    → AreApart left → All IsOfCodePoints left → ((c : ℕ) → in_ranges left c ≡ holds ends c) → Freezes ends left t block at
-freezes_none ends left t block at f z none apart within held = record {
+below_first : (starts ends : List ℕ) (at : ℕ) (left : List (RangeInclusive ℕ)) → ((next : ℕ) → AreBelow starts ends at next)
+    → AreBelowFirst starts ends at left
+below_first starts ends at [] b = tt
+below_first starts ends at (r ∷ rs) b = b r.start
+
+below_rest : (starts ends : List ℕ) (at last : ℕ) (left : List (RangeInclusive ℕ)) → AreBelow starts ends at (last + 2)
+    → StartsBehind (last + 1) left → AreBelowFirst starts ends at left
+below_rest starts ends at last [] b h = tt
+below_rest starts ends at last (r ∷ rs) b h = below_later starts ends at (last + 2) r.start b (omega arith)
+
+pub freezes_none : (set : List ℕ) (left : List (RangeInclusive ℕ)) (t : BitTables) (starts ends : List ℕ) (carried : Bool) (at : ℕ)
+    → IsFilling t at → AreClosed starts ends carried → ((next : ℕ) → AreBelow starts ends at next)
+    → ((c : ℕ) → filled t (bits_of starts ends carried) at c ≡ false)
+    → AreApart left → All IsOfCodePoints left → ((c : ℕ) → in_ranges left c ≡ holds set c)
+    → Freezes set left t starts ends carried at
+freezes_none set left t starts ends carried at f closed below none apart within held = record {
   filling = f;
+  closed = closed;
   apart = apart;
   within = within;
-  from = rw z (starts_from_zero left);
+  below = below_first starts ends at left below;
   held = λ c h. sym (rw (none c) (held c));
 }
 
-module _ (ends : List ℕ) (left rest : List (RangeInclusive ℕ)) (r : RangeInclusive ℕ) (step : left ≡ r ∷ rest) (t : BitTables)
-    (block : List ℕ) (at : ℕ)
-    (f : Freezes ends left t block at) where
-  pub range_from : at * 256 ≤ r.start
-  range_from = let P : List (RangeInclusive ℕ) → Type 0 = λ rs. StartsFrom (at * 256) rs in rw step at f.from
+module _ (set : List ℕ) (left rest : List (RangeInclusive ℕ)) (r : RangeInclusive ℕ) (step : left ≡ r ∷ rest) (t : BitTables)
+    (starts ends : List ℕ) (carried : Bool) (at : ℕ)
+    (f : Freezes set left t starts ends carried at) where
+  pub range_above : AreBelow starts ends at r.start
+  range_above = let P : List (RangeInclusive ℕ) → Type 0 = λ rs. AreBelowFirst starts ends at rs in rw step at f.below
 
   here : AreApart (r ∷ rest)
   here = rw step at f.apart
@@ -74,33 +91,41 @@ module _ (ends : List ℕ) (left rest : List (RangeInclusive ℕ)) (r : RangeInc
   inside : All IsOfCodePoints (r ∷ rest)
   inside = rw step at f.within
 
-  pub freezes_more : (t1 : BitTables) (block1 : List ℕ) (new start end : ℕ) → start ≡ r.start → end ≡ r.end + 1 → new ≡ end / 256
-      → IsFilling t1 new
-      → ((c : ℕ) → c < code_point_limit → filled t1 block1 new c ≡ (filled t block at c || between start end c))
-      → Freezes ends rest t1 block1 new
-  freezes_more t1 block1 new start end s e n filling bits = record {
+  pub range_order : r.start ≤ r.end
+  range_order = let w = inside 0 r (omega arith) in omega arith
+
+  pub range_within : r.end + 1 ≤ code_point_limit
+  range_within = let w = inside 0 r (omega arith) in omega arith
+
+  pub freezes_more : (t1 : BitTables) (starts1 ends1 : List ℕ) (carried1 : Bool) (new start end : ℕ) → start ≡ r.start → end ≡ r.end + 1
+      → IsFilling t1 new → AreClosed starts1 ends1 carried1 → AreBelow starts1 ends1 new (end + 1)
+      → ((c : ℕ) → c < code_point_limit → filled t1 (bits_of starts1 ends1 carried1) new c
+      ≡ (filled t (bits_of starts ends carried) at c || between start end c))
+      → Freezes set rest t1 starts1 ends1 carried1 new
+  freezes_more t1 starts1 ends1 carried1 new start end s e filling closed below bits = record {
     filling = filling;
+    closed = closed;
     apart = here.1;
     within = λ k d h. inside (suc k) d (omega arith);
-    from = starts_lower (r.end + 1) (new * 256) rest (omega arith) (starts_from (r.end + 1) rest here.0);
-    held = λ c h. f.held c h ∙ (ap (λ (rs : List (RangeInclusive ℕ)). filled t block at c || in_ranges rs c) step
-        ∙ (or_assoc (filled t block at c) (nat_le r.start c && nat_le c r.end) (in_ranges rest c)
+    below = below_rest starts1 ends1 new r.end rest (below_later starts1 ends1 new (end + 1) (r.end + 2) below (omega arith)) here.0;
+    held = λ c h. f.held c h ∙ (ap (λ (rs : List (RangeInclusive ℕ)). filled t (bits_of starts ends carried) at c || in_ranges rs c) step
+        ∙ (or_assoc (filled t (bits_of starts ends carried) at c) (nat_le r.start c && nat_le c r.end) (in_ranges rest c)
         ∙ ap (λ (b : Bool). b || in_ranges rest c)
-        (sym (bits c h ∙ (ap (λ (n : ℕ). filled t block at c || between n end c) s
-        ∙ ap (λ (x : Bool). filled t block at c || (nat_le r.start c && x))
+        (sym (bits c h ∙ (ap (λ (n : ℕ). filled t (bits_of starts ends carried) at c || between n end c) s
+        ∙ ap (λ (x : Bool). filled t (bits_of starts ends carried) at c || (nat_le r.start c && x))
         (ap (λ (n : ℕ). nat_lt c n) e ∙ through c r.end))))));
   }
 
-module _ (ends : List ℕ) (left : List (RangeInclusive ℕ)) (t : BitTables) (block : List ℕ) (at : ℕ) (new : BitTables)
-    (f : Freezes ends left t block at) (none : left ≡ []) (tables : AreTables new) (blocks : length new.index ≡ 4352)
-    (bits : (c : ℕ) → c < code_point_limit → has_bit new c ≡ filled t block at c) where
-  all_bits : (c : ℕ) → c < code_point_limit → has_bit new c ≡ holds ends c
+module _ (set : List ℕ) (left : List (RangeInclusive ℕ)) (t : BitTables) (starts ends : List ℕ) (carried : Bool) (at : ℕ) (new : BitTables)
+    (f : Freezes set left t starts ends carried at) (none : left ≡ []) (tables : AreTables new) (blocks : length new.index ≡ 4352)
+    (bits : (c : ℕ) → c < code_point_limit → has_bit new c ≡ filled t (bits_of starts ends carried) at c) where
+  all_bits : (c : ℕ) → c < code_point_limit → has_bit new c ≡ holds set c
   all_bits c h = bits c h ∙ sym (f.held c h
-      ∙ (ap (λ (rs : List (RangeInclusive ℕ)). filled t block at c || in_ranges rs c) none
-      ∙ or_false (filled t block at c)))
+      ∙ (ap (λ (rs : List (RangeInclusive ℕ)). filled t (bits_of starts ends carried) at c || in_ranges rs c) none
+      ∙ or_false (filled t (bits_of starts ends carried) at c)))
 
-  pub frozen_all : IsValid ends → (ascii : List Bool) → ((c : ℕ) → c < 128 → get_or ascii c false ≡ holds ends c)
-      → (two_bytes : List ℕ) → ((c : ℕ) → c < 2048 → bit_among two_bytes c ≡ has_bit new c) → IsFrozen ends ascii two_bytes new
+  pub frozen_all : IsValid set → (ascii : List Bool) → ((c : ℕ) → c < 128 → get_or ascii c false ≡ holds set c)
+      → (two_bytes : List ℕ) → ((c : ℕ) → c < 2048 → bit_among two_bytes c ≡ has_bit new c) → IsFrozen set ascii two_bytes new
   frozen_all v ascii first two_bytes alike = record {
     valid = v;
     tables = tables;

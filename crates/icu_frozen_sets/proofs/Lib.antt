@@ -4,6 +4,7 @@ pub mod CallerLemmas
 pub mod CharacterLemmas
 pub mod FillingLemmas
 pub mod FreezeLemmas
+pub mod MarkLemmas
 pub mod OneCharacter
 pub mod SpanLemmas
 pub mod TextFrontLemmas

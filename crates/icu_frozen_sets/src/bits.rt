@@ -58,6 +58,17 @@ fn is_all(block: &[u64; 4], word: u64) -> bool
     block[0] == word && block[1] == word && block[2] == word && block[3] == word
 }
 
+/// Makes the blocks from `from` to before `to` full.
+fn fill(index: &mut [u16], from: usize, to: usize)
+    requires order { from ≤ to }
+    requires there { to ≤ length index.old }
+    ensures blocks { length index.new ≡ length index.old }
+    ensures full { (b : ℕ) → slice_index index.new b
+        ≡ (if between from to b then 4 else slice_index index.old b) }
+{
+    index[from..to].fill(FULL_BLOCK);
+}
+
 impl CodePointBits {
     /// Returns tables in which all blocks are empty, with capacity for the blocks of a set of
     /// `ranges` ranges.
@@ -181,6 +192,7 @@ impl CodePointBits {
     /// Makes the blocks from `from` to before `to` full.
     pub(crate) fn fill_blocks(&mut self, from: usize, to: usize)
         requires tables { AreTables self.old }
+        requires order { from ≤ to }
         requires there { to ≤ length self.old.index }
         ensures tables { AreTables self.new }
         ensures blocks { length self.new.index ≡ length self.old.index }
@@ -190,9 +202,7 @@ impl CodePointBits {
         ensures bits { (c : ℕ) → c / 256 < length self.old.index
             → has_bit self.new c ≡ (has_bit self.old c || between from to (c / 256)) }
     {
-        for at in from..to {
-            self.set_shared(at, true);
-        }
+        fill(&mut self.index, from, to);
     }
 
     /// Returns a copy.

@@ -1,52 +1,66 @@
 //! Filling the bits of a set, range by range.
-ghost use Rattle.std.specs.Prelude.{◌≡◌, ℕ, ◌+◌, ◌*◌, ◌/◌, ◌<◌, ◌≤◌, ◌||◌, false, length, IfOk, OnOk};
+ghost use Rattle.std.specs.Prelude.{◌≡◌, ℕ, ◌+◌, ◌*◌, ◌/◌, ◌%◌, ◌^◌, ◌<◌, ◌≤◌, ◌||◌, ◌==◌, false, length, IfOk, OnOk};
+ghost use Rattle.std.specs.Int.{bit_at, from_bool};
 ghost use Rattle.icu_zerovec.specs.CodePoints.{code_point_limit};
 ghost use Rattle.icu_invlist.specs.InversionList.{between};
 ghost use Rattle.icu_frozen_sets.specs.CodePointBits.{has_bit};
-ghost use Rattle.icu_frozen_sets.specs.Inside.Filling.{AreTables, IsFilling, block_bit, filled};
+ghost use Rattle.icu_frozen_sets.specs.Inside.Filling.{AreBelow, AreClosed, AreTables, IsFilling, bits_of, block_bit, filled, number};
 
 use crate::bits::{BLOCKS, CodePointBits};
 use icu_zerovec::MemoryError;
 use std::alloc::Global;
 
 /// The bits of the ranges that were added so far, in ascending order.
+///
+/// The bits of the current block are computed when the block is complete. Until then only the
+/// starts and the ends of its ranges are marked. Read as numbers of 256 bits, the ends minus the
+/// starts are the bits, since `2^end - 2^start` has ones from bit `start` to before bit `end`. So a
+/// range takes no jump that depends on the words that it is in.
 #[derive(Debug, Drop)]
 pub(crate) struct Filling {
     /// The blocks below `at`. All others are empty here.
     bits: CodePointBits,
-    /// The words of block `at`.
-    block: [u64; 4],
+    /// The starts of the ranges in block `at`.
+    starts: [u64; 4],
+    /// The ends of the ranges in block `at`. An end is the code point after the last one.
+    ends: [u64; 4],
+    /// Whether a range that starts in an earlier block reaches block `at`.
+    carried: bool,
     /// The number of the current block.
     at: u32,
 }
 
-/// Sets the bits of the code points in `from..to`, which are all in one word of the block.
+/// Marks the code point `c`, which is above all marks in the words.
 #[inline(always)]
-fn set_bits(block: &mut [u64; 4], from: u32, to: u32)
-    requires some { from < to }
-    requires one_word { to ≤ (from / 64 + 1) * 64 }
-    ensures { (c : ℕ) → c / 256 ≡ from / 256
-        → block_bit block.new c ≡ (block_bit block.old c || between from to c) }
+fn mark(words: &mut [u64; 4], c: u32)
+    requires above { number words.old < 2 ^ (c % 256) }
+    ensures { number words.new ≡ number words.old + 2 ^ (c % 256) }
 {
-    let mask = (u64::MAX << (from % 64)) & (u64::MAX >> (63 - (to - 1) % 64));
-    block[(from / 64 % 4) as usize] |= mask;
+    words[(c / 64 % 4) as usize] += 1 << (c % 64);
 }
 
-/// Sets the bits of the code points in `from..to`, which are all in the block.
+/// Returns `end - start - carried`, and whether that borrows from the next word.
 #[inline(always)]
-fn set_ones(block: &mut [u64; 4], from: u32, to: u32)
-    requires some { from < to }
-    requires one_block { to ≤ (from / 256 + 1) * 256 }
-    ensures { (c : ℕ) → c / 256 ≡ from / 256
-        → block_bit block.new c ≡ (block_bit block.old c || between from to c) }
+fn less(end: u64, start: u64, carried: bool) -> (u64, bool)
+    ensures { result.0 + start + from_bool carried ≡ end + from_bool result.1 * 2 ^ 64 }
 {
-    let mut begin = from;
-    while begin / 64 < (to - 1) / 64 {
-        let next = (begin / 64 + 1) * 64;
-        set_bits(block, begin, next);
-        begin = next;
-    }
-    set_bits(block, begin, to);
+    let (rest, first) = end.overflowing_sub(start);
+    let (total, second) = rest.overflowing_sub(u64::from(carried));
+    (total, first | second)
+}
+
+/// Returns the ends minus the starts. `carried` counts as a start before all bits.
+#[inline(always)]
+fn difference(ends: &[u64; 4], starts: &[u64; 4], carried: bool) -> [u64; 4]
+    ensures { (n j : ℕ) → n < 2 ^ 256
+        → n + (number starts.now + from_bool carried) ≡ number ends.now + j * 2 ^ 256
+        → (c : ℕ) → block_bit result c ≡ (bit_at n (c % 256) == 1) }
+{
+    let (first, borrow) = less(ends[0], starts[0], carried);
+    let (second, borrow) = less(ends[1], starts[1], borrow);
+    let (third, borrow) = less(ends[2], starts[2], borrow);
+    let (fourth, _) = less(ends[3], starts[3], borrow);
+    [first, second, third, fourth]
 }
 
 impl Filling {
@@ -56,34 +70,59 @@ impl Filling {
     /// Returns `MemoryError` if an allocation fails.
     pub(crate) fn new(alloc: Global, ranges: usize) -> Result<Filling, MemoryError>
         ensures filling { IfOk result (λ f. IsFilling f.bits f.at) }
-        ensures start { IfOk result (λ f. f.at ≡ 0) }
-        ensures none { IfOk result (λ f. (c : ℕ) → filled f.bits f.block f.at c ≡ false) }
+        ensures closed { IfOk result (λ f. AreClosed f.starts f.ends f.carried) }
+        ensures below { IfOk result (λ f. (next : ℕ) → AreBelow f.starts f.ends f.at next) }
+        ensures none { IfOk result (λ f. (c : ℕ)
+            → filled f.bits (bits_of f.starts f.ends f.carried) f.at c ≡ false) }
     {
         Ok(Filling {
             bits: CodePointBits::new(alloc, ranges)?,
-            block: [0; 4],
+            starts: [0; 4],
+            ends: [0; 4],
+            carried: false,
             at: 0,
         })
+    }
+
+    /// Makes `at` the current block, without marks. A range reaches it if `carried` is true.
+    #[inline(always)]
+    fn begin(&mut self, at: u32, carried: bool)
+        ensures bits { self.new.bits ≡ self.old.bits }
+        ensures starts { number self.new.starts ≡ 0 }
+        ensures ends { number self.new.ends ≡ 0 }
+        ensures carried { self.new.carried ≡ carried }
+        ensures at { self.new.at ≡ at }
+    {
+        self.starts = [0; 4];
+        self.ends = [0; 4];
+        self.carried = carried;
+        self.at = at;
     }
 
     /// Makes `at` the current block. If that changes it, the block before is written.
     #[inline(always)]
     fn move_to(&mut self, at: u32) -> Result<(), MemoryError>
         requires filling { IsFilling self.old.bits self.old.at }
+        requires closed { AreClosed self.old.starts self.old.ends self.old.carried }
         requires order { self.old.at ≤ at }
         requires within { at ≤ BLOCKS }
         ensures filling { OnOk result (IsFilling self.new.bits at) }
         ensures at { OnOk result (self.new.at ≡ at) }
+        ensures closed { OnOk result (AreClosed self.new.starts self.new.ends self.new.carried) }
+        ensures below { OnOk result ((next : ℕ) → at * 256 ≤ next
+            → AreBelow self.old.starts self.old.ends self.old.at next
+            → AreBelow self.new.starts self.new.ends at next) }
         ensures same { OnOk result ((c : ℕ) → c < code_point_limit
-            → filled self.new.bits self.new.block at c
-            ≡ filled self.old.bits self.old.block self.old.at c) }
+            → filled self.new.bits (bits_of self.new.starts self.new.ends self.new.carried) at c
+            ≡ filled self.old.bits (bits_of self.old.starts self.old.ends self.old.carried)
+            self.old.at c) }
     {
         if self.at == at {
             return Ok(());
         }
-        self.bits.set_block(self.at as usize, &self.block)?;
-        self.block = [0; 4];
-        self.at = at;
+        let block = difference(&self.ends, &self.starts, self.carried);
+        self.bits.set_block(self.at as usize, &block)?;
+        self.begin(at, false);
         Ok(())
     }
 
@@ -93,22 +132,28 @@ impl Filling {
     #[inline(never)]
     fn add_far(&mut self, start: u32, end: u32) -> Result<(), MemoryError>
         requires filling { IsFilling self.old.bits self.old.at }
+        requires closed { AreClosed self.old.starts self.old.ends self.old.carried }
+        requires below { AreBelow self.old.starts self.old.ends self.old.at start }
         requires here { self.old.at ≡ start / 256 }
         requires later { start / 256 < end / 256 }
         requires within { end ≤ code_point_limit }
         ensures filling { OnOk result (IsFilling self.new.bits self.new.at) }
-        ensures at { OnOk result (self.new.at ≡ end / 256) }
+        ensures closed { OnOk result (AreClosed self.new.starts self.new.ends self.new.carried) }
+        ensures below { OnOk result
+            (AreBelow self.new.starts self.new.ends self.new.at (end + 1)) }
         ensures bits { OnOk result ((c : ℕ) → c < code_point_limit
-            → filled self.new.bits self.new.block self.new.at c
-            ≡ (filled self.old.bits self.old.block self.old.at c || between start end c)) }
+            → filled self.new.bits (bits_of self.new.starts self.new.ends self.new.carried)
+            self.new.at c
+            ≡ (filled self.old.bits (bits_of self.old.starts self.old.ends self.old.carried)
+            self.old.at c || between start end c)) }
     {
-        let next = self.at + 1;
-        set_ones(&mut self.block, start, next * 256);
-        self.move_to(end / 256)?;
-        self.bits.fill_blocks(next as usize, (end / 256) as usize);
-        if end % 256 != 0 {
-            set_ones(&mut self.block, end / 256 * 256, end);
-        }
+        mark(&mut self.starts, start);
+        let block = difference(&self.ends, &self.starts, self.carried);
+        self.bits.set_block(self.at as usize, &block)?;
+        let next = self.at as usize + 1;
+        self.bits.fill_blocks(next, (end / 256) as usize);
+        self.begin(end / 256, true);
+        mark(&mut self.ends, end);
         Ok(())
     }
 
@@ -119,20 +164,26 @@ impl Filling {
     #[inline(always)]
     pub(crate) fn add(&mut self, start: u32, end: u32) -> Result<(), MemoryError>
         requires filling { IsFilling self.old.bits self.old.at }
-        requires order { self.old.at ≤ start / 256 }
+        requires closed { AreClosed self.old.starts self.old.ends self.old.carried }
+        requires below { AreBelow self.old.starts self.old.ends self.old.at start }
         requires some { start < end }
         requires within { end ≤ code_point_limit }
         ensures filling { OnOk result (IsFilling self.new.bits self.new.at) }
-        ensures at { OnOk result (self.new.at ≡ end / 256) }
+        ensures closed { OnOk result (AreClosed self.new.starts self.new.ends self.new.carried) }
+        ensures below { OnOk result
+            (AreBelow self.new.starts self.new.ends self.new.at (end + 1)) }
         ensures bits { OnOk result ((c : ℕ) → c < code_point_limit
-            → filled self.new.bits self.new.block self.new.at c
-            ≡ (filled self.old.bits self.old.block self.old.at c || between start end c)) }
+            → filled self.new.bits (bits_of self.new.starts self.new.ends self.new.carried)
+            self.new.at c
+            ≡ (filled self.old.bits (bits_of self.old.starts self.old.ends self.old.carried)
+            self.old.at c || between start end c)) }
     {
         self.move_to(start / 256)?;
         if end / 256 != self.at {
             return self.add_far(start, end);
         }
-        set_ones(&mut self.block, start, end);
+        mark(&mut self.starts, start);
+        mark(&mut self.ends, end);
         Ok(())
     }
 
@@ -142,15 +193,19 @@ impl Filling {
     /// Returns `MemoryError` if an allocation fails.
     pub(crate) fn finish(mut self) -> Result<CodePointBits, MemoryError>
         requires filling { IsFilling self.bits self.at }
+        requires closed { AreClosed self.starts self.ends self.carried }
         ensures tables { IfOk result (λ b. AreTables b) }
         ensures blocks { IfOk result (λ b. length b.index ≡ BLOCKS) }
         ensures bits { IfOk result (λ b. (c : ℕ) → c < code_point_limit
-            → has_bit b c ≡ filled self.bits self.block self.at c) }
+            → has_bit b c
+            ≡ filled self.bits (bits_of self.starts self.ends self.carried) self.at c) }
     {
         self.move_to(BLOCKS)?;
         let Filling {
             bits,
-            block: _,
+            starts: _,
+            ends: _,
+            carried: _,
             at: _,
         } = self;
         Ok(bits)

@@ -1,6 +1,7 @@
--- Tables during filling, from the first code point on: the words of the current block are separate.
+-- Tables during filling, from the first code point on. The current block is separate, as the starts
+-- and the ends of the ranges in it: one bit marks each.
 use Rattle.std.specs.Prelude.{ℕ, ◌+◌, ◌-◌, ◌*◌, ◌/◌, ◌%◌, ◌^◌, ◌<◌, ◌≤◌, ◌≡◌, ◌≢◌, List, length, slice_index, slice_index_or, Bool, false, ◌==◌, if◌then◌else◌}
-use Rattle.std.specs.Int.{bit_at}
+use Rattle.std.specs.Int.{bit_at, from_bool}
 use Rattle.icu_zerovec.specs.CodePoints.{code_point_limit}
 use Rattle.icu_invlist.specs.InversionList.{IsValid, holds}
 use Rattle.icu_frozen_sets.specs.CodePointBits.{BitTables, has_bit}
@@ -44,9 +45,30 @@ pub record IsFilling (t : BitTables) (at : ℕ) : Type 0 where
   pub within : at ≤ 4352
   pub empty : (b : ℕ) → at ≤ b → slice_index t.index b ≡ 0
 
--- The bit of c if block `at` has these words.
-unfoldable pub filled : BitTables → List ℕ → ℕ → ℕ → Bool
-filled t block at c = if c / 256 == at then block_bit block c else has_bit t c
+-- Four words as one number, whose bit k is bit k % 64 of word k / 64.
+unfoldable pub number : List ℕ → ℕ
+number words = ((slice_index words 3 * 2 ^ 64 + slice_index words 2) * 2 ^ 64
+    + slice_index words 1) * 2 ^ 64 + slice_index words 0
+
+-- The bits of a block with these marks. A range from s to before e counts 2 ^ e - 2 ^ s, which has
+-- ones from bit s to before bit e. A range that is carried into the block starts at its bit 0.
+abbrev pub bits_of : List ℕ → List ℕ → Bool → ℕ
+bits_of starts ends carried = number ends - (number starts + from_bool carried)
+
+-- Each range in the block ends in it.
+pub record AreClosed (starts ends : List ℕ) (carried : Bool) : Type 0 where
+  pub order : number starts + from_bool carried ≤ number ends
+  pub fits : number ends < 2 ^ 256
+
+-- All marks in block `at` are below the code point `next`.
+pub record AreBelow (starts ends : List ℕ) (at next : ℕ) : Type 0 where
+  pub here : at * 256 ≤ next
+  pub of_starts : number starts < 2 ^ (next - at * 256)
+  pub of_ends : number ends < 2 ^ (next - at * 256)
+
+-- The bit of c if block `at` has these bits.
+unfoldable pub filled : BitTables → ℕ → ℕ → ℕ → Bool
+filled t block at c = if c / 256 == at then bit_at block (c % 256) == 1 else has_bit t c
 
 -- The tables have a bit for each code point, which is 1 if and only if the set contains it. `ascii`
 -- and `two_bytes` repeat the bits of ASCII and of the code points below 0x800.

@@ -1,27 +1,36 @@
-use Rattle.std.proofs.Common.{◌/◌, arith}
-use Rattle.icu_frozen_sets.proofs.FillingLemmas.{added_far, none_last, run_filling}
+use Rattle.std.proofs.Common.{◌≡◌, ◌∙◌, ℕ, ◌+◌, ◌-◌, ◌^◌, ◌%◌, ap, arith}
+use Rattle.icu_frozen_sets.specs.CodePointBits.{BitTables}
+use Rattle.icu_frozen_sets.specs.Inside.Filling.{bits_of, filled}
+use Rattle.icu_frozen_sets.proofs.FillingLemmas.{added_far}
+use Rattle.icu_frozen_sets.proofs.MarkLemmas.{bits_below, carried_below, carried_bits, carried_closed, far_fits, far_number}
 use Rattle.icu_frozen_sets.proofs.filling.Filling.add_far.Goals as goal
 
-pub returns-then-end-ne0-clause-bits : goal.returns-then-end-ne0-clause-bits
-returns-then-end-ne0-clause-bits c =
-    let s = c.args.self.now in
-    let m = c.move_to.new.self in
-    rw (c.in_ok-move_to.ensures.at) (added_far s.bits s.block c.set_ones.new.block s.at c.args.start c.args.end c.requires.here
-    c.requires.later c.set_ones.ensures m.bits m.block c.in_ok-move_to.ensures.same c.fill_blocks.new.self
-    (λ k h. c.fill_blocks.ensures.bits k (omega (arith, h, c.in_ok-move_to.ensures.filling.blocks)))
-    c.set_ones-then-end-ne0.new.block (λ k q. c.set_ones-then-end-ne0.ensures k (omega (arith, q))))
+pub returns-clause-closed : goal.returns-clause-closed
+returns-clause-closed c =
+    let b = c.begin.ensures in
+    rw (b.carried) (carried_closed c.begin.new.self.starts c.mark-2.new.words c.args.end b.starts (omega (arith, c.mark-2.ensures, b.ends)))
 
-pub returns-else-end-ne0-clause-filling : goal.returns-else-end-ne0-clause-filling
-returns-else-end-ne0-clause-filling c =
-    let r = c.fill_blocks.ensures in
-    rw (c.in_ok-move_to.ensures.at) (run_filling c.move_to.new.self.bits c.fill_blocks.new.self (c.args.end / 256)
-    c.in_ok-move_to.ensures.filling r.tables r.blocks r.shared r.others)
+pub returns-clause-below : goal.returns-clause-below
+returns-clause-below c =
+    let b = c.begin.ensures in
+    rw (b.at) (carried_below c.begin.new.self.starts c.mark-2.new.words c.args.end b.starts (omega (arith, c.mark-2.ensures, b.ends)))
 
-pub returns-else-end-ne0-clause-bits : goal.returns-else-end-ne0-clause-bits
-returns-else-end-ne0-clause-bits c =
+pub returns-clause-bits : goal.returns-clause-bits
+returns-clause-bits c = λ k h.
     let s = c.args.self.now in
-    let m = c.move_to.new.self in
-    rw (c.in_ok-move_to.ensures.at) (added_far s.bits s.block c.set_ones.new.block s.at c.args.start c.args.end c.requires.here
-    c.requires.later c.set_ones.ensures m.bits m.block c.in_ok-move_to.ensures.same c.fill_blocks.new.self
-    (λ k h. c.fill_blocks.ensures.bits k (omega (arith, h, c.in_ok-move_to.ensures.filling.blocks)))
-    m.block (λ k q. none_last m.block c.args.end k c.if-end-ne0.false))
+    let m = c.begin.new.self in
+    let b = c.begin.ensures in
+    let r = c.requires in
+    let last : ℕ = 2 ^ (c.args.end % 256) - 1 in
+    let same : bits_of m.starts c.mark-2.new.words m.carried ≡ last =
+    rw (b.carried) (carried_bits m.starts c.mark-2.new.words c.args.end b.starts (omega (arith, c.mark-2.ensures, b.ends))) in
+    let block = bits_of s.starts s.ends s.carried in
+    ap (λ (n : ℕ). filled m.bits n m.at k) same ∙ (ap (λ (t : BitTables). filled t last m.at k) b.bits
+    ∙ (ap (λ (at : ℕ). filled c.fill_blocks.new.self last at k) b.at
+    ∙ added_far s.bits c.set_block.new.self c.fill_blocks.new.self block s.at c.args.start c.args.end c.difference-block.result
+    r.filling r.here r.later (bits_below s.starts s.ends s.carried s.at c.args.start r.closed r.below r.here)
+    c.in_ok-set_block.ensures.sets
+    (c.difference-block.ensures (block + (2 ^ 256 - 2 ^ (c.args.start % 256))) 1
+    (far_fits s.starts s.ends s.carried s.at c.args.start r.closed r.below r.here c.mark.new.words c.mark.ensures)
+    (far_number s.starts s.ends s.carried s.at c.args.start r.closed r.below r.here c.mark.new.words c.mark.ensures))
+    c.fill_blocks.ensures.bits k h))

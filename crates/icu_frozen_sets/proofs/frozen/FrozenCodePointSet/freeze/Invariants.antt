@@ -3,4 +3,5 @@ use Rattle.icu_frozen_sets.proofs.FreezeLemmas.{Freezes}
 use Rattle.icu_frozen_sets.proofs.frozen.FrozenCodePointSet.freeze.Given as goal
 
 abbrev pub invariant-loop-range : goal.invariant-loop-range
-invariant-loop-range l = Freezes l.set (ranges_of l.range-iterator) l.filling.bits l.filling.block l.filling.at
+invariant-loop-range l = Freezes l.set (ranges_of l.range-iterator) l.filling.bits l.filling.starts l.filling.ends l.filling.carried
+    l.filling.at
