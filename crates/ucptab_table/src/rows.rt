@@ -42,7 +42,7 @@ fn trim_end(bytes: &[u8]) -> &[u8]
 
 /// Returns the bytes without leading and trailing spaces and tabs.
 #[tactic(auto, unfolding(crate::specs::TableText::trimmed))]
-fn trimmed(bytes: &[u8]) -> &[u8]
+pub fn trimmed(bytes: &[u8]) -> &[u8]
     ensures { result.now ≡ trimmed bytes.now }
 {
     trim_end(trim_start(bytes))

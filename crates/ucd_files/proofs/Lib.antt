@@ -1,0 +1,4 @@
+mod KnownNames
+mod NameLemmas
+mod StatementSteps
+mod WriteLemmas

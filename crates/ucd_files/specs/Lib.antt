@@ -1,0 +1,6 @@
+pub mod Fields
+pub mod Kinds
+pub mod Names
+pub mod Statements
+pub mod Files
+pub mod ValueNames

@@ -1,0 +1,48 @@
+-- Names of values: when two are the same, and which number a value has.
+use Rattle.std.specs.Prelude.{ℕ, ◌==◌, ◌||◌, nat_le, nat_eq, not, Bool, List, [], ◌∷◌, map, Option, Some, None, if◌then◌else◌}
+use Rattle.std.specs.Char.{to_ascii_lowercase}
+use Rattle.std.specs.List.{find}
+use Rattle.std.specs.Option.{option_and_then, option_map}
+use Rattle.std.specs.Cmp.Lexicographic.{pointwise}
+use Rattle.ucptab_table.specs.TableText.{decimal_number, hexadecimal}
+use Rattle.ucd_files.specs.declared.names.Name.{Name}
+use Rattle.ucd_files.specs.declared.names.Numbering.{Numbering}
+use Rattle.ucd_files.specs.declared.names.Numbering.TheVariants.{Decimal, Hexadecimal, One, Names}
+
+-- A byte that counts if names are compared: no space, `_` or `-`.
+abbrev pub is_significant : ℕ → Bool
+is_significant byte = not (byte == 32 || (byte == 95 || byte == 45))
+
+-- A name as it is compared: without spaces, `_` and `-`, in lower case. This is rule UAX44-LM3
+-- of the Unicode Character Database, apart from a leading `is`.
+abbrev pub loose : List ℕ → List ℕ
+loose [] = []
+loose (b ∷ bytes) = if is_significant b then to_ascii_lowercase b ∷ loose bytes else loose bytes
+
+-- The two names are the same in this comparison.
+unfoldable pub is_same_name : List ℕ → List ℕ → Bool
+is_same_name left right = pointwise nat_eq (loose left) (loose right)
+
+-- Names with their numbers, as pairs.
+abbrev pub pairs_of : List Name → List (List ℕ × ℕ)
+pairs_of names = map (λ name. (name.text.now, name.number)) names
+
+-- The number of the first of the names that is the same as the text.
+unfoldable pub number_named : List Name → List ℕ → Option ℕ
+number_named names text =
+    option_map (λ name. name.number) (find (λ name. is_same_name name.text.now text) names)
+
+-- A number if it has at most 32 bits.
+unfoldable pub short_number : ℕ → Option ℕ
+short_number n = if nat_le n 0xFFFFFFFF then Some n else None
+
+-- A number of at most 32 bits in decimal digits.
+unfoldable pub short_decimal : List ℕ → Option ℕ
+short_decimal text = option_and_then short_number (decimal_number text)
+
+-- The number of a value. None if the text is no number or no name.
+unfoldable pub number_of : Numbering → List ℕ → Option ℕ
+number_of Decimal text = short_decimal text
+number_of Hexadecimal text = hexadecimal text
+number_of One text = Some 1
+number_of (Names names) text = option_and_then short_number (number_named names.now text)

@@ -1,0 +1,127 @@
+-- What a line says, and what a file says.
+use Rattle.std.specs.Prelude.{ℕ, ◌==◌, nat_le, nat_lt, Bool, true, List, length, Option, Some, None, Result, Ok, Err, if◌then◌else◌}
+use mathlib.Core.Bool.{beq}
+use Rattle.icu_zerovec.specs.CodePoints.{code_point_limit}
+use Rattle.icu_trie_builder.specs.declared.writes.Write.{Write}
+use Rattle.ucptab_table.specs.TableText.{code_points_of, content_of, first_of, last_of, write_at}
+use Rattle.ucptab_table.specs.declared.rows.CodePoints.{CodePoints}
+use Rattle.ucptab_table.specs.declared.rows.CodePoints.TheVariants.{Single, Span}
+use Rattle.ucd_files.specs.Fields.{ends_in_first, ends_in_last, field, missing_of}
+use Rattle.ucd_files.specs.Names.{is_same_name, number_of}
+use Rattle.ucd_files.specs.declared.fault.LineFault.{LineFault}
+use Rattle.ucd_files.specs.declared.fault.LineFault.TheVariants.{Unpaired, NotCodePoints, CodePoint, Reversed, NoValue, UnknownValue}
+use Rattle.ucd_files.specs.declared.names.Numbering.{Numbering}
+use Rattle.ucd_files.specs.declared.statement.Columns.{Columns}
+use Rattle.ucd_files.specs.declared.statement.Columns.TheVariants.{Field, Property, UnicodeData}
+use Rattle.ucd_files.specs.declared.statement.Statement.{Statement}
+use Rattle.ucd_files.specs.declared.statement.Statement.TheVariants.{Missing, Explicit}
+
+-- ---- Values
+
+-- Field 2, or field 1 if field 2 is empty.
+unfoldable pub later_field : List ℕ → List ℕ
+later_field content = if length (field 2 content) == 0 then field 1 content else field 2 content
+
+-- A text that is not empty.
+abbrev pub some_text : List ℕ → Option (List ℕ)
+some_text text = if length text == 0 then None else Some text
+
+-- The text of the value in a line. None if the line is about another property, and in
+-- UnicodeData.txt if the field is empty: the code points then have the default.
+unfoldable pub value_text : Columns → List ℕ → Option (List ℕ)
+value_text (Field n) content = Some (field n content)
+value_text (Property name) content =
+    if is_same_name (field 1 content) name.now then Some (later_field content) else None
+value_text (UnicodeData n) content = some_text (field n content)
+
+-- The same for an `@missing` line, which is `CODE POINTS; VALUE` or `CODE POINTS; PROPERTY; VALUE`.
+unfoldable pub missing_text : Columns → List ℕ → Option (List ℕ)
+missing_text (Field n) content = Some (later_field content)
+missing_text (Property name) content = value_text (Property name) content
+missing_text (UnicodeData n) content = Some (later_field content)
+
+-- ---- Code points
+
+-- One range from two lines, which have one code point each.
+abbrev pub joined : Option CodePoints → Option CodePoints → Option CodePoints
+joined (Some (Single start)) (Some (Single end)) = Some (Span start end)
+joined start end = None
+
+-- Code points that are given, are code points and are in order.
+unfoldable pub checked_points : Option CodePoints → Result CodePoints LineFault
+checked_points None = Err NotCodePoints
+checked_points (Some points) =
+    if nat_le code_point_limit (first_of points) then Err CodePoint
+    else (if nat_le code_point_limit (last_of points) then Err CodePoint
+    else (if nat_lt (last_of points) (first_of points) then Err Reversed
+    else Ok points))
+
+-- In UnicodeData.txt, the line gives the last code point of a range exactly if the line before it
+-- gives the first one.
+unfoldable pub is_paired : Columns → List ℕ → List ℕ → Bool
+is_paired (UnicodeData n) previous content = beq (ends_in_first previous) (ends_in_last content)
+is_paired columns previous content = true
+
+-- The code points of a line. Those of the second line of a range start at the line before it.
+unfoldable pub points_of : Columns → List ℕ → List ℕ → Result CodePoints LineFault
+points_of (UnicodeData n) previous content =
+    checked_points (if ends_in_last content
+    then joined (code_points_of (field 0 previous)) (code_points_of (field 0 content))
+    else code_points_of (field 0 content))
+points_of columns previous content = checked_points (code_points_of (field 0 content))
+
+-- ---- Lines
+
+-- The write of the number of a value.
+abbrev pub write_of_number : CodePoints → Option ℕ → Result (Write ℕ) LineFault
+write_of_number points None = Err UnknownValue
+write_of_number points (Some number) = Ok (write_at points number)
+
+-- The write of a value, given as text.
+unfoldable pub write_of : Numbering → CodePoints → List ℕ → Result (Write ℕ) LineFault
+write_of numbering points text = if length text == 0 then Err NoValue
+    else write_of_number points (number_of numbering text)
+
+-- The statement of a write.
+abbrev pub said : (Write ℕ → Statement) → Result (Write ℕ) LineFault
+    → Result (Option Statement) LineFault
+said kind (Ok write) = Ok (Some (kind write))
+said kind (Err fault) = Err fault
+
+-- The statement of a line with these code points and this value, which are both tested.
+abbrev pub statement_at : Numbering → (Write ℕ → Statement) → Result CodePoints LineFault
+    → Option (List ℕ) → Result (Option Statement) LineFault
+statement_at numbering kind (Err fault) text = Err fault
+statement_at numbering kind (Ok points) None = Ok None
+statement_at numbering kind (Ok points) (Some text) = said kind (write_of numbering points text)
+
+-- What a line says that is neither an `@missing` line nor without content.
+unfoldable pub explicit_statement : Columns → Numbering → List ℕ → List ℕ
+    → Result (Option Statement) LineFault
+explicit_statement columns numbering previous content =
+    statement_at numbering Explicit (points_of columns previous content)
+    (value_text columns content)
+
+-- What an `@missing` line says.
+unfoldable pub missing_statement : Columns → Numbering → List ℕ
+    → Result (Option Statement) LineFault
+missing_statement columns numbering content =
+    statement_at numbering Missing (checked_points (code_points_of (field 0 content)))
+    (missing_text columns content)
+
+-- What a line says by its content, if it is no `@missing` line. Nothing if it has none.
+abbrev pub statement_in : Columns → Numbering → List ℕ → List ℕ → Option (List ℕ)
+    → Result (Option Statement) LineFault
+statement_in columns numbering previous content (Some missing) =
+    missing_statement columns numbering missing
+statement_in columns numbering previous content None = if length content == 0 then Ok None
+    else explicit_statement columns numbering previous content
+
+-- What a line says after the line `previous`: nothing if it is blank, a comment or about another
+-- property.
+unfoldable pub statement_of : Columns → Numbering → List ℕ → List ℕ
+    → Result (Option Statement) LineFault
+statement_of columns numbering previous line =
+    if is_paired columns previous (content_of line)
+    then statement_in columns numbering previous (content_of line) (missing_of line)
+    else Err Unpaired

@@ -1,0 +1,90 @@
+//! Names and numbers of values from `PropertyValueAliases.txt`.
+ghost use Rattle.std.specs.Prelude.{◌≡◌, ◌++◌, IfOk};
+ghost use Rattle.ucd_files.specs.ValueNames.{alias_names, is_value_line, named, names_in, value_number};
+ghost use Rattle.ucd_files.specs.Names.{pairs_of};
+
+use crate::fields::field;
+use crate::names::{Name, is_same_name, push_name, short_decimal};
+use std::alloc::{AllocError, Global};
+use ucptab_table::input::first_line;
+use ucptab_table::rows::{after, content_of};
+
+/// Returns whether a line has names of one value of the property. A line with `|` in its comment
+/// names a group of values.
+#[tactic(auto, unfolding(crate::specs::ValueNames::is_value_line))]
+fn is_value_line(property: &[u8], line: &[u8]) -> bool
+    ensures { result ≡ is_value_line property.now line.now }
+{
+    is_same_name(field(0, content_of(line)), property) && !after(b'#', line).contains(&b'|')
+}
+
+/// Returns the number of the `k`-th value of a property, counted from 0: `k`, or the number in
+/// field 1 if it is one.
+#[tactic(auto, unfolding(crate::specs::ValueNames::value_number))]
+fn value_number(k: usize, content: &[u8]) -> usize
+    ensures { result ≡ value_number k content.now }
+{
+    match short_decimal(field(1, content)) {
+        Some(number) => number as usize,
+        None => k,
+    }
+}
+
+/// Appends a name if it is not empty.
+fn push_named<'a>(
+    names: &mut Vec<Name<'a>>,
+    number: usize,
+    text: &'a [u8],
+) -> Result<(), AllocError>
+    ensures { IfOk result (λ _. pairs_of names.new.items
+        ≡ pairs_of names.old.items ++ named number text.now) }
+{
+    if !text.is_empty() {
+        push_name(names, number, text)?;
+    }
+    Ok(())
+}
+
+/// Appends the names in fields 1 to 4.
+#[tactic(auto, unfolding(crate::specs::ValueNames::names_in))]
+fn push_names<'a>(
+    names: &mut Vec<Name<'a>>,
+    number: usize,
+    content: &'a [u8],
+) -> Result<(), AllocError>
+    ensures { IfOk result (λ _. pairs_of names.new.items
+        ≡ pairs_of names.old.items ++ names_in number content.now) }
+{
+    push_named(names, number, field(1, content))?;
+    push_named(names, number, field(2, content))?;
+    push_named(names, number, field(3, content))?;
+    push_named(names, number, field(4, content))
+}
+
+/// Returns the names and numbers of the values of a property, by the lines
+/// `PROPERTY ; NAME ; ..` of `PropertyValueAliases.txt`. All names of a line have the same number:
+/// how many values of the property come before it in the file, or the number in field 1 if it is
+/// one, as for Canonical_Combining_Class. Lines for groups of values, as `L` of `gc`, are left out.
+///
+/// # Errors
+/// Returns [`AllocError`] if an allocation fails.
+pub fn alias_names<'a>(
+    alloc: Global,
+    input: &'a [u8],
+    property: &[u8],
+) -> Result<Vec<Name<'a>>, AllocError>
+    ensures { IfOk result (λ names. pairs_of names.items ≡ alias_names property.now input.now) }
+{
+    let mut names = Vec::new(alloc);
+    let mut k = 0usize;
+    let mut rest = input;
+    while let Some((line, after)) = first_line(rest) {
+        rest = after;
+        if is_value_line(property, line) {
+            let content = content_of(line);
+            push_names(&mut names, value_number(k, content), content)?;
+            k += 1;
+        }
+    }
+    Ok(names)
+}
