@@ -10,7 +10,7 @@ HERE = os.path.dirname(os.path.realpath(__file__))
 # The programs, and the crates of each.
 PROGRAMS = {
     "ucptab": ["ucptab", "ucptab_table"],
-    "ucptrie": ["ucptrie", "ucptrie_tables", "ucptab_table"],
+    "ucptrie": ["ucptrie", "ucptrie_tables", "ucd_files", "ucptab_table"],
 }
 # The paths in the proved sources, and the public modules of bekstaudi that have the same names.
 PUBLIC = {
@@ -54,12 +54,14 @@ EDITS = {
     ],
     "ucptrie/output": [(r"\bfn target_of<'a>(\(matches: &ArgMatches\) -> Result<Target)<'a>", r"fn target_of\1<'_>", 1)],
     "ucptrie/tables": [(r"\bfn form<'a>(\(matches: &ArgMatches\) -> Result<Form)<'a>", r"fn form\1<'_>", 1)],
+    "ucptrie/unicode_files": [(r"(\bfn columns<'a>\(\s*matches: &)(ArgMatches)", r"\1'a \2", 1)],
     "ucptrie/words": [
         (r"(name|about): &'a str", r"\1: &'static str", 2),
         (r"(\.arg\(arg_of\(row\)\))\?", r"\1", 1),
         (r"(\.subcommand\(command_of\(.*\)\?\))\?", r"\1", 1),
         (r"(fn \w+)<'a>", r"\1", 7),
     ],
+    "ucd_files/read": [(r"(missing\.append\(&mut explicit\))\?", r"\1", 1)],
     "ucptrie_tables/fault": [
         (r"(?s)        if error\.is_memory\(\) \{.*?\n        \}\n", "", 1),
         (r"(#\[derive\()Clone, Copy, (Debug, PartialEq, Eq\)\]\npub struct TomlFault)", r"\1Clone, \2", 1),

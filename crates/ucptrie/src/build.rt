@@ -1,10 +1,12 @@
-//! The command `build`: a table of the rows on standard input.
+//! The command `build`: a table of rows, or of a file of the Unicode Character Database.
 use crate::fault::{Fault, about, plain, said};
-use crate::streams::{INPUT, input};
+use crate::streams::{bytes_at, input_name};
 use crate::tables::{form, trie_type, width};
+use crate::unicode_files::build_file;
 use clap::ArgMatches;
 use icu_trie_core::header::TrieType;
 use std::alloc::Global;
+use ucd_files::kind::{FileKind, kind_of};
 use ucptab_table::fault::TableError;
 use ucptab_table::message::row_message;
 use ucptrie_tables::built;
@@ -13,7 +15,7 @@ use ucptrie_tables::table::TableOptions;
 use ucptrie_tables::width::ValueWidth;
 
 /// Returns what a table is to be, apart from its rows.
-fn options(matches: &ArgMatches<'_>) -> TableOptions {
+pub fn options(matches: &ArgMatches<'_>) -> TableOptions {
     TableOptions {
         trie_type: trie_type(matches).unwrap_or(TrieType::Fast),
         width: width(matches).unwrap_or(ValueWidth::Bits32),
@@ -38,16 +40,52 @@ pub fn unbuilt(alloc: Global, name: &str, rows: &[u8], fault: BuildFault) -> Fau
     }
 }
 
-/// Builds a table of the rows on standard input, in the form that the arguments name.
-pub fn build(rt: &HostRuntime, matches: &ArgMatches<'_>) -> Result<Vec<u8>, Fault> {
+/// Builds a table of rows, in the form that the arguments name. `path` is what they were read from.
+fn build_rows(
+    rt: &HostRuntime,
+    matches: &ArgMatches<'_>,
+    path: &str,
+    rows: &[u8],
+) -> Result<Vec<u8>, Fault> {
     let form = form(rt.alloc(), matches)?;
-    let rows = input(rt)?;
-    match built(rt.alloc(), &rows, options(matches), form) {
+    match built(rt.alloc(), rows, options(matches), form) {
         Ok(bytes) => Ok(bytes),
         // The value may be one of the arguments.
         Err(BuildFault::Width(value, width)) => {
             Err(plain(rt.alloc(), BuildFault::Width(value, width)))
         }
-        Err(fault) => Err(unbuilt(rt.alloc(), INPUT, &rows, fault)),
+        Err(fault) => Err(unbuilt(rt.alloc(), input_name(path), rows, fault)),
+    }
+}
+
+/// Returns whether the arguments say where values are or what they are, as only for files of the
+/// Unicode Character Database.
+fn has_properties(matches: &ArgMatches<'_>) -> bool {
+    ["property", "values", "aliases"]
+        .iter()
+        .any(|id| matches.get_str(id).is_some())
+        || matches.get_one::<u32>("field").is_some()
+}
+
+/// Returns the kind of a file: what the arguments say, or what the file's start says.
+fn kind(matches: &ArgMatches<'_>, file: &[u8]) -> FileKind {
+    match matches.get_str("format") {
+        Some("rows") => FileKind::Rows,
+        Some("properties") => FileKind::Properties,
+        Some("unicode-data") => FileKind::UnicodeData,
+        _ => match kind_of(file) {
+            FileKind::Rows if has_properties(matches) => FileKind::Properties,
+            kind => kind,
+        },
+    }
+}
+
+/// Builds a table of a file, or of standard input, in the form that the arguments name.
+pub fn build(rt: &HostRuntime, matches: &ArgMatches<'_>) -> Result<Vec<u8>, Fault> {
+    let path = matches.get_str("file").unwrap_or("-");
+    let file = bytes_at(rt, path)?;
+    match kind(matches, &file) {
+        FileKind::Rows => build_rows(rt, matches, path, &file),
+        kind => build_file(rt, matches, path, &file, kind),
     }
 }

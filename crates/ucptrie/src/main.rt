@@ -10,6 +10,7 @@ mod names;
 mod output;
 mod streams;
 mod tables;
+mod unicode_files;
 mod words;
 
 use crate::asked::asked;

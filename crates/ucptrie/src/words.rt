@@ -128,7 +128,39 @@ const ERROR: Argument = Argument {
 };
 
 /// The arguments of `build`.
-const BUILD: [Argument; 8] = [
+const BUILD: [Argument; 14] = [
+    Argument {
+        required: false,
+        help: "Rows HEX;N or HEX..HEX;N, or a file of the Unicode Character Database",
+        ..FILE
+    },
+    Argument {
+        id: "format",
+        values: ValueParser::Names(&["rows", "properties", "unicode-data"]),
+        help: "What FILE is; if left out, its first line tells",
+        ..OPTION
+    },
+    Argument {
+        help: "The property: in a file of several, its lines; with --aliases, its values",
+        ..PROPERTY
+    },
+    Argument {
+        id: "field",
+        help: "The field with the value, counted from 0",
+        ..NUMBER
+    },
+    Argument {
+        id: "values",
+        values: ValueParser::Names(&["names", "decimal", "hexadecimal", "set"]),
+        help: "What values are; names get numbers in order of first appearance",
+        ..OPTION
+    },
+    Argument {
+        id: "aliases",
+        value_name: &["FILE"],
+        help: "PropertyValueAliases.txt: the names of the property's values, in its order",
+        ..OPTION
+    },
     Argument {
         default: &["fast"],
         ..TYPE
@@ -198,7 +230,7 @@ const DIFF: [Argument; 3] = [
 const COMMANDS: [(&str, &str, &[Argument]); 5] = [
     (
         "build",
-        "Builds a table from rows on standard input, HEX;N or HEX..HEX;N on each line",
+        "Builds a table from rows or from a file of the Unicode Character Database",
         &BUILD,
     ),
     (

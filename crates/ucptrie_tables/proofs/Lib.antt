@@ -5,6 +5,7 @@ mod Printed
 mod SameNumbers
 mod RebuildLemmas
 mod ShownLemmas
+mod TableLemmas
 mod TomlLemmas
 mod WidthLemmas
 mod WriteLemmas

@@ -1,5 +1,5 @@
 -- Why a table is not written over narrower values, and that one that is has room.
-use Rattle.std.proofs.Common.{◌≡◌, ℕ, ◌^◌, ◌-◌, ◌++◌, true, false, not, Bool, cond, nat_lt, List, [], ◌∷◌, map, length, is_none, slice_get, Option, Some, None, option_map, zero, suc, Result, Ok, Err, refl, sym, ap, ◌∙◌, arith}
+use Rattle.std.proofs.Common.{◌≡◌, ℕ, ◌^◌, ◌-◌, ◌++◌, true, false, not, Bool, cond, nat_lt, List, [], ◌∷◌, map, length, is_none, slice_get, Option, Some, None, option_map, zero, suc, Result, Ok, Err, refl, sym, ◌∙◌, arith}
 use Rattle.std.specs.Prelude.{IfErr, IfOk, OnOk}
 use Rattle.std.specs.List.{find}
 use Rattle.std.specs.Option.{option_to_list}
@@ -7,7 +7,6 @@ use Rattle.std.proofs.lemmas.Bool.Decides.{nat_tests}
 use Rattle.icu_trie_core.specs.ValueNumbers.{fitting}
 use Rattle.icu_trie.specs.Parts.{Parts, last_cell}
 use Rattle.icu_trie_binary.specs.WrittenTrie.{why_not_written}
-use Rattle.icu_trie_binary.specs.declared.error.WriteError.{WriteError}
 use Rattle.ucptab_table.specs.declared.fault.TableError.TheVariants.{Row, TooLarge, Memory, Read, Write}
 use Rattle.ucptrie_tables.specs.Inside.Numbers.{HasNumbersOf, IsWhyNotNarrowed}
 use Rattle.ucptrie_tables.specs.Tables.{HasBinaryForm, IsWhyNotWritten, first_unfit, values_in_turn}

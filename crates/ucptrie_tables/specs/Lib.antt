@@ -4,6 +4,7 @@ pub mod Differences
 pub mod Files
 pub mod Inside
 pub mod Rebuilt
+pub mod UnicodeFiles
 pub mod Shown
 pub mod Tables
 pub mod TomlFiles

@@ -7,6 +7,7 @@ use Rattle.icu_trie.specs.Parts.{Parts, last_cell}
 use Rattle.icu_trie_binary.specs.WrittenTrie.{binary_of, why_not_written}
 use Rattle.icu_trie_binary.specs.declared.error.WriteError.{WriteError}
 use Rattle.icu_trie_binary.specs.declared.error.WriteError.TheVariants.{Memory as WriteMemory}
+use Rattle.icu_trie_builder.specs.Bounds.{IsTooLarge}
 use Rattle.icu_trie_builder.specs.Built.{IsWellBuilt}
 use Rattle.icu_trie_builder.specs.MapAnswers.{AnswersMap}
 use Rattle.icu_trie_builder.specs.Writes.{value_after}
@@ -23,17 +24,53 @@ use Rattle.ucptrie_tables.specs.declared.width.ValueWidth.TheVariants.{Bits8, Bi
 use Rattle.ucptrie_tables.specs.declared.written.Form.{Form}
 use Rattle.ucptrie_tables.specs.declared.written.Form.TheVariants.{Icu}
 
--- ---- The table of rows
+-- ---- The table of writes
 
--- No line of the input has a fault, and the trie is that of its rows and the options. A code point
--- has the value of the last row that covers it, or the default if none does. A number above the
--- code space has the error value. The trie is of the requested type and well built.
-pub record IsTrieOfRows (input : List ℕ) (options : TableOptions) (trie : Parts ℕ) : Type 0 where
-  pub writes : List (Write ℕ)
-  pub rows : AreRows input writes
+-- The trie is that of the writes and the options. A code point has the value of the last write that
+-- covers it, or the default if none does. A number above the code space has the error value. The
+-- trie is of the requested type and well built.
+pub record IsTrieOfWrites (writes : List (Write ℕ)) (options : TableOptions) (trie : Parts ℕ)
+    : Type 0 where
   pub answers : AnswersMap (value_after writes options.default) options.error trie
   pub built : IsWellBuilt (fitting (2 ^ 32)) (value_after writes options.default) trie
   pub trie_type : trie.header.trie_type ≡ options.trie_type
+
+-- The table's trie is that of the writes and the options, its width is the requested one, and none
+-- of its values has more bits.
+pub record IsTableOfWrites (writes : List (Write ℕ)) (options : TableOptions) (t : Table) : Type 0
+  where
+    pub trie : IsTrieOfWrites writes options t.trie
+    pub width : t.width ≡ options.width
+    pub fits : All (λ v. v < 2 ^ bits_of t.width) t.trie.values
+
+-- The width is the requested one, and `value` is the first value in the data of a trie of the
+-- writes that has more bits.
+pub record IsTooWideForWrites (writes : List (Write ℕ)) (options : TableOptions) (value : ℕ)
+    (width : ValueWidth) : Type 0 where
+  pub trie : Parts ℕ
+  pub of_writes : IsTrieOfWrites writes options trie
+  pub asked : width ≡ options.width
+  pub first : first_wider width trie.values ≡ Some value
+
+-- Why writes make no table: they make too many different blocks for a trie, or a value has more
+-- bits than the requested width. No clause can say when an allocation fails.
+abbrev pub IsWhyNoTableOfWrites : List (Write ℕ) → TableOptions → BuildFault → Type 0
+IsWhyNoTableOfWrites writes options (TableFault TooLarge) =
+    IsTooLarge (value_after writes options.default)
+IsWhyNoTableOfWrites writes options (TableFault Memory) = ⊤
+IsWhyNoTableOfWrites writes options (TableFault _) = ⊥
+IsWhyNoTableOfWrites writes options (Width value width) =
+    IsTooWideForWrites writes options value width
+IsWhyNoTableOfWrites writes options (Binary why) = ⊥
+
+-- ---- The table of rows
+
+-- No line of the input has a fault, and the trie is that of its rows and the options. A code point
+-- has the value of the last row that covers it, or the default if none does.
+pub record IsTrieOfRows (input : List ℕ) (options : TableOptions) (trie : Parts ℕ) : Type 0 where
+  pub writes : List (Write ℕ)
+  pub rows : AreRows input writes
+  pub of_writes : IsTrieOfWrites writes options trie
 
 -- The table's trie is that of the input's rows and the options, its width is the requested one,
 -- and none of its values has more bits.

@@ -1,5 +1,5 @@
 -- Which table of a TOML file has the trie, and the width of its values.
-use Rattle.std.specs.Prelude.{ℕ, Option, Some, None, is_some, codes, if◌then◌else◌, option_and_then, unwrap_or}
+use Rattle.std.specs.Prelude.{Option, Some, None, is_some, codes, if◌then◌else◌, option_and_then, unwrap_or}
 use Rattle.std.specs.Option.{option_or}
 use Rattle.toml.specs.Data.{Data, Items, Members, no_members, member, as_array, as_table, get_item, get_member}
 use Rattle.icu_trie_formats.specs.TrieToml.{TomlParts}

@@ -10,6 +10,7 @@ use icu_zerovec::MemoryError;
 use std::alloc::AllocError;
 use std::{error, fmt};
 use thiserror::Error;
+use ucd_files::fault::FileFault;
 use ucptab_table::fault::TableError;
 
 /// Why rows make no table, or why a table is not written.
@@ -81,6 +82,48 @@ impl From<MemoryError> for BuildFault {
 
     fn from(_error: MemoryError) -> BuildFault {
         BuildFault::Table(TableError::Memory)
+    }
+}
+
+/// Why a file of the Unicode Character Database makes no table.
+#[derive(Debug, Drop, Error)]
+pub enum UnicodeFileFault {
+    /// A line of the file has a fault, or the file is not complete.
+    #[error("{0}")]
+    File(FileFault),
+    /// What its lines say makes no table.
+    #[error("{0}")]
+    Build(BuildFault),
+}
+
+impl From<FileFault> for UnicodeFileFault {
+    ghost use Rattle.ucptrie_tables.specs.declared.fault.UnicodeFileFault.TheVariants.{File};
+
+    ghost from_gives = { λ x e. e ≡ File x };
+
+    fn from(error: FileFault) -> UnicodeFileFault {
+        UnicodeFileFault::File(error)
+    }
+}
+
+impl From<BuildFault> for UnicodeFileFault {
+    ghost use Rattle.ucptrie_tables.specs.declared.fault.UnicodeFileFault.TheVariants.{Build};
+
+    ghost from_gives = { λ x e. e ≡ Build x };
+
+    fn from(error: BuildFault) -> UnicodeFileFault {
+        UnicodeFileFault::Build(error)
+    }
+}
+
+impl From<AllocError> for UnicodeFileFault {
+    ghost use Rattle.ucd_files.specs.declared.fault.FileFault.TheVariants.{Memory};
+    ghost use Rattle.ucptrie_tables.specs.declared.fault.UnicodeFileFault.TheVariants.{File};
+
+    ghost from_gives = { λ _ e. e ≡ File Memory };
+
+    fn from(_error: AllocError) -> UnicodeFileFault {
+        UnicodeFileFault::File(FileFault::Memory)
     }
 }
 

@@ -3,7 +3,7 @@ ghost use Rattle.std.specs.Prelude.{◌≡◌, ◌^◌, ◌<◌, ℕ, All, Err, 
 ghost use Rattle.ucptab_table.specs.TableText.{IsFirstFault, IsTooLargeInput};
 ghost use Rattle.ucptab_table.specs.declared.fault.RowFault.{RowFault};
 ghost use Rattle.ucptab_table.specs.declared.fault.TableError.TheVariants.{Row, TooLarge};
-ghost use Rattle.ucptrie_tables.specs.Tables.{IsTableOf, IsWhyNoTable};
+ghost use Rattle.ucptrie_tables.specs.Tables.{IsTableOf, IsTableOfWrites, IsWhyNoTable, IsWhyNoTableOfWrites};
 ghost use Rattle.ucptrie_tables.specs.ValueWidth.{bits_of, first_wider};
 ghost use Rattle.ucptrie_tables.specs.declared.fault.BuildFault.TheVariants.{Table as TableFault};
 
@@ -12,6 +12,7 @@ use crate::width::ValueWidth;
 use icu_trie::cptrie::CodePointTrie;
 use icu_trie::header::TrieType;
 use icu_trie_builder::build_from_writes;
+use icu_trie_builder::writes::Write;
 use std::alloc::Global;
 use ucptab_table::input::read_rows;
 
@@ -44,6 +45,36 @@ pub(crate) fn first_wider(trie: &CodePointTrie<'_, u32>, width: ValueWidth) -> O
     values.iter().find(|value| !width.fits(*value))
 }
 
+/// Builds the table of writes, which apply in order.
+///
+/// # Errors
+/// Returns [`BuildFault::Table`] for a map that is too large for a trie, and if an allocation
+/// fails. Returns [`BuildFault::Width`] for the first value in the trie's data that has more bits
+/// than the asked width.
+pub fn table_of_writes(
+    alloc: Global,
+    writes: &[Write<u32>],
+    options: TableOptions,
+) -> Result<Table, BuildFault>
+    ensures ok { IfOk result (IsTableOfWrites writes.now options) }
+    ensures err { IfErr result (IsWhyNoTableOfWrites writes.now options) }
+{
+    let trie = build_from_writes(
+        alloc,
+        options.default,
+        options.error,
+        options.trie_type,
+        writes,
+    )?;
+    match first_wider(&trie, options.width) {
+        Some(value) => Err(BuildFault::Width(value, options.width)),
+        None => Ok(Table {
+            trie,
+            width: options.width,
+        }),
+    }
+}
+
 /// Builds the table of the rows that the bytes have, in `ucptab`'s form.
 ///
 /// # Errors
@@ -59,18 +90,5 @@ pub fn table_of_rows(alloc: Global, rows: &[u8], options: TableOptions) -> Resul
         → IsTooLargeInput options.default rows.now }
 {
     let writes = read_rows(alloc, rows)?;
-    let trie = build_from_writes(
-        alloc,
-        options.default,
-        options.error,
-        options.trie_type,
-        &writes,
-    )?;
-    match first_wider(&trie, options.width) {
-        Some(value) => Err(BuildFault::Width(value, options.width)),
-        None => Ok(Table {
-            trie,
-            width: options.width,
-        }),
-    }
+    table_of_writes(alloc, &writes, options)
 }

@@ -1,15 +1,9 @@
-use Rattle.std.proofs.Common.{◌≡◌, Result, Ok, Err, inl, inr, arith, rules}
-use Rattle.std.specs.Prelude.{IfErr}
+use Rattle.std.proofs.Common.{◌≡◌, Err, inl, inr, arith, rules}
 use Rattle.std.proofs.lemmas.Bool.Decides.{nat_tests}
 use Rattle.std.proofs.lemmas.Result.{IfOk-weaker}
 use Rattle.icu_trie_builder.specs.Writes.{value_after}
-use Rattle.ucptrie_tables.specs.declared.fault.BuildFault.{BuildFault}
+use Rattle.ucptrie_tables.proofs.TableLemmas.{IfErr-weaker}
 use Rattle.ucptrie_tables.proofs.built.Goals as goal
-
-IfErr-weaker : {V : Type 0} (r : Result V BuildFault) (P Q : BuildFault → Type 0) → ((e : BuildFault) → P e → Q e) → IfErr r P
-    → IfErr r Q
-IfErr-weaker (Ok v) P Q weaker h = tt
-IfErr-weaker (Err e) P Q weaker h = weaker e h
 
 pub returns-in_err-table-clause-err : goal.returns-in_err-table-clause-err
 returns-in_err-table-clause-err c =
@@ -28,6 +22,6 @@ returns-clause-err c = IfErr-weaker c.written.result _ _ (λ e why. inr (c.in_ok
 pub returns-clause-rows : goal.returns-clause-rows
 returns-clause-rows c = λ is.
     let t = c.in_ok-table.ensures.ok.trie in
-    let printed = c.written.ensures.rows is t.built.coherent (value_after t.writes c.args.options.default)
-    (λ u below. grind (arith, nat_tests, t.answers.look_up u)) in
+    let printed = c.written.ensures.rows is t.of_writes.built.coherent (value_after t.writes c.args.options.default)
+    (λ u below. grind (arith, nat_tests, t.of_writes.answers.look_up u)) in
     IfOk-weaker c.written.result _ _ (λ bytes text. (t.writes, (t.rows, text))) printed

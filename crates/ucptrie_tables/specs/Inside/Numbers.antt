@@ -1,5 +1,5 @@
 -- A trie that has the numbers of another one as values of its own type, and why there is none.
-use Rattle.std.specs.Prelude.{◌≡◌, ◌⊎◌, ℕ, ◌^◌, List, ◌∷◌, map, is_none, Option, Some, option_map, ⊤}
+use Rattle.std.specs.Prelude.{◌≡◌, ℕ, ◌^◌, List, ◌∷◌, map, is_none, Option, Some, option_map, ⊤}
 use Rattle.std.specs.List.{find}
 use Rattle.icu_trie_core.specs.ValueNumbers.{fitting}
 use Rattle.icu_trie.specs.Parts.{Parts, last_cell}

@@ -1,5 +1,4 @@
-use Rattle.std.proofs.Common.{◌≡◌, ◌+◌, ◌-◌, ◌++◌, ◌∷◌, []}
-use Rattle.ucptrie_tables.specs.Asked.{numbers_from}
+use Rattle.std.proofs.Common.{◌≡◌, ◌++◌, ◌∷◌, []}
 use Rattle.ucptrie_tables.proofs.AskedLemmas.{numbers_from-more}
 use Rattle.ucptrie_tables.proofs.asked.push_span.Goals as goal
 

@@ -1,7 +1,6 @@
-use Rattle.std.proofs.Common.{◌≡◌, ◌≢◌, ◌<◌, ◌∷◌, ℕ, length, get_or, Some, lit<, string_bytes, rules}
+use Rattle.std.proofs.Common.{◌∷◌, Some, lit<, string_bytes}
 use Rattle.std.proofs.lemmas.Str.{IsUtf8-drop}
 use Rattle.std.proofs.lemmas.Str.Pattern.{split_parts}
-use Rattle.ucptrie_tables.specs.Shown.{comment_line}
 use Rattle.ucptrie_tables.proofs.ShownLemmas.{AddsComments-more, AddsComments-none, one_line-blank, one_line-parts}
 use Rattle.ucptrie_tables.proofs.shown.push_comments.Goals as goal
 

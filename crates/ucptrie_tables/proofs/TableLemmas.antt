@@ -1,0 +1,33 @@
+-- The table of rows, from that of their writes.
+use Rattle.std.proofs.Common.{ℕ, List, Result, Ok, Err}
+use Rattle.std.specs.Prelude.{IfErr}
+use Rattle.icu_trie_builder.specs.declared.writes.Write.{Write}
+use Rattle.ucptab_table.specs.TableText.{AreRows}
+use Rattle.ucptab_table.specs.declared.fault.TableError.TheVariants.{Row, TooLarge, Memory, Read, Write as WriteFault}
+use Rattle.ucptrie_tables.specs.Tables.{IsTableOf, IsTableOfWrites, IsWhyNoTable, IsWhyNoTableOfWrites}
+use Rattle.ucptrie_tables.specs.declared.fault.BuildFault.{BuildFault}
+use Rattle.ucptrie_tables.specs.declared.fault.BuildFault.TheVariants.{Table as TableFault, Width, Binary}
+use Rattle.ucptrie_tables.specs.declared.table.Table.{Table}
+use Rattle.ucptrie_tables.specs.declared.table.TableOptions.{TableOptions}
+
+pub IfErr-weaker : {V E : Type 0} (r : Result V E) (P Q : E → Type 0) → ((e : E) → P e → Q e) → IfErr r P → IfErr r Q
+IfErr-weaker (Ok v) P Q weaker h = tt
+IfErr-weaker (Err e) P Q weaker h = weaker e h
+
+module _ (input : List ℕ) (writes : List (Write ℕ)) (rows : AreRows input writes) (options : TableOptions) where
+  pub table_of_rows : (t : Table) → IsTableOfWrites writes options t → IsTableOf input options t
+  table_of_rows t h = record { trie = record { writes = writes; rows = rows; of_writes = h.trie }; width = h.width; fits = h.fits }
+
+  pub why_of_rows : (e : BuildFault) → IsWhyNoTableOfWrites writes options e → IsWhyNoTable input options e
+  why_of_rows (TableFault (Row k f)) h = absurd h
+  why_of_rows (TableFault TooLarge) h = (writes, (rows, h))
+  why_of_rows (TableFault Memory) h = tt
+  why_of_rows (TableFault Read) h = absurd h
+  why_of_rows (TableFault WriteFault) h = absurd h
+  why_of_rows (Width value width) h = record {
+    trie = h.trie;
+    of_rows = record { writes = writes; rows = rows; of_writes = h.of_writes };
+    asked = h.asked;
+    first = h.first;
+  }
+  why_of_rows (Binary why) h = absurd h
