@@ -11,11 +11,15 @@ _ucptrie() {
         --as) words='icu toml json c rust rows' ;;
         --type) words='fast small' ;;
         --width) words='8 16 32' ;;
-        --name | --default | --error | --property) return ;;
-        --output | -o | --check | --from) mapfile -t COMPREPLY < <(compgen -f -- "$word"); return ;;
+        --format) words='rows properties unicode-data' ;;
+        --values) words='names decimal hexadecimal set' ;;
+        --name | --default | --error | --property | --field) return ;;
+        --output | -o | --check | --from | --aliases) mapfile -t COMPREPLY < <(compgen -f -- "$word"); return ;;
         *)
             case ${COMP_WORDS[1]} in
-                build) words='--type --width --default --error --as --name --output -o --check --help -h' ;;
+                build)
+                    words='--format --property --field --values --aliases --type --width --default'
+                    words="$words --error --as --name --output -o --check --help -h" ;;
                 convert)
                     words='--property --type --width --error --as --name --output -o --check --help -h' ;;
                 show | diff) words='--property --help -h' ;;
@@ -26,7 +30,7 @@ _ucptrie() {
     mapfile -t COMPREPLY < <(compgen -W "$words" -- "$word")
     case ${COMP_WORDS[1]}$before in
         convert--* | build--*) ;;
-        convert* | show* | get* | diff*) mapfile -t -O "${#COMPREPLY[@]}" COMPREPLY < <(compgen -f -- "$word") ;;
+        build* | convert* | show* | get* | diff*) mapfile -t -O "${#COMPREPLY[@]}" COMPREPLY < <(compgen -f -- "$word") ;;
     esac
 }
 complete -o filenames -F _ucptrie ucptrie
