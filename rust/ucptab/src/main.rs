@@ -8,6 +8,7 @@ mod host;
 mod ledger;
 #[allow(dead_code, unused_imports, unused_macros)]
 mod support;
+#[allow(unused_variables)]
 mod ucptab;
 #[allow(dead_code, unused_variables)]
 mod ucptab_table;

@@ -93,10 +93,65 @@ pub mod env {
 /// Files.
 pub mod fs {
     use super::HostRuntime;
+    use std::io;
+
+    /// An open file.
+    pub struct File(std::fs::File);
+
+    impl File {
+        /// Makes a file, which must not exist yet, for writing.
+        pub fn create_new(_: &HostRuntime, path: &str) -> io::Result<File> {
+            std::fs::File::create_new(path).map(File)
+        }
+
+        /// Sets who may do what with the file.
+        pub fn set_permissions(&self, permissions: std::fs::Permissions) -> io::Result<()> {
+            self.0.set_permissions(permissions)
+        }
+    }
+
+    impl io::Write for File {
+        fn write(&mut self, bytes: &[u8]) -> io::Result<usize> {
+            self.0.write(bytes)
+        }
+
+        fn flush(&mut self) -> io::Result<()> {
+            self.0.flush()
+        }
+    }
 
     /// Returns the bytes of a file.
-    pub fn read(_: &HostRuntime, path: &str) -> std::io::Result<Vec<u8>> {
+    pub fn read(_: &HostRuntime, path: &str) -> io::Result<Vec<u8>> {
         std::fs::read(path)
+    }
+
+    /// Writes a file.
+    pub fn write(_: &HostRuntime, path: &str, bytes: &[u8]) -> io::Result<()> {
+        std::fs::write(path, bytes)
+    }
+
+    /// Returns what a file is.
+    pub fn metadata(_: &HostRuntime, path: &str) -> io::Result<std::fs::Metadata> {
+        std::fs::metadata(path)
+    }
+
+    /// Returns the name of a file without symbolic links.
+    ///
+    /// # Errors
+    /// Also returns an error if that name is not UTF-8.
+    pub fn canonicalize(_: &HostRuntime, path: &str) -> io::Result<String> {
+        let name = std::fs::canonicalize(path)?.into_os_string().into_string();
+        name.map_err(|_| io::ErrorKind::InvalidFilename.into())
+    }
+
+    /// Gives a file another name, and takes that from the file that has it.
+    pub fn rename(_: &HostRuntime, from: &str, to: &str) -> io::Result<()> {
+        std::fs::rename(from, to)
+    }
+
+    /// Removes a file.
+    pub fn remove_file(_: &HostRuntime, path: &str) -> io::Result<()> {
+        std::fs::remove_file(path)
     }
 }
 

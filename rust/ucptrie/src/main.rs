@@ -1,15 +1,16 @@
-//! The program ucptrie: crates/ucptrie, crates/ucptrie_tables and crates/ucptab_table without their
-//! proofs, over `bekstaudi`, `clap`, `serde_json` and `toml`.
+//! The program ucptrie: crates/ucptrie, crates/ucptrie_tables, crates/ucd_files and crates/ucptab_table
+//! without their proofs, over `bekstaudi`, `clap`, `serde_json` and `toml`.
 #![forbid(unsafe_code)]
 
 extern crate alloc;
 
-mod context;
 mod formats;
 mod host;
 mod ledger;
 #[allow(dead_code, unused_imports, unused_macros)]
 mod support;
+#[allow(dead_code, unused_variables)]
+mod ucd_files;
 #[allow(dead_code, unused_variables)]
 mod ucptab_table;
 #[allow(unused_variables)]

@@ -1,8 +1,13 @@
 //! What a span tests characters for: that they are in a set, or that they are outside it.
 
 use crate::icu_collections_c::frozen::{PLACE_WORDS, contains, place_of, word};
-use crate::icu_collections_c::short_characters::past_short;
+use crate::icu_collections_c::plain_characters::past_plain;
+use crate::icu_collections_c::short_characters::has_short;
+use crate::icu_collections_c::spans::long_span;
 use crate::icu_zerovec::CODE_POINT_LIMIT;
+
+/// After so many bytes a span goes on by tables. Making them takes about as long as passing these.
+pub(crate) const LONG: usize = 64;
 
 /// The code points in a set, or those outside it.
 pub(crate) trait Kind {
@@ -12,10 +17,13 @@ pub(crate) trait Kind {
     /// Returns true if the ASCII character is of this kind.
     fn has_ascii(&mut self, c: u32) -> bool;
 
-    /// Passes some more characters of this kind that take at most two bytes in UTF-8, if that is
-    /// faster than one by one, and returns the offset after them. The byte before `start` is no
-    /// lead byte.
-    fn past_short(&mut self, bytes: &[u8], start: usize) -> usize;
+    /// Passes some ASCII characters of this kind, if that is faster than one by one, and returns
+    /// the offset after them.
+    fn past_plain(&mut self, bytes: &[u8], start: usize) -> usize;
+
+    /// Returns the result of the span, if it is found faster in another way from here on. The first
+    /// `passed` bytes are characters of this kind.
+    fn rest(&mut self, bytes: &[u8], passed: usize) -> Option<i64>;
 }
 
 /// A kind by the words of a frozen set.
@@ -57,8 +65,69 @@ impl<'a> Kind for FrozenKind<'a> {
     }
 
     #[inline(always)]
-    fn past_short(&mut self, bytes: &[u8], start: usize) -> usize {
-        past_short(self.table, self.held, bytes, start)
+    fn past_plain(&mut self, _bytes: &[u8], start: usize) -> usize {
+        start
+    }
+
+    #[inline(always)]
+    fn rest(&mut self, bytes: &[u8], passed: usize) -> Option<i64> {
+        if passed < LONG {
+            return None;
+        }
+        Some(long_span(self.table, self.held, bytes, passed))
+    }
+}
+
+/// A kind by tables that are made of a frozen set.
+pub(crate) struct LongKind<'a> {
+    table: &'a [u64],
+    held: bool,
+    /// The words of characters of one and two bytes.
+    words: &'a [u64; 36],
+    /// 0 only for ASCII characters of this kind, and bytes that are not ASCII.
+    others: &'a [u8; 256],
+}
+
+impl<'a> LongKind<'a> {
+    /// Returns the kind by the frozen set at the start of the table, with the tables made of it.
+    #[inline(always)]
+    pub(crate) fn new(
+        table: &'a [u64],
+        held: bool,
+        words: &'a [u64; 36],
+        others: &'a [u8; 256],
+    ) -> LongKind<'a> {
+        LongKind {
+            table,
+            held,
+            words,
+            others,
+        }
+    }
+}
+
+impl<'a> Kind for LongKind<'a> {
+    #[inline(always)]
+    fn has(&mut self, c: u32) -> bool {
+        if c < 0x800 {
+            return has_short(self.words, c);
+        }
+        contains(self.table, c) == self.held
+    }
+
+    #[inline(always)]
+    fn has_ascii(&mut self, c: u32) -> bool {
+        has_short(self.words, c)
+    }
+
+    #[inline(always)]
+    fn past_plain(&mut self, bytes: &[u8], start: usize) -> usize {
+        past_plain(self.others, bytes, start)
+    }
+
+    #[inline(always)]
+    fn rest(&mut self, _bytes: &[u8], _passed: usize) -> Option<i64> {
+        None
     }
 }
 
@@ -138,7 +207,12 @@ impl<'a> Kind for EndsKind<'a> {
     }
 
     #[inline(always)]
-    fn past_short(&mut self, _bytes: &[u8], start: usize) -> usize {
+    fn past_plain(&mut self, _bytes: &[u8], start: usize) -> usize {
         start
+    }
+
+    #[inline(always)]
+    fn rest(&mut self, _bytes: &[u8], _passed: usize) -> Option<i64> {
+        None
     }
 }

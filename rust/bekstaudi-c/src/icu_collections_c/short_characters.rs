@@ -10,11 +10,15 @@ const LEADS: u64 = 0xFFFF_FFFC;
 /// Returns the words of a kind: one for each byte that starts a character of two bytes, and those
 /// of the bytes that start a character.
 #[inline(always)]
-fn short_words(table: &[u64], held: bool) -> [u64; 36] {
+pub(crate) fn short_words(table: &[u64], held: bool) -> [u64; 36] {
     let mut words = [0; 36];
-    for k in 0..32_u32 {
-        let place = PLACE_WORDS + place_of(table, k / 4) + (k % 4) as usize;
-        words[k as usize] = turned(word(table, place), held);
+    for block in 0..8_u32 {
+        let place = PLACE_WORDS + place_of(table, block);
+        let first = 4 * block as usize;
+        words[first] = turned(word(table, place), held);
+        words[first + 1] = turned(word(table, place + 1), held);
+        words[first + 2] = turned(word(table, place + 2), held);
+        words[first + 3] = turned(word(table, place + 3), held);
     }
     words[32] = words[0];
     words[33] = words[1];
@@ -69,40 +73,52 @@ fn are_next_short(words: &[u64; 36], bytes: &[u8], end: usize) -> bool {
     are_paired(window) && have_bits(words, window)
 }
 
-/// The highest bit of each of eight bytes.
-const HIGH_BITS: u64 = 0x8080_8080_8080_8080;
-
-/// Returns the eight bytes as a number. It is a single read.
+/// Returns true if one of the eight bytes is not ASCII.
 #[inline(always)]
-fn number_of(bytes: &[u8]) -> u64 {
-    u64::from_le_bytes([
-        bytes[0], bytes[1], bytes[2], bytes[3], bytes[4], bytes[5], bytes[6], bytes[7],
-    ])
+fn are_mixed(bytes: &[u8]) -> bool {
+    let mut mixed = false;
+    for k in 0..8 {
+        if bytes[k] >= 0x80 {
+            mixed = true;
+        }
+    }
+    mixed
 }
 
-/// Returns true if the eight bytes are ASCII.
+/// Returns true if one of 16 bytes is ASCII.
 #[inline(always)]
-fn are_ascii(bytes: &[u8]) -> bool {
-    number_of(bytes) & HIGH_BITS == 0
+fn have_ascii(bytes: &[u8]) -> bool {
+    let mut ascii = false;
+    for k in 0..16 {
+        if bytes[k] < 0x80 {
+            ascii = true;
+        }
+    }
+    ascii
 }
 
-/// After three steps in ASCII it is faster to pass ASCII alone.
-const PLAIN: usize = 3;
+/// Returns whether a character of at most two bytes is of the kind.
+#[inline(always)]
+pub(crate) fn has_short(words: &[u64; 36], c: u32) -> bool {
+    (words[(c / 64) as usize] >> (c % 64)) & 1 == 1
+}
 
-/// Passes characters of at most two bytes that are of the kind, and returns the offset after them.
-/// It may stop before the last of them, as where more ASCII follows. The byte before `start` is no
-/// lead byte.
+/// Passes characters of at most two bytes that are of the kind, as long as each eight bytes have
+/// one of two, and returns the offset after them. It may stop before the last of them. It passes
+/// none after 16 bytes without ASCII: one by one, characters of two bytes alone are faster.
 #[inline(never)]
-pub(crate) fn past_short(table: &[u64], held: bool, bytes: &[u8], start: usize) -> usize {
-    let words = short_words(table, held);
+pub(crate) fn past_short(words: &[u64; 36], bytes: &[u8], start: usize) -> usize {
+    if start < 16 {
+        return start;
+    }
+    if !have_ascii(&bytes[start - 16..start]) {
+        return start;
+    }
+    if bytes[start - 1] >= 0xC0 {
+        return start;
+    }
     let mut end = start;
-    let mut plain = 0;
-    while plain < PLAIN && are_next_short(&words, bytes, end) {
-        plain = if are_ascii(&bytes[end..end + 8]) {
-            plain + 1
-        } else {
-            0
-        };
+    while are_next_short(words, bytes, end) && are_mixed(&bytes[end..end + 8]) {
         end += 8;
     }
     if bytes[end - 1] >= 0xC0 { end - 1 } else { end }

@@ -1,17 +1,19 @@
 //! The spans of a text: its longest prefix or suffix of characters that are all in a set, or all
 //! outside it.
 
-use crate::icu_collections_c::kinds::{EndsKind, FrozenKind, Kind};
+use crate::icu_collections_c::kinds::{EndsKind, FrozenKind, Kind, LONG, LongKind};
+use crate::icu_collections_c::plain_characters::others_of;
+use crate::icu_collections_c::short_characters::{past_short, short_words};
 use crate::icu_collections_c::status::Refusal;
 use crate::icu_trie_text::characters::{first_character, last_character};
 use crate::icu_trie_text::first_utf16::first_code_point;
 
-/// Returns the offset of the first byte from `start` on that is not ASCII or not of the kind. If
-/// there is none, returns the length of the bytes.
+/// Returns the offset of the first byte from `start` to before `limit` that is not ASCII or not of
+/// the kind. If there is none, returns `limit`.
 #[inline(always)]
-fn past_ascii<K: Kind>(kind: &mut K, bytes: &[u8], start: usize) -> usize {
+fn past_ascii<K: Kind>(kind: &mut K, bytes: &[u8], start: usize, limit: usize) -> usize {
     let mut end = start;
-    while end < bytes.len() {
+    while end < limit {
         let byte = bytes[end];
         if byte >= 0x80 {
             return end;
@@ -24,67 +26,25 @@ fn past_ascii<K: Kind>(kind: &mut K, bytes: &[u8], start: usize) -> usize {
     end
 }
 
-/// After so many changes from ASCII to characters of two bytes, bytes are tested eight at a time.
-/// Reading the words for that costs about as much as these mispredicted jumps.
-const CHANGES: usize = 3;
-
-/// Changes count if at most so many bytes of ASCII are between them.
-const NEAR: usize = 24;
-
-/// If a test of eight bytes at a time passes less than this, it is done half as often.
-const ENOUGH: usize = 64;
-
-/// Returns for how many changes the loop still waits, after one to a character with this lead byte.
-/// `run` is how many bytes of ASCII come before it.
-#[inline(always)]
-fn left_to_wait(wait: usize, most: usize, run: usize, lead: u8) -> usize {
-    if run > NEAR {
-        return most;
-    }
-    if lead >= 0xE0 {
-        wait
-    } else {
-        wait.saturating_sub(1)
-    }
-}
-
-/// Returns for how many changes the loop waits next, if it waited for `most` and the test of eight
-/// bytes at a time then passed this many.
-#[inline(always)]
-fn next_wait(most: usize, passed: usize) -> usize {
-    if passed < ENOUGH {
-        most.saturating_mul(2)
-    } else {
-        CHANGES
-    }
-}
-
 /// Returns the length of the longest prefix whose characters are all of the kind, or the number of
 /// [`Refusal::NoText`] if the bytes are not empty and do not start with a character. The first
 /// `start` bytes are known to be characters of the kind.
 #[inline(always)]
 fn span_from<K: Kind>(kind: &mut K, bytes: &[u8], start: usize) -> i64 {
     let mut passed = start;
-    let mut most = CHANGES;
-    let mut wait = CHANGES;
     while passed < bytes.len() {
+        if let Some(result) = kind.rest(bytes, passed) {
+            return result;
+        }
         if bytes[passed] < 0x80 {
-            let run = passed;
-            passed = past_ascii(kind, bytes, passed);
+            let plain = kind.past_plain(bytes, passed);
+            passed = past_ascii(kind, bytes, plain, bytes.len());
             if passed >= bytes.len() {
                 return passed as i64;
             }
             if bytes[passed] < 0x80 {
                 return passed as i64;
             }
-            if wait > 0 {
-                wait = left_to_wait(wait, most, passed - run, bytes[passed]);
-                continue;
-            }
-            let short = passed;
-            passed = kind.past_short(bytes, passed);
-            most = next_wait(most, passed - short);
-            wait = most;
             continue;
         }
         let Some((c, size)) = first_character(&bytes[passed..]) else {
@@ -108,6 +68,20 @@ fn span<K: Kind>(kind: &mut K, bytes: &[u8]) -> i64 {
     span_from(kind, bytes, 0)
 }
 
+/// The same as `span_from`, by tables of the frozen set, which take about as long to make as a span
+/// of [`LONG`] bytes. A text of characters of one and two bytes that alternate is passed first.
+#[inline(never)]
+pub(crate) fn long_span(table: &[u64], held: bool, bytes: &[u8], start: usize) -> i64 {
+    let words = short_words(table, held);
+    let others = others_of(&words);
+    let passed = past_short(&words, bytes, start);
+    span_from(
+        &mut LongKind::new(table, held, &words, &others),
+        bytes,
+        passed,
+    )
+}
+
 /// The same as `span_from`, for a frozen set. It is not inlined, so that a call for a word in ASCII
 /// saves no registers.
 #[inline(never)]
@@ -118,11 +92,12 @@ fn frozen_span_from(kind: &mut FrozenKind<'_>, bytes: &[u8], start: usize) -> i6
 /// The same as `span`, for a frozen set.
 #[inline(always)]
 fn frozen_span(kind: &mut FrozenKind<'_>, bytes: &[u8]) -> i64 {
-    let passed = past_ascii(kind, bytes, 0);
-    if passed >= bytes.len() {
+    let near = bytes.len().min(LONG);
+    let passed = past_ascii(kind, bytes, 0, near);
+    if passed < near && bytes[passed] < 0x80 {
         return passed as i64;
     }
-    if bytes[passed] < 0x80 {
+    if passed >= bytes.len() {
         return passed as i64;
     }
     frozen_span_from(kind, bytes, passed)

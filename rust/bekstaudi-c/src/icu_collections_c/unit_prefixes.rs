@@ -1,6 +1,7 @@
 //! All keys of a unit trie that are prefixes of a text.
 
 use crate::icu_collections_c::status::Refusal;
+use crate::icu_collections_c::text_steps::{pass_character, starts_ill_formed};
 use crate::icu_collections_c::units::trie_in;
 
 /// The most prefixes that can be returned: `i64::MAX`.
@@ -57,21 +58,19 @@ pub fn bks_units_prefixes(units: &[u8], text: &[u16], found: &mut [Prefix]) -> u
     count
 }
 
-/// Writes all keys that are prefixes of a text. The length of each is in bytes of the text.
-fn prefixes_of(units: &[u8], text: &str, found: &mut [Prefix]) -> usize {
+/// Writes all keys that consist of the first characters of bytes that may be ill-formed. The length
+/// of each is in bytes.
+#[inline(always)]
+fn prefixes_in(units: &[u8], bytes: &[u8], found: &mut [Prefix]) -> usize {
     let trie = trie_in(units);
     let mut cursor = trie.cursor();
     let value = cursor.value();
     let mut count = put(found, 0, 0, value);
     let mut end = 0;
-    for c in text.chars() {
-        if cursor.is_empty() {
-            return count;
-        }
-        cursor.step(c);
-        end += c.len_utf8();
+    while let Some(next) = pass_character(&mut cursor, bytes, end) {
         let value = cursor.value();
-        count = put(found, count, end, value);
+        count = put(found, count, next, value);
+        end = next;
     }
     count
 }
@@ -81,12 +80,15 @@ fn prefixes_of(units: &[u8], text: &str, found: &mut [Prefix]) -> usize {
 /// at a character boundary: only keys are found that are the UTF-16 form of the first characters of
 /// the text.
 ///
+/// Reads the first character, and no more of the text than some key continues with. An ill-formed
+/// sequence ends the text.
+///
 /// # Errors
-/// Returns the number of [`Refusal::NoText`] if the text is not UTF-8. The buffer is then
-/// unchanged.
+/// Returns the number of [`Refusal::NoText`] if the text is not empty and does not start with a
+/// character. The buffer is then unchanged.
 pub fn bks_units_prefixes_utf8(units: &[u8], text: &[u8], found: &mut [Prefix]) -> i64 {
-    match str::from_utf8(text) {
-        Ok(text) => prefixes_of(units, text, found).min(MOST) as i64,
-        Err(_) => Refusal::NoText.number(),
+    if starts_ill_formed(text) {
+        return Refusal::NoText.number();
     }
+    prefixes_in(units, text, found).min(MOST) as i64
 }

@@ -42,6 +42,12 @@ fn is_all(block: &[u64; 4], word: u64) -> bool {
     block[0] == word && block[1] == word && block[2] == word && block[3] == word
 }
 
+/// Makes the blocks from `from` to before `to` full.
+#[inline]
+fn fill(index: &mut [u16], from: usize, to: usize) {
+    index[from..to].fill(FULL_BLOCK);
+}
+
 impl CodePointBits {
     /// Returns tables in which all blocks are empty, with capacity for the blocks of a set of
     /// `ranges` ranges.
@@ -131,9 +137,7 @@ impl CodePointBits {
     /// Makes the blocks from `from` to before `to` full.
     #[inline]
     pub(crate) fn fill_blocks(&mut self, from: usize, to: usize) {
-        for at in from..to {
-            self.set_shared(at, true);
-        }
+        fill(&mut self.index, from, to);
     }
 
     /// Returns a copy.

@@ -4,33 +4,47 @@ use crate::icu_frozen_sets::bits::{BLOCKS, CodePointBits};
 use crate::icu_zerovec::MemoryError;
 
 /// The bits of the ranges that were added so far, in ascending order.
+///
+/// The bits of the current block are computed when the block is complete. Until then only the
+/// starts and the ends of its ranges are marked. Read as numbers of 256 bits, the ends minus the
+/// starts are the bits, since `2^end - 2^start` has ones from bit `start` to before bit `end`. So a
+/// range takes no jump that depends on the words that it is in.
 #[derive(Debug)]
 pub(crate) struct Filling {
     /// The blocks below `at`. All others are empty here.
     bits: CodePointBits,
-    /// The words of block `at`.
-    block: [u64; 4],
+    /// The starts of the ranges in block `at`.
+    starts: [u64; 4],
+    /// The ends of the ranges in block `at`. An end is the code point after the last one.
+    ends: [u64; 4],
+    /// Whether a range that starts in an earlier block reaches block `at`.
+    carried: bool,
     /// The number of the current block.
     at: u32,
 }
 
-/// Sets the bits of the code points in `from..to`, which are all in one word of the block.
+/// Marks the code point `c`, which is above all marks in the words.
 #[inline(always)]
-fn set_bits(block: &mut [u64; 4], from: u32, to: u32) {
-    let mask = (u64::MAX << (from % 64)) & (u64::MAX >> (63 - (to - 1) % 64));
-    block[(from / 64 % 4) as usize] |= mask;
+fn mark(words: &mut [u64; 4], c: u32) {
+    words[(c / 64 % 4) as usize] += 1 << (c % 64);
 }
 
-/// Sets the bits of the code points in `from..to`, which are all in the block.
+/// Returns `end - start - carried`, and whether that borrows from the next word.
 #[inline(always)]
-fn set_ones(block: &mut [u64; 4], from: u32, to: u32) {
-    let mut begin = from;
-    while begin / 64 < (to - 1) / 64 {
-        let next = (begin / 64 + 1) * 64;
-        set_bits(block, begin, next);
-        begin = next;
-    }
-    set_bits(block, begin, to);
+fn less(end: u64, start: u64, carried: bool) -> (u64, bool) {
+    let (rest, first) = end.overflowing_sub(start);
+    let (total, second) = rest.overflowing_sub(u64::from(carried));
+    (total, first | second)
+}
+
+/// Returns the ends minus the starts. `carried` counts as a start before all bits.
+#[inline(always)]
+fn difference(ends: &[u64; 4], starts: &[u64; 4], carried: bool) -> [u64; 4] {
+    let (first, borrow) = less(ends[0], starts[0], carried);
+    let (second, borrow) = less(ends[1], starts[1], borrow);
+    let (third, borrow) = less(ends[2], starts[2], borrow);
+    let (fourth, _) = less(ends[3], starts[3], borrow);
+    [first, second, third, fourth]
 }
 
 impl Filling {
@@ -42,9 +56,20 @@ impl Filling {
     pub(crate) fn new(ranges: usize) -> Result<Filling, MemoryError> {
         Ok(Filling {
             bits: CodePointBits::new(ranges)?,
-            block: [0; 4],
+            starts: [0; 4],
+            ends: [0; 4],
+            carried: false,
             at: 0,
         })
+    }
+
+    /// Makes `at` the current block, without marks. A range reaches it if `carried` is true.
+    #[inline(always)]
+    fn begin(&mut self, at: u32, carried: bool) {
+        self.starts = [0; 4];
+        self.ends = [0; 4];
+        self.carried = carried;
+        self.at = at;
     }
 
     /// Makes `at` the current block. If that changes it, the block before is written.
@@ -53,9 +78,9 @@ impl Filling {
         if self.at == at {
             return Ok(());
         }
-        self.bits.set_block(self.at as usize, &self.block)?;
-        self.block = [0; 4];
-        self.at = at;
+        let block = difference(&self.ends, &self.starts, self.carried);
+        self.bits.set_block(self.at as usize, &block)?;
+        self.begin(at, false);
         Ok(())
     }
 
@@ -64,13 +89,13 @@ impl Filling {
     /// This is not inlined: few ranges are such, and the loop over all ranges is faster without it.
     #[inline(never)]
     fn add_far(&mut self, start: u32, end: u32) -> Result<(), MemoryError> {
-        let next = self.at + 1;
-        set_ones(&mut self.block, start, next * 256);
-        self.move_to(end / 256)?;
-        self.bits.fill_blocks(next as usize, (end / 256) as usize);
-        if !end.is_multiple_of(256) {
-            set_ones(&mut self.block, end / 256 * 256, end);
-        }
+        mark(&mut self.starts, start);
+        let block = difference(&self.ends, &self.starts, self.carried);
+        self.bits.set_block(self.at as usize, &block)?;
+        let next = self.at as usize + 1;
+        self.bits.fill_blocks(next, (end / 256) as usize);
+        self.begin(end / 256, true);
+        mark(&mut self.ends, end);
         Ok(())
     }
 
@@ -84,7 +109,8 @@ impl Filling {
         if end / 256 != self.at {
             return self.add_far(start, end);
         }
-        set_ones(&mut self.block, start, end);
+        mark(&mut self.starts, start);
+        mark(&mut self.ends, end);
         Ok(())
     }
 
@@ -97,7 +123,9 @@ impl Filling {
         self.move_to(BLOCKS)?;
         let Filling {
             bits,
-            block: _,
+            starts: _,
+            ends: _,
+            carried: _,
             at: _,
         } = self;
         Ok(bits)

@@ -1,7 +1,7 @@
 //! Prints the values of a code point trie that is built of the rows on standard input.
 
 use crate::host::env;
-use crate::host::io::{ErrorKind, Read, Write};
+use crate::host::io::{self, ErrorKind, Read, Write};
 use crate::host::process::ExitCode;
 #[allow(unused_imports)]
 use crate::host::{HostRuntime, Text};
@@ -15,36 +15,40 @@ use crate::ucptab_table::streams::{Failed, Sink, Source};
 use crate::ucptab_table::text::write_fault;
 use crate::ucptab_table::{run_words, write_usage};
 
-/// A reader with a count of its failures.
+/// A reader with a count of its failures, and the last one.
 struct Input<R: Read, L: Ledger> {
     reader: R,
     failures: Steps<L>,
+    error: Option<io::Error>,
 }
 
 impl<R: Read, L: Ledger> Source for Input<R, L> {
     fn read(&mut self, buf: &mut [u8]) -> Result<usize, Failed> {
         match self.reader.read(buf) {
             Ok(n) => Ok(n),
-            Err(_) => {
+            Err(error) => {
                 self.failures.tick();
+                self.error = Some(error);
                 Err(Failed)
             }
         }
     }
 }
 
-/// A writer with a count of its failures.
+/// A writer with a count of its failures, and the last one.
 struct Output<W: Write, L: Ledger> {
     writer: W,
     failures: Steps<L>,
+    error: Option<io::Error>,
 }
 
 impl<W: Write, L: Ledger> Sink for Output<W, L> {
     fn write(&mut self, buf: &[u8]) -> Result<(), Failed> {
         match self.writer.write_all(buf) {
             Ok(()) => Ok(()),
-            Err(_) => {
+            Err(error) => {
                 self.failures.tick();
+                self.error = Some(error);
                 Err(Failed)
             }
         }
@@ -62,16 +66,28 @@ fn without_words<W: Sink>(writer: &mut W, why: ErrorKind) -> u8 {
     1
 }
 
+/// Says on standard error that a stream failed, unless its reader has closed the pipe.
+fn say(rt: &HostRuntime, stream: &str, failure: &Option<io::Error>) {
+    match failure {
+        Some(error) if error.kind() != ErrorKind::BrokenPipe => {
+            let _ = writeln!(io::stderr(), "ucptab: {stream}: {error}");
+        }
+        _ => {}
+    }
+}
+
 /// Runs the program over standard input and output, and returns its status. Each stream has a
 /// ledger for its failures.
 fn status<L: Ledger, K: Ledger>(rt: &HostRuntime, reads: Blank, writes: Blank) -> u8 {
     let mut reader = Input {
         reader: rt.stdin(),
         failures: Steps::<L>::new(reads),
+        error: None,
     };
     let mut writer = Output {
         writer: rt.stdout(),
         failures: Steps::<K>::new(writes),
+        error: None,
     };
     let args = match env::args(rt) {
         Ok(args) => args,
@@ -82,7 +98,10 @@ fn status<L: Ledger, K: Ledger>(rt: &HostRuntime, reads: Blank, writes: Blank) -
         return 1;
     };
     let words: Vec<String> = words;
-    run_words(&words, &mut reader, &mut writer)
+    let status = run_words(&words, &mut reader, &mut writer);
+    say(rt, "standard input", &reader.error);
+    say(rt, "standard output", &writer.error);
+    status
 }
 
 pub(crate) fn main(rt: HostRuntime) -> ExitCode {

@@ -41,7 +41,7 @@ fn strip_carriage_return(line: &[u8]) -> &[u8] {
 }
 
 /// Returns the first line and what follows its line feed, or `None` if there is no line.
-fn first_line(input: &[u8]) -> Option<(&[u8], &[u8])> {
+pub fn first_line(input: &[u8]) -> Option<(&[u8], &[u8])> {
     let place = position_or_len(b'\n', input);
     if place < input.len() {
         return Some((strip_carriage_return(&input[..place]), &input[place + 1..]));
@@ -50,6 +50,21 @@ fn first_line(input: &[u8]) -> Option<(&[u8], &[u8])> {
         return None;
     }
     Some((input, &[]))
+}
+
+/// Returns the line of this number, counted from 1, without its line end, or `None` if there are
+/// fewer lines.
+pub fn line_at(input: &[u8], number: u64) -> Option<&[u8]> {
+    let mut left = number;
+    let mut others = input;
+    while let Some((line, after)) = first_line(others) {
+        if left <= 1 {
+            return Some(line);
+        }
+        left -= 1;
+        others = after;
+    }
+    None
 }
 
 /// Returns the writes of all rows of the table, in order.

@@ -7,6 +7,7 @@ use crate::support::prelude::*;
 pub mod digits;
 pub mod fault;
 pub mod input;
+pub mod message;
 pub mod rows;
 pub mod streams;
 pub mod text;

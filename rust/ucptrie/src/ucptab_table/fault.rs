@@ -30,6 +30,16 @@ impl RowFault {
             RowFault::Value => "value too large",
         }
     }
+
+    /// Returns what the test that failed expects of a row, in words.
+    pub fn expected(self) -> &'static str {
+        match self {
+            RowFault::NotARow => "HEX;VALUE or HEX..HEX;VALUE",
+            RowFault::CodePoint => "code points up to 10FFFF",
+            RowFault::Reversed => "a range whose end is not below its start",
+            RowFault::Value => "a value up to 4294967295",
+        }
+    }
 }
 
 impl fmt::Display for RowFault {

@@ -35,7 +35,7 @@ fn trim_end(bytes: &[u8]) -> &[u8] {
 }
 
 /// Returns the bytes without leading and trailing spaces and tabs.
-fn trimmed(bytes: &[u8]) -> &[u8] {
+pub fn trimmed(bytes: &[u8]) -> &[u8] {
     trim_end(trim_start(bytes))
 }
 
@@ -63,7 +63,7 @@ pub fn after(mark: u8, bytes: &[u8]) -> &[u8] {
 }
 
 /// Returns the code points of the field `HEX` or `HEX..HEX`, or `None` for any other field.
-fn code_points_of(field: &[u8]) -> Option<CodePoints> {
+pub fn code_points_of(field: &[u8]) -> Option<CodePoints> {
     if let [b'.', end @ ..] = after(b'.', field) {
         let start = hexadecimal(before(b'.', field))?;
         let end = hexadecimal(end)?;
@@ -96,7 +96,7 @@ fn row_of_numbers(points: CodePoints, value: u64) -> Result<Write<u32>, RowFault
 
 /// Returns the line without its comment, which starts at the first `#`, and without leading and
 /// trailing blanks.
-fn content_of(line: &[u8]) -> &[u8] {
+pub fn content_of(line: &[u8]) -> &[u8] {
     trimmed(before(b'#', line))
 }
 

@@ -5,225 +5,132 @@
 use crate::host::{HostRuntime, Text};
 #[allow(unused_imports)]
 use crate::support::prelude::*;
+mod asked;
+mod build;
+mod convert;
+mod fault;
 mod names;
+mod output;
+mod streams;
+mod tables;
+mod unicode_files;
 mod words;
 
-use crate::context::{Context, Error, Result, anyhow};
-use crate::host::io::{Read, Write};
 use crate::host::process::ExitCode;
-use crate::host::{env, fs, io};
-use crate::ucptab_table::digits::hexadecimal;
-use crate::ucptab_table::fault::TableError;
-use crate::ucptrie_tables::built;
+use crate::host::{env, io};
+use crate::ucptrie::asked::asked;
+use crate::ucptrie::build::build;
+use crate::ucptrie::convert::convert;
+use crate::ucptrie::fault::{Fault, about, about_arguments};
+use crate::ucptrie::output::{deliver, target_of};
+use crate::ucptrie::streams::{put, say};
+use crate::ucptrie::tables::table_at;
+use crate::ucptrie::words::program_words;
 use crate::ucptrie_tables::diff::differences_text;
-use crate::ucptrie_tables::fault::BuildFault;
-use crate::ucptrie_tables::read::read_table;
 use crate::ucptrie_tables::shown::{answered, shown};
-use crate::ucptrie_tables::table::{Table, TableOptions};
-use crate::ucptrie_tables::width::ValueWidth;
-use crate::ucptrie_tables::written::{Form, written};
-use bekstaudi::codepointtrie::TrieType;
 use clap::ArgMatches;
-use names::{module_name, name_of};
-use words::program_words;
 
-/// Returns the trie type that the arguments name.
-fn trie_type(matches: &ArgMatches) -> TrieType {
-    match matches.get_one::<String>("type").map(String::as_str) {
-        Some("small") => TrieType::Small,
-        _ => TrieType::Fast,
-    }
+/// Makes a table by `build` or `convert`, and sends it to its target.
+fn make(rt: &HostRuntime, name: &str, matches: &ArgMatches) -> Result<(), Fault> {
+    let target = target_of(matches)?;
+    let bytes = if name == "build" {
+        build(rt, matches)?
+    } else {
+        convert(rt, matches)?
+    };
+    let is_binary = matches.get_one::<String>("as").map(String::as_str) == Some("icu");
+    deliver(rt, target, &bytes, is_binary)
 }
 
-/// Returns the width that the arguments name.
-fn width(matches: &ArgMatches) -> ValueWidth {
-    match matches.get_one::<String>("width").map(String::as_str) {
-        Some("8") => ValueWidth::Bits8,
-        Some("16") => ValueWidth::Bits16,
-        _ => ValueWidth::Bits32,
-    }
-}
-
-/// Returns the error for a word that is not what it has to be.
-fn refused(word: &str, why: &str) -> Error {
-    anyhow!("{word}: {why}")
-}
-
-/// Returns the form that the arguments name.
-fn form(matches: &ArgMatches) -> Result<Form<'_>> {
-    let name = name_of(
-        matches
-            .get_one::<String>("name")
-            .map(String::as_str)
-            .unwrap_or("table"),
-    )?;
-    Ok(match matches.get_one::<String>("as").map(String::as_str) {
-        Some("icu") => Form::Icu,
-        Some("toml") => Form::Toml,
-        Some("json") => Form::Json,
-        Some("c") => Form::C(name),
-        Some("rust") => Form::Rust(module_name(name)?),
-        _ => Form::Rows,
-    })
-}
-
-/// Returns what a table is to be, apart from its rows.
-fn options(matches: &ArgMatches) -> TableOptions {
-    TableOptions {
-        trie_type: trie_type(matches),
-        width: width(matches),
-        default: matches.get_one::<u32>("default").copied().unwrap_or(0),
-        error: matches.get_one::<u32>("error").copied().unwrap_or(0),
-    }
-}
-
-/// Reads all of standard input.
-fn input(rt: &HostRuntime) -> Result<Vec<u8>> {
-    let mut bytes = Vec::new();
-    rt.stdin().read_to_end(&mut bytes)?;
-    Ok(bytes)
-}
-
-/// Returns the error for a fault. For a map that is too large, it says why.
-fn told(fault: BuildFault) -> Error {
-    match fault {
-        BuildFault::Table(TableError::TooLarge) => {
-            anyhow!("too large: more different blocks of values than fit into a trie")
-        }
-        _ => fault.into(),
-    }
-}
-
-/// Builds a table of the rows on standard input, in the form that the arguments name.
-fn build(rt: &HostRuntime, matches: &ArgMatches) -> Result<Vec<u8>> {
-    let form = form(matches)?;
-    let rows = input(rt)?;
-    built(&rows, options(matches), form).map_err(told)
-}
-
-/// Reads a file, or standard input if its name is `-`.
-fn bytes_at(rt: &HostRuntime, path: &str) -> Result<Vec<u8>> {
-    if path == "-" {
-        return input(rt);
-    }
-    Ok(fs::read(rt, path)?)
-}
-
-/// Reads the table of the file that the argument `id` names.
-fn table_at(rt: &HostRuntime, matches: &ArgMatches, id: &str) -> Result<Table> {
-    let path = matches
-        .get_one::<String>(id)
-        .map(String::as_str)
-        .context("no file")?;
-    let bytes = bytes_at(rt, path).context(path)?;
-    let table = read_table(&bytes).context(path)?;
-    Ok(table)
-}
-
-/// Returns the table of a file in the form that the arguments name.
-///
-/// Rows are ranges. The ranges of a table that is not coherent may differ from its values, so its
-/// rows would make another table and are not written.
-fn convert(rt: &HostRuntime, matches: &ArgMatches) -> Result<Vec<u8>> {
-    let form = form(matches)?;
-    let path = matches
-        .get_one::<String>("file")
-        .map(String::as_str)
-        .context("no file")?;
+/// Prints what a table is, in lines.
+fn show(rt: &HostRuntime, matches: &ArgMatches) -> Result<(), Fault> {
     let table = table_at(rt, matches, "file")?;
-    if matches!(form, Form::Rows) && !table.trie.is_coherent() {
-        let why = "not coherent, so its ranges may differ from its look-ups: no rows are written";
-        return Err(refused(path, why));
-    }
-    Ok(written(&table, form).context(path)?)
+    let text = shown(&table)?;
+    put(rt, text.as_bytes())
 }
 
-/// Returns what a table is, in lines.
-fn show(rt: &HostRuntime, matches: &ArgMatches) -> Result<String> {
-    let table = table_at(rt, matches, "file")?;
-    Ok(shown(&table)?)
-}
-
-/// Returns the number that a word asks for.
-fn number_of(word: &str) -> Result<u32> {
-    match hexadecimal(word.as_bytes()) {
-        Some(number) => Ok(number),
-        None => Err(refused(word, "not 1 to 8 hexadecimal digits")),
-    }
-}
-
-/// Returns the numbers that the arguments ask for.
-fn asked(rt: &HostRuntime, matches: &ArgMatches) -> Result<Vec<u32>> {
-    let mut asked = Vec::new();
-    for word in matches.get_many::<String>("asked").into_iter().flatten() {
-        asked.try_push(number_of(word)?)?;
-    }
-    Ok(asked)
-}
-
-/// Returns the value of each asked number in a table, in lines.
-fn get(rt: &HostRuntime, matches: &ArgMatches) -> Result<String> {
+/// Prints the value of each asked number in a table, in lines.
+fn get(rt: &HostRuntime, matches: &ArgMatches) -> Result<(), Fault> {
     let asked = asked(rt, matches)?;
     let table = table_at(rt, matches, "file")?;
-    Ok(answered(&table, &asked)?)
+    let text = answered(&table, &asked)?;
+    put(rt, text.as_bytes())
 }
 
-/// Returns the ranges in which two tables differ, in lines.
-fn diff(rt: &HostRuntime, matches: &ArgMatches) -> Result<String> {
+/// Prints the ranges in which two tables differ, in lines. Returns 1 if there is a line, and 0 if
+/// there is none.
+fn diff(rt: &HostRuntime, matches: &ArgMatches) -> Result<u8, Fault> {
     let first = table_at(rt, matches, "first")?;
     let second = table_at(rt, matches, "second")?;
-    Ok(differences_text(&first.trie, &second.trie)?)
+    let text = differences_text(&first.trie, &second.trie)?;
+    put(rt, text.as_bytes())?;
+    Ok(if text.is_empty() { 0 } else { 1 })
 }
 
-/// Returns what a command writes to standard output.
-fn written_by(rt: &HostRuntime, name: &str, matches: &ArgMatches) -> Result<Vec<u8>> {
-    let text = match name {
-        "build" => return build(rt, matches),
-        "convert" => return convert(rt, matches),
+/// Does what a command asks for, and returns the status.
+fn run(rt: &HostRuntime, name: &str, matches: &ArgMatches) -> Result<u8, Fault> {
+    match name {
+        "build" | "convert" => make(rt, name, matches)?,
         "show" => show(rt, matches)?,
         "get" => get(rt, matches)?,
-        "diff" => diff(rt, matches)?,
-        _ => return Err(Error::msg("no command")),
-    };
-    Ok(text.into_bytes())
+        _ => return diff(rt, matches),
+    }
+    Ok(0)
 }
 
-/// Prints why the arguments are rejected, and returns the status. A failed allocation is not a
-/// fault of the arguments.
-fn not_taken(error: &clap::Error) -> Result<ExitCode> {
-    error.print()?;
-    Ok(ExitCode::from(if error.use_stderr() { 2 } else { 0 }))
+/// Prints a fault, and returns its status.
+fn failed(rt: &HostRuntime, fault: &Fault, is_diff: bool) -> u8 {
+    if let Some(line) = fault.line() {
+        say(rt, line);
+    }
+    fault.status(is_diff)
 }
 
-/// Writes to standard output, and returns the status. Prints no error if the reader has closed the
-/// pipe, as `head` does.
-fn put(rt: &HostRuntime, bytes: &[u8]) -> Result<ExitCode> {
-    match rt.stdout().write_all(bytes) {
-        Ok(()) => Ok(ExitCode::SUCCESS),
-        Err(error) if matches!(error.kind(), io::ErrorKind::BrokenPipe) => Ok(ExitCode::from(1)),
-        Err(error) => Err(error.into()),
+/// Prints help or the version, or why the arguments are rejected, and returns the status. A failed
+/// allocation is not a fault of the arguments.
+fn not_taken(rt: &HostRuntime, error: &clap::Error) -> u8 {
+    match error.print() {
+        Ok(()) => {
+            if error.use_stderr() {
+                2
+            } else {
+                0
+            }
+        }
+        Err(error) => failed(rt, &about("standard output", error), false),
     }
 }
 
-/// Does what the arguments ask for, and returns the status.
-fn run(rt: &HostRuntime) -> Result<ExitCode> {
-    let words: Vec<String> = env::args(rt)?.collect()?;
-    let command = program_words()?;
-    let matches = match command.try_get_matches_from(words.as_slice()) {
-        Ok(matches) => matches,
-        Err(error) => return not_taken(&error),
+/// Returns the words of the command line.
+fn given_words(rt: &HostRuntime) -> Result<Vec<String>, Fault> {
+    match env::args(rt) {
+        Ok(words) => Ok(words.collect()?),
+        Err(error) if matches!(error.kind(), io::ErrorKind::OutOfMemory) => Err(Fault::Memory),
+        Err(_) => Err(about_arguments("arguments", "expected UTF-8")),
+    }
+}
+
+/// Does what the words ask for, and returns the status.
+fn status(rt: &HostRuntime, words: &[String]) -> u8 {
+    let Ok(command) = program_words() else {
+        return failed(rt, &Fault::Memory, false);
     };
-    let (name, matches) = matches.subcommand().context("no command")?;
-    let bytes = written_by(rt, name, matches)?;
-    put(rt, &bytes)
+    let matches = match command.try_get_matches_from(words) {
+        Ok(matches) => matches,
+        Err(error) => return not_taken(rt, &error),
+    };
+    let Some((name, matches)) = matches.subcommand() else {
+        return 2;
+    };
+    match run(rt, name, matches) {
+        Ok(status) => status,
+        Err(fault) => failed(rt, &fault, name == "diff"),
+    }
 }
 
 pub(crate) fn main(rt: HostRuntime) -> ExitCode {
-    match run(&rt) {
-        Ok(status) => status,
-        Err(error) => {
-            let _ = writeln!(io::stderr(), "ucptrie: {error:#}");
-            ExitCode::from(1)
-        }
-    }
+    ExitCode::from(match given_words(&rt) {
+        Ok(words) => status(&rt, &words),
+        Err(fault) => failed(&rt, &fault, false),
+    })
 }

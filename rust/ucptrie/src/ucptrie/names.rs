@@ -1,8 +1,7 @@
 //! Names in source.
-use crate::context::Result;
 #[allow(unused_imports)]
 use crate::host::{HostRuntime, Text};
-use crate::ucptrie::refused;
+use crate::ucptrie::fault::{Fault, about};
 use crate::ucptrie_tables::source::is_name;
 
 /// The words that cannot name a module in Rust: its keywords, including the reserved ones, and `_`.
@@ -15,18 +14,18 @@ const KEPT_BY_RUST: [&str; 53] = [
 ];
 
 /// Returns the word if each name in source can start with it.
-pub fn name_of(word: &str) -> Result<&str> {
+pub fn name_of(word: &str) -> Result<&str, Fault> {
     if !is_name(word) {
         let why = "expected letters, digits and _, not starting with a digit";
-        return Err(refused(word, why));
+        return Err(about(word, why));
     }
     Ok(word)
 }
 
 /// Returns the name if it can be that of a module in Rust.
-pub fn module_name(name: &str) -> Result<&str> {
+pub fn module_name(name: &str) -> Result<&str, Fault> {
     if KEPT_BY_RUST.iter().any(|kept| *kept == name) {
-        return Err(refused(name, "a reserved word of Rust"));
+        return Err(about(name, "a reserved word of Rust"));
     }
     Ok(name)
 }

@@ -7,11 +7,16 @@ use crate::support::AllocError;
 use crate::support::prelude::*;
 use clap::{Arg, Command};
 
+/// The program's version, which is that of the file VERSION.
+const VERSION: &str = "0.2.0";
+
 /// How an argument is given.
 #[derive(Clone, Copy)]
 enum Place {
     /// `--id VALUE`, anywhere.
     Option,
+    /// The same, or this letter after one `-`.
+    Short(char),
     /// One word, by its position.
     Word,
     /// This word and all that follow.
@@ -44,12 +49,10 @@ const OPTION: Argument = Argument {
     help: "",
 };
 
-/// An option with a value of 32 bits, which is tested as `value_parser!(u32)` does. It is 0 if it
-/// is left out.
+/// An option with a value of 32 bits, which is tested as `value_parser!(u32)` does.
 const NUMBER: Argument = Argument {
     value_name: &["N"],
     values: ValueParser::Signed(0, 0xffffffff),
-    default: &["0"],
     ..OPTION
 };
 
@@ -60,6 +63,14 @@ const FILE: Argument = Argument {
     required: true,
     value_name: &["FILE"],
     help: "A table in ICU's binary form, in JSON or in TOML; - for standard input",
+    ..OPTION
+};
+
+/// The property of a TOML file.
+const PROPERTY: Argument = Argument {
+    id: "property",
+    value_name: &["NAME"],
+    help: "The property in TOML: its key, long_name or short_name",
     ..OPTION
 };
 
@@ -80,53 +91,135 @@ const NAME: Argument = Argument {
     ..OPTION
 };
 
+/// The file that a table is written into.
+const OUTPUT: Argument = Argument {
+    id: "output",
+    place: Place::Short('o'),
+    value_name: &["FILE"],
+    help: "Write this file, once all is done",
+    ..OPTION
+};
+
+/// The file that a table is compared with.
+const CHECK: Argument = Argument {
+    id: "check",
+    value_name: &["FILE"],
+    help: "Write nothing; succeed if this file is what would be written",
+    ..OPTION
+};
+
+/// The type of the trie.
+const TYPE: Argument = Argument {
+    id: "type",
+    values: ValueParser::Names(&["fast", "small"]),
+    help: "fast: two reads below 10000; small: a smaller trie",
+    ..OPTION
+};
+
+/// How many bits a value has.
+const WIDTH: Argument = Argument {
+    id: "width",
+    values: ValueParser::Names(&["8", "16", "32"]),
+    help: "How many bits a value has",
+    ..OPTION
+};
+
+/// The error value.
+const ERROR: Argument = Argument {
+    id: "error",
+    help: "The value above 10FFFF",
+    ..NUMBER
+};
+
 /// The arguments of `build`.
-const BUILD: [Argument; 6] = [
+const BUILD: [Argument; 14] = [
     Argument {
-        id: "type",
-        values: ValueParser::Names(&["fast", "small"]),
-        default: &["fast"],
-        help: "fast: two reads below 10000; small: a smaller trie",
+        required: false,
+        help: "Rows HEX;N or HEX..HEX;N, or a file of the Unicode Character Database",
+        ..FILE
+    },
+    Argument {
+        id: "format",
+        values: ValueParser::Names(&["rows", "properties", "unicode-data"]),
+        help: "What FILE is; if left out, its first line tells",
         ..OPTION
     },
     Argument {
-        id: "width",
-        values: ValueParser::Names(&["8", "16", "32"]),
-        default: &["32"],
-        help: "How many bits a value has",
+        help: "The property: in a file of several, its lines; with --aliases, its values",
+        ..PROPERTY
+    },
+    Argument {
+        id: "field",
+        help: "The field with the value, counted from 0",
+        ..NUMBER
+    },
+    Argument {
+        id: "values",
+        values: ValueParser::Names(&["names", "decimal", "hexadecimal", "set"]),
+        help: "What values are; names get numbers in order of first appearance",
         ..OPTION
+    },
+    Argument {
+        id: "aliases",
+        value_name: &["FILE"],
+        help: "PropertyValueAliases.txt: the names of the property's values, in its order",
+        ..OPTION
+    },
+    Argument {
+        default: &["fast"],
+        ..TYPE
+    },
+    Argument {
+        default: &["32"],
+        ..WIDTH
     },
     Argument {
         id: "default",
+        default: &["0"],
         help: "The value of a code point in no row",
         ..NUMBER
     },
     Argument {
-        id: "error",
-        help: "The value above 10FFFF",
-        ..NUMBER
+        default: &["0"],
+        ..ERROR
     },
     FORM,
     NAME,
+    OUTPUT,
+    CHECK,
 ];
 
-/// The arguments of `convert`: a table, and the form in which it is written.
-const CONVERT: [Argument; 3] = [FILE, FORM, NAME];
+/// The arguments of `convert`: a table, what changes, and the form in which it is written.
+const CONVERT: [Argument; 9] = [
+    FILE, PROPERTY, TYPE, WIDTH, ERROR, FORM, NAME, OUTPUT, CHECK,
+];
+
+/// The arguments of `show`: a table.
+const SHOW: [Argument; 2] = [FILE, PROPERTY];
 
 /// The arguments of `get`: a table, and the asked numbers.
-const GET: [Argument; 2] = [
+const GET: [Argument; 4] = [
     FILE,
+    PROPERTY,
     Argument {
         id: "asked",
         place: Place::Words,
+        required: false,
         value_name: &["HEX"],
-        help: "Numbers of 1 to 8 hexadecimal digits",
+        help: "A number of 1 to 8 hexadecimal digits, or a range HEX..HEX",
         ..FILE
+    },
+    Argument {
+        id: "from",
+        value_name: &["FILE"],
+        help: "A file with HEX or HEX..HEX on each line",
+        ..OPTION
     },
 ];
 
 /// The arguments of `diff`: two tables.
-const DIFF: [Argument; 2] = [
+const DIFF: [Argument; 3] = [
+    PROPERTY,
     Argument {
         id: "first",
         ..FILE
@@ -141,18 +234,18 @@ const DIFF: [Argument; 2] = [
 const COMMANDS: [(&str, &str, &[Argument]); 5] = [
     (
         "build",
-        "Builds a table from rows on standard input, HEX;N or HEX..HEX;N on each line",
+        "Builds a table from rows or from a file of the Unicode Character Database",
         &BUILD,
     ),
     (
         "convert",
-        "Writes a table in another form to standard output",
+        "Writes a table in another form, or of another type, width or error value",
         &CONVERT,
     ),
     (
         "show",
         "Prints the header of a table, its sizes and its ranges",
-        &[FILE],
+        &SHOW,
     ),
     ("get", "Prints the value of each number in a table", &GET),
     (
@@ -181,6 +274,7 @@ fn with_default(argument: Arg, row: &Argument) -> Arg {
 fn placed(argument: Arg, row: &Argument) -> Arg {
     match row.place {
         Place::Option => argument.long(row.id),
+        Place::Short(letter) => argument.long(row.id).short(letter),
         Place::Word => argument,
         Place::Words => argument.num_args(1..),
     }
@@ -210,7 +304,8 @@ fn command_of(
 /// Returns the program's command line in clap's form.
 pub fn program_words() -> Result<Command, AllocError> {
     let about = "Makes code point tries from rows, and reads them";
-    let mut program = command_of("ucptrie", about, &[])?.subcommand_required(true);
+    let named = command_of("ucptrie", about, &[])?.version(VERSION);
+    let mut program = named.subcommand_required(true);
     for (name, about, arguments) in COMMANDS {
         program = program.subcommand(command_of(name, about, arguments)?);
     }

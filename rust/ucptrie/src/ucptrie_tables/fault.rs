@@ -3,6 +3,7 @@
 #[allow(unused_imports)]
 use crate::host::{HostRuntime, Text};
 use crate::support::AllocError;
+use crate::ucd_files::fault::FileFault;
 use crate::ucptab_table::fault::TableError;
 use crate::ucptrie_tables::width::ValueWidth;
 use bekstaudi::codepointtrie::BuildError;
@@ -56,6 +57,33 @@ impl From<MemoryError> for BuildFault {
     }
 }
 
+/// Why a file of the Unicode Character Database makes no table.
+#[derive(Debug)]
+pub enum UnicodeFileFault {
+    /// A line of the file has a fault, or the file is not complete.
+    File(FileFault),
+    /// What its lines say makes no table.
+    Build(BuildFault),
+}
+
+impl From<FileFault> for UnicodeFileFault {
+    fn from(error: FileFault) -> UnicodeFileFault {
+        UnicodeFileFault::File(error)
+    }
+}
+
+impl From<BuildFault> for UnicodeFileFault {
+    fn from(error: BuildFault) -> UnicodeFileFault {
+        UnicodeFileFault::Build(error)
+    }
+}
+
+impl From<AllocError> for UnicodeFileFault {
+    fn from(_error: AllocError) -> UnicodeFileFault {
+        UnicodeFileFault::File(FileFault::Memory)
+    }
+}
+
 /// Why a text is not TOML, and in which line, counted from 1.
 #[derive(Clone, Debug, PartialEq, Eq)]
 pub struct TomlFault {
@@ -71,12 +99,22 @@ impl TomlFault {
             error,
         }
     }
+
+    /// Returns the line, counted from 1.
+    pub fn line(&self) -> usize {
+        self.line
+    }
+
+    /// Returns what is wrong with it.
+    pub fn message(&self) -> &str {
+        &self.error.message
+    }
 }
 
 /// Writes the line and the message, without a line feed.
 impl fmt::Display for TomlFault {
     fn fmt(&self, f: &mut fmt::Formatter<'_>) -> fmt::Result {
-        let (line, message) = (self.line, &self.error.message);
+        let (line, message) = (self.line, self.message());
         write!(f, "line {line}: {message}")
     }
 }
@@ -159,15 +197,28 @@ impl core::fmt::Display for BuildFault {
 
 impl core::error::Error for BuildFault {}
 
+impl core::fmt::Display for UnicodeFileFault {
+    fn fmt(&self, f: &mut core::fmt::Formatter<'_>) -> core::fmt::Result {
+        match self {
+            UnicodeFileFault::File(field) => write!(f, "{field}"),
+            UnicodeFileFault::Build(field) => write!(f, "{field}"),
+        }
+    }
+}
+
+impl core::error::Error for UnicodeFileFault {}
+
 impl core::fmt::Display for ReadFault {
     fn fmt(&self, f: &mut core::fmt::Formatter<'_>) -> core::fmt::Result {
         match self {
-            ReadFault::Binary(field) => write!(f, "{field}"),
-            ReadFault::Text => f.write_str("neither a trie in the binary form nor a text in UTF-8"),
-            ReadFault::Json(field) => write!(f, "{field}"),
-            ReadFault::TrieJson(field) => write!(f, "{field}"),
+            ReadFault::Binary(field) => write!(f, "not a trie in ICU's binary form: {field}"),
+            ReadFault::Text => {
+                f.write_str("neither a trie in ICU's binary form nor a text in UTF-8")
+            }
+            ReadFault::Json(field) => write!(f, "not JSON: {field}"),
+            ReadFault::TrieJson(field) => write!(f, "the JSON is not a trie: {field}"),
             ReadFault::Toml(field) => write!(f, "not TOML: {field}"),
-            ReadFault::TrieToml(field) => write!(f, "{field}"),
+            ReadFault::TrieToml(field) => write!(f, "the TOML is not a trie: {field}"),
             ReadFault::Memory => f.write_str("no memory"),
         }
     }

@@ -5,30 +5,42 @@
 //! - `width`: how many bits a value has in a file; `values`: the same numbers as values of another
 //!   type
 //! - `read`: the table that a file has in ICU's binary form, in JSON or in TOML
+//! - `properties`: the table of one of the properties in a TOML file
+//! - `unicode_file`: the table of a file of the Unicode Character Database
 //! - `written`: a table in one of the forms, as the bytes of a file
 //! - `shown`: what a table is, in lines, and its ranges; `sizes`: the bounds on its cells
-//! - `diff`: the ranges in which two tables differ
+//! - `diff`: the ranges in which two tables differ; `compare`: the first difference of
+//!   two files
+//! - `rebuild`: the same values in a trie of another type, with another width or error value
+//! - `asked`: the numbers that words and texts ask for
 //! - `source`: names in C and in Rust; `c_source` and `rust_source` write these; `pattern`: texts
 //!   with places for a name and for numbers; `cells`: the cells of a trie as numbers in a text
 //! - `toml_text`: a table in TOML
+//! - `value_names`: names of values in C and in Rust
 //! - `fault`: why a table can't be made, written or read
 
 #[allow(unused_imports)]
 use crate::host::{HostRuntime, Text};
 #[allow(unused_imports)]
 use crate::support::prelude::*;
+pub mod asked;
 mod c_source;
 mod cells;
+pub mod compare;
 pub mod diff;
 pub mod fault;
 mod pattern;
+pub mod properties;
 pub mod read;
+pub mod rebuild;
 mod rust_source;
 pub mod shown;
 pub mod sizes;
 pub mod source;
 pub mod table;
 mod toml_text;
+pub mod unicode_file;
+pub mod value_names;
 mod values;
 pub mod width;
 pub mod written;

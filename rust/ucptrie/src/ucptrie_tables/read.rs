@@ -69,7 +69,7 @@ fn table_of_json(text: &str) -> Result<Table, ReadFault> {
 }
 
 /// Returns the value at a key.
-fn value_at<'a>(table: &'a toml::value::Table, key: &str) -> Option<&'a toml::Value> {
+pub(crate) fn value_at<'a>(table: &'a toml::value::Table, key: &str) -> Option<&'a toml::Value> {
     table.get(key)
 }
 
@@ -83,7 +83,7 @@ fn first_property(property: &toml::Value) -> Option<&toml::Value> {
 
 /// Returns the trie of a property's table. For normalization, icuexportdata writes a trie in its
 /// place.
-fn trie_of_table(property: &toml::value::Table) -> Option<&toml::value::Table> {
+pub(crate) fn trie_of_table(property: &toml::value::Table) -> Option<&toml::value::Table> {
     match value_at(property, "code_point_trie") {
         Some(trie) => trie.as_table(),
         None => value_at(property, "index").map(|_index| property),
@@ -116,25 +116,49 @@ fn width_of(read: &CodePointTrieToml) -> ValueWidth {
     }
 }
 
-/// Reads a table in TOML.
-fn table_of_toml(text: &str) -> Result<Table, ReadFault> {
-    let file = match crate::formats::table_from_str(text) {
-        Ok(file) => file,
-        Err(error) => return Err(ReadFault::Toml(TomlFault::new(error))),
-    };
-    let read = CodePointTrieToml::from_table(trie_table(&file))?;
+/// Reads a TOML file.
+pub(crate) fn file_of_toml(text: &str) -> Result<toml::value::Table, ReadFault> {
+    match crate::formats::table_from_str(text) {
+        Ok(file) => Ok(file),
+        Err(error) => Err(ReadFault::Toml(TomlFault::new(error))),
+    }
+}
+
+/// Returns the table of a trie in TOML.
+pub(crate) fn table_of_members(table: &toml::value::Table) -> Result<Table, ReadFault> {
+    let read = CodePointTrieToml::from_table(table)?;
     let trie = CodePointTrie::try_from(&read)?;
     let width = width_of(&read);
     Ok(Table { trie, width })
 }
 
+/// Reads a table in TOML.
+fn table_of_toml(text: &str) -> Result<Table, ReadFault> {
+    let file = file_of_toml(text)?;
+    table_of_members(trie_table(&file))
+}
+
+/// Returns whether a text is taken for JSON: whether its first byte after white space is `{`.
+fn is_object(text: &str) -> bool {
+    text.trim_start().starts_with('{')
+}
+
 /// Reads a table in JSON or in TOML.
 fn table_of_text(text: &str) -> Result<Table, ReadFault> {
-    if text.trim_start().starts_with('{') {
+    if is_object(text) {
         table_of_json(text)
     } else {
         table_of_toml(text)
     }
+}
+
+/// Returns the text of a file that is taken for TOML, or `None` for any other file.
+pub(crate) fn toml_text(file: &[u8]) -> Option<&str> {
+    if let [b'3', b'i', b'r', b'T', ..] | [b'T', b'r', b'i', b'3', ..] = file {
+        return None;
+    }
+    let text = str::from_utf8(file).ok()?;
+    if !is_object(text) { Some(text) } else { None }
 }
 
 /// Reads the table that a file has.

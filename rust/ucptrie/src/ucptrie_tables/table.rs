@@ -7,6 +7,7 @@ use crate::ucptrie_tables::fault::BuildFault;
 use crate::ucptrie_tables::width::ValueWidth;
 use bekstaudi::codepointtrie::CodePointTrie;
 use bekstaudi::codepointtrie::TrieType;
+use bekstaudi::codepointtrie::Write;
 use bekstaudi::codepointtrie::try_build_from_writes;
 
 /// A trie over numbers, and how many bits a value has in a file.
@@ -30,9 +31,26 @@ pub struct TableOptions {
 }
 
 /// Returns the first value in the trie's data that has more bits.
-fn first_wider(trie: &CodePointTrie<'_, u32>, width: ValueWidth) -> Option<u32> {
+pub(crate) fn first_wider(trie: &CodePointTrie<'_, u32>, width: ValueWidth) -> Option<u32> {
     let (_, _, values) = trie.parts();
     values.iter().find(|value| !width.fits(*value))
+}
+
+/// Builds the table of writes, which apply in order.
+///
+/// # Errors
+/// Returns [`BuildFault::Table`] for a map that is too large for a trie, and if an allocation
+/// fails. Returns [`BuildFault::Width`] for the first value in the trie's data that has more bits
+/// than the asked width.
+pub fn table_of_writes(writes: &[Write<u32>], options: TableOptions) -> Result<Table, BuildFault> {
+    let trie = try_build_from_writes(options.default, options.error, options.trie_type, writes)?;
+    match first_wider(&trie, options.width) {
+        Some(value) => Err(BuildFault::Width(value, options.width)),
+        None => Ok(Table {
+            trie,
+            width: options.width,
+        }),
+    }
 }
 
 /// Builds the table of the rows that the bytes have, in `ucptab`'s form.
@@ -43,12 +61,5 @@ fn first_wider(trie: &CodePointTrie<'_, u32>, width: ValueWidth) -> Option<u32> 
 /// trie's data that has more bits than the asked width.
 pub fn table_of_rows(rows: &[u8], options: TableOptions) -> Result<Table, BuildFault> {
     let writes = read_rows(rows)?;
-    let trie = try_build_from_writes(options.default, options.error, options.trie_type, &writes)?;
-    match first_wider(&trie, options.width) {
-        Some(value) => Err(BuildFault::Width(value, options.width)),
-        None => Ok(Table {
-            trie,
-            width: options.width,
-        }),
-    }
+    table_of_writes(&writes, options)
 }

@@ -1,0 +1,72 @@
+//! Names and numbers of values from `PropertyValueAliases.txt`.
+
+#[allow(unused_imports)]
+use crate::host::{HostRuntime, Text};
+use crate::support::AllocError;
+#[allow(unused_imports)]
+use crate::support::prelude::*;
+use crate::ucd_files::fields::field;
+use crate::ucd_files::names::{Name, is_same_name, push_name, short_decimal};
+use crate::ucptab_table::input::first_line;
+use crate::ucptab_table::rows::{after, content_of};
+
+/// Returns whether a line has names of one value of the property. A line with `|` in its comment
+/// names a group of values.
+fn is_value_line(property: &[u8], line: &[u8]) -> bool {
+    is_same_name(field(0, content_of(line)), property) && !after(b'#', line).contains(&b'|')
+}
+
+/// Returns the number of the `k`-th value of a property, counted from 0: `k`, or the number in
+/// field 1 if it is one.
+fn value_number(k: usize, content: &[u8]) -> usize {
+    match short_decimal(field(1, content)) {
+        Some(number) => number as usize,
+        None => k,
+    }
+}
+
+/// Appends a name if it is not empty.
+fn push_named<'a>(
+    names: &mut Vec<Name<'a>>,
+    number: usize,
+    text: &'a [u8],
+) -> Result<(), AllocError> {
+    if !text.is_empty() {
+        push_name(names, number, text)?;
+    }
+    Ok(())
+}
+
+/// Appends the names in fields 1 to 4.
+fn push_names<'a>(
+    names: &mut Vec<Name<'a>>,
+    number: usize,
+    content: &'a [u8],
+) -> Result<(), AllocError> {
+    push_named(names, number, field(1, content))?;
+    push_named(names, number, field(2, content))?;
+    push_named(names, number, field(3, content))?;
+    push_named(names, number, field(4, content))
+}
+
+/// Returns the names and numbers of the values of a property, by the lines
+/// `PROPERTY ; NAME ; ..` of `PropertyValueAliases.txt`. All names of a line have the same number:
+/// how many values of the property come before it in the file, or the number in field 1 if it is
+/// one, as for Canonical_Combining_Class. Lines for groups of values, as `L` of `gc`, are left out.
+///
+/// # Errors
+/// Returns [`AllocError`] if an allocation fails.
+pub fn alias_names<'a>(input: &'a [u8], property: &[u8]) -> Result<Vec<Name<'a>>, AllocError> {
+    let mut names = Vec::new();
+    let mut k = 0usize;
+    let mut rest = input;
+    while let Some((line, after)) = first_line(rest) {
+        rest = after;
+        if is_value_line(property, line) {
+            let content = content_of(line);
+            push_names(&mut names, value_number(k, content), content)?;
+            k += 1;
+        }
+    }
+    Ok(names)
+}

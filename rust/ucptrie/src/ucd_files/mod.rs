@@ -1,0 +1,21 @@
+//! What the files of the Unicode Character Database say: which value each code point has.
+//!
+//! - `fields`: the fields of a line, and `@missing` lines
+//! - `kind`: which kind of file some lines are
+//! - `names`: names of values, their numbers, and how a value is written
+//! - `statement`: what one line says
+//! - `read`: what all lines say, as the writes of a map
+//! - `aliases`: names and numbers from `PropertyValueAliases.txt` or a list
+//! - `order`: names in order of first appearance
+//! - `fault`: what is wrong with a line or a file
+
+#[allow(unused_imports)]
+use crate::host::{HostRuntime, Text};
+pub mod aliases;
+pub mod fault;
+pub mod fields;
+pub mod kind;
+pub mod names;
+pub mod order;
+pub mod read;
+pub mod statement;

@@ -1,0 +1,102 @@
+//! Names of values, and the numbers that stand for them.
+
+#[allow(unused_imports)]
+use crate::host::{HostRuntime, Text};
+use crate::support::AllocError;
+#[allow(unused_imports)]
+use crate::support::prelude::*;
+use crate::ucptab_table::digits::{decimal_number, hexadecimal};
+
+/// A name of a value, and the number of the value.
+#[derive(Clone, Copy, Debug)]
+pub struct Name<'a> {
+    pub text: &'a [u8],
+    pub number: usize,
+}
+
+/// Appends a name with its number.
+///
+/// # Errors
+/// Returns [`AllocError`] if an allocation fails.
+pub fn push_name<'a>(
+    names: &mut Vec<Name<'a>>,
+    number: usize,
+    text: &'a [u8],
+) -> Result<(), AllocError> {
+    names.try_push(Name { text, number })?;
+    Ok(())
+}
+
+/// How the text of a value becomes a number.
+#[derive(Clone, Copy, Debug)]
+pub enum Numbering<'a> {
+    /// Each value is a decimal number of at most 32 bits.
+    Decimal,
+    /// Each value is a number of 1 to 8 hexadecimal digits, as a code point is written.
+    Hexadecimal,
+    /// Each value is 1, whatever its text is: the code points of the lines are a set.
+    One,
+    /// A value has the number of the first name that is the same as its text.
+    Names(&'a [Name<'a>]),
+}
+
+/// Returns whether a byte counts if names are compared: it is no space, `_` or `-`.
+fn is_significant(byte: u8) -> bool {
+    !(byte == b' ' || byte == b'_' || byte == b'-')
+}
+
+/// Returns the first byte of a name that counts, in lower case, and what follows it. Returns
+/// `None` if no byte counts.
+fn first_significant(text: &[u8]) -> Option<(u8, &[u8])> {
+    let mut rest = text;
+    while let [byte, after @ ..] = rest {
+        if is_significant(*byte) {
+            return Some((byte.to_ascii_lowercase(), after));
+        }
+        rest = after;
+    }
+    None
+}
+
+/// Returns whether two names are the same apart from case, spaces, `_` and `-`. The Unicode
+/// Character Database compares names so (UAX44-LM3), and also without a leading `is`, which counts
+/// here.
+pub fn is_same_name(left: &[u8], right: &[u8]) -> bool {
+    let mut left_rest = left;
+    let mut right_rest = right;
+    while let Some((byte, left_after)) = first_significant(left_rest) {
+        match first_significant(right_rest) {
+            Some((other, right_after)) if other == byte => {
+                left_rest = left_after;
+                right_rest = right_after;
+            }
+            _ => return false,
+        }
+    }
+    first_significant(right_rest).is_none()
+}
+
+/// Returns the number of the first of the names that is the same as the text.
+pub fn number_named(names: &[Name<'_>], text: &[u8]) -> Option<usize> {
+    let found = names.iter().find(|name| is_same_name(name.text, text))?;
+    Some(found.number)
+}
+
+/// Returns the number of at most 32 bits that decimal digits write.
+pub(crate) fn short_decimal(text: &[u8]) -> Option<u32> {
+    let number = decimal_number(text)?;
+    u32::try_from(number).ok()
+}
+
+/// Returns the number of a value, or `None` if its text is no number or no name.
+pub fn number_of(numbering: Numbering<'_>, text: &[u8]) -> Option<u32> {
+    match numbering {
+        Numbering::Decimal => short_decimal(text),
+        Numbering::Hexadecimal => hexadecimal(text),
+        Numbering::One => Some(1),
+        Numbering::Names(names) => {
+            let number = number_named(names, text)?;
+            u32::try_from(number).ok()
+        }
+    }
+}

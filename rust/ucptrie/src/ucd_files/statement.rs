@@ -1,0 +1,200 @@
+//! What one line says.
+
+#[allow(unused_imports)]
+use crate::host::{HostRuntime, Text};
+use crate::ucd_files::fault::LineFault;
+use crate::ucd_files::fields::{ends_in_first, ends_in_last, field, missing_of};
+use crate::ucd_files::names::{Numbering, is_same_name, number_of};
+use crate::ucptab_table::rows::{CodePoints, code_points_of, content_of};
+use bekstaudi::codepointtrie::Write;
+use bekstaudi::zerovec::CODE_POINT_LIMIT;
+
+/// Where a line has its value. Field 0 has the code points.
+#[derive(Clone, Copy, Debug)]
+pub enum Columns<'a> {
+    /// In this field, counted from 0.
+    Field(usize),
+    /// Field 1 has a property, and only lines of this property count. The value is in field 2, or
+    /// is the property itself if field 2 is empty.
+    Property(&'a [u8]),
+    /// In this field of `UnicodeData.txt`. Two lines can give one range: the name of the first one
+    /// ends in `, First>`, and that of the second one in `, Last>`. An empty field says nothing.
+    UnicodeData(usize),
+}
+
+/// What a line says: the value of code points.
+#[derive(Clone, Debug)]
+pub enum Statement {
+    /// The value of those of the code points that have no line of their own: `# @missing: ..`.
+    Missing(Write<u32>),
+    /// The value of the code points.
+    Explicit(Write<u32>),
+}
+
+/// Returns field 2, or field 1 if field 2 is empty.
+fn later_field(content: &[u8]) -> &[u8] {
+    let later = field(2, content);
+    if later.is_empty() {
+        field(1, content)
+    } else {
+        later
+    }
+}
+
+/// Returns a text if it is not empty.
+fn some_text(text: &[u8]) -> Option<&[u8]> {
+    if text.is_empty() { None } else { Some(text) }
+}
+
+/// Returns the text of the value in a line. Returns `None` if the line is about another property,
+/// and in `UnicodeData.txt` if the field is empty, so that the code points have the default.
+pub(crate) fn value_text<'t>(columns: Columns<'_>, content: &'t [u8]) -> Option<&'t [u8]> {
+    match columns {
+        Columns::Field(n) => Some(field(n, content)),
+        Columns::UnicodeData(n) => some_text(field(n, content)),
+        Columns::Property(name) => {
+            if is_same_name(field(1, content), name) {
+                Some(later_field(content))
+            } else {
+                None
+            }
+        }
+    }
+}
+
+/// Returns the text of the value in an `@missing` line, or `None` if the line is about another
+/// property.
+pub(crate) fn missing_text<'t>(columns: Columns<'_>, content: &'t [u8]) -> Option<&'t [u8]> {
+    match columns {
+        Columns::Property(name) => value_text(columns, content),
+        Columns::Field(n) | Columns::UnicodeData(n) => Some(later_field(content)),
+    }
+}
+
+/// Returns the code points if they are code points and in order.
+fn checked_points(points: Option<CodePoints>) -> Result<CodePoints, LineFault> {
+    let Some(points) = points else {
+        return Err(LineFault::NotCodePoints);
+    };
+    let (start, end) = match points {
+        CodePoints::Single(code_point) => (code_point, code_point),
+        CodePoints::Span(start, end) => (start, end),
+    };
+    if start >= CODE_POINT_LIMIT || end >= CODE_POINT_LIMIT {
+        return Err(LineFault::CodePoint);
+    }
+    if start > end {
+        return Err(LineFault::Reversed);
+    }
+    Ok(points)
+}
+
+/// Returns whether a line of `UnicodeData.txt` gives the last code point of a range exactly if the
+/// line before it gives the first one. Lines of other files need no partner.
+pub(crate) fn is_paired(columns: Columns<'_>, previous: &[u8], content: &[u8]) -> bool {
+    match columns {
+        Columns::UnicodeData(n) => ends_in_first(previous) == ends_in_last(content),
+        Columns::Field(_) | Columns::Property(_) => true,
+    }
+}
+
+/// Returns one range from two lines, which have one code point each.
+fn joined(start: Option<CodePoints>, end: Option<CodePoints>) -> Option<CodePoints> {
+    match (start, end) {
+        (Some(CodePoints::Single(start)), Some(CodePoints::Single(end))) => {
+            Some(CodePoints::Span(start, end))
+        }
+        _ => None,
+    }
+}
+
+/// Returns the code points of a line after the line `previous`.
+fn points_of(
+    columns: Columns<'_>,
+    previous: &[u8],
+    content: &[u8],
+) -> Result<CodePoints, LineFault> {
+    let own = code_points_of(field(0, content));
+    match columns {
+        Columns::UnicodeData(_) if ends_in_last(content) => {
+            checked_points(joined(code_points_of(field(0, previous)), own))
+        }
+        _ => checked_points(own),
+    }
+}
+
+/// Returns the write of a number at code points.
+fn write_at(points: CodePoints, number: u32) -> Write<u32> {
+    match points {
+        CodePoints::Single(code_point) => Write::One(code_point, number),
+        CodePoints::Span(start, end) => Write::Range(start..=end, number),
+    }
+}
+
+/// Returns the write of a value at code points.
+fn write_of(
+    numbering: Numbering<'_>,
+    points: CodePoints,
+    text: &[u8],
+) -> Result<Write<u32>, LineFault> {
+    if text.is_empty() {
+        return Err(LineFault::NoValue);
+    }
+    match number_of(numbering, text) {
+        Some(number) => Ok(write_at(points, number)),
+        None => Err(LineFault::UnknownValue),
+    }
+}
+
+/// Returns what a line says that is neither an `@missing` line nor without content.
+fn explicit_statement(
+    columns: Columns<'_>,
+    numbering: Numbering<'_>,
+    previous: &[u8],
+    content: &[u8],
+) -> Result<Option<Statement>, LineFault> {
+    let points = points_of(columns, previous, content)?;
+    let Some(text) = value_text(columns, content) else {
+        return Ok(None);
+    };
+    let write = write_of(numbering, points, text)?;
+    Ok(Some(Statement::Explicit(write)))
+}
+
+/// Returns what an `@missing` line says.
+fn missing_statement(
+    columns: Columns<'_>,
+    numbering: Numbering<'_>,
+    content: &[u8],
+) -> Result<Option<Statement>, LineFault> {
+    let points = checked_points(code_points_of(field(0, content)))?;
+    let Some(text) = missing_text(columns, content) else {
+        return Ok(None);
+    };
+    let write = write_of(numbering, points, text)?;
+    Ok(Some(Statement::Missing(write)))
+}
+
+/// Returns what a line says after the line `previous`, or `None` if it is blank, a comment or about
+/// another property.
+///
+/// # Errors
+/// Returns what is wrong with the line, by the first of the tests in [`LineFault`].
+pub fn statement_of(
+    columns: Columns<'_>,
+    numbering: Numbering<'_>,
+    previous: &[u8],
+    line: &[u8],
+) -> Result<Option<Statement>, LineFault> {
+    let content = content_of(line);
+    if !is_paired(columns, previous, content) {
+        return Err(LineFault::Unpaired);
+    }
+    if let Some(missing) = missing_of(line) {
+        return missing_statement(columns, numbering, missing);
+    }
+    if content.is_empty() {
+        return Ok(None);
+    }
+    explicit_statement(columns, numbering, previous, content)
+}

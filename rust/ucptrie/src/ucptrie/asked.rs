@@ -1,0 +1,56 @@
+//! The numbers that the arguments of `get` ask for.
+#[allow(unused_imports)]
+use crate::host::{HostRuntime, Text};
+#[allow(unused_imports)]
+use crate::support::prelude::*;
+use crate::ucptab_table::input::line_at;
+use crate::ucptab_table::message::line_message;
+use crate::ucptrie::fault::{Fault, about, about_arguments, said};
+use crate::ucptrie::streams::{bytes_at, input_name};
+use crate::ucptrie_tables::asked::{AskedFault, push_asked, push_asked_lines};
+use clap::ArgMatches;
+
+/// What a word or a line has to be.
+const FORM: &str = "HEX, or HEX..HEX up to 10FFFF";
+
+/// Returns the fault of a line that asks for no number.
+fn unasked(name: &str, text: &[u8], number: u64) -> Fault {
+    let line = line_at(text, number).unwrap_or(&[]);
+    said(line_message(name, number, FORM, line))
+}
+
+/// Appends the numbers that the lines of a file ask for.
+fn push_file(rt: &HostRuntime, asked: &mut Vec<u32>, path: &str) -> Result<(), Fault> {
+    let text = bytes_at(rt, path)?;
+    match push_asked_lines(asked, &text) {
+        Ok(()) => Ok(()),
+        Err(AskedFault::Memory) => Err(Fault::Memory),
+        Err(AskedFault::Line(number)) => Err(unasked(input_name(path), &text, number)),
+    }
+}
+
+/// Appends the numbers that a word asks for.
+fn push_word(rt: &HostRuntime, asked: &mut Vec<u32>, word: &str) -> Result<(), Fault> {
+    if push_asked(asked, word.as_bytes())? {
+        return Ok(());
+    }
+    let why = "expected HEX, or HEX..HEX up to 10FFFF";
+    Err(about(word, why))
+}
+
+/// Returns the numbers that the arguments ask for: those of the words, then those of the file.
+pub fn asked(rt: &HostRuntime, matches: &ArgMatches) -> Result<Vec<u32>, Fault> {
+    let mut asked = Vec::new();
+    for word in matches.get_many::<String>("asked").into_iter().flatten() {
+        push_word(rt, &mut asked, word)?;
+    }
+    match matches.get_one::<String>("from").map(String::as_str) {
+        Some(path) => push_file(rt, &mut asked, path)?,
+        None if asked.is_empty() => {
+            let why = "expected HEX, HEX..HEX or --from FILE";
+            return Err(about_arguments("arguments", why));
+        }
+        None => {}
+    }
+    Ok(asked)
+}

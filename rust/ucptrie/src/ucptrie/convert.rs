@@ -1,0 +1,53 @@
+//! The command `convert`: a table in another form, or of another type, width or error value.
+#[allow(unused_imports)]
+use crate::host::{HostRuntime, Text};
+#[allow(unused_imports)]
+use crate::support::prelude::*;
+use crate::ucptrie::build::unbuilt;
+use crate::ucptrie::fault::{Fault, about};
+use crate::ucptrie::streams::input_name;
+use crate::ucptrie::tables::{form, table_of, trie_type, width};
+use crate::ucptrie_tables::fault::BuildFault;
+use crate::ucptrie_tables::rebuild::rebuilt;
+use crate::ucptrie_tables::table::Table;
+use crate::ucptrie_tables::written::{Form, written};
+use clap::ArgMatches;
+
+/// Returns the table as the arguments want it: as it is, or built again of its values.
+fn changed(rt: &HostRuntime, matches: &ArgMatches, table: Table) -> Result<Table, BuildFault> {
+    let (kind, bits) = (trie_type(matches), width(matches));
+    let error: Option<u32> = matches.get_one::<u32>("error").copied();
+    if kind.is_none() && bits.is_none() && error.is_none() {
+        return Ok(table);
+    }
+    let (header, _, _) = table.trie.parts();
+    let kind = kind.unwrap_or(header.trie_type);
+    let bits = bits.unwrap_or(table.width);
+    let error = error.unwrap_or(table.trie.error_value());
+    rebuilt(&table, kind, bits, error)
+}
+
+/// Returns the table of a file in the form that the arguments name.
+///
+/// Rows are ranges. The ranges of a table that is not coherent may differ from its values, so its
+/// rows would make another table and are not written.
+pub fn convert(rt: &HostRuntime, matches: &ArgMatches) -> Result<Vec<u8>, Fault> {
+    let form = form(matches)?;
+    let path = matches
+        .get_one::<String>("file")
+        .map(String::as_str)
+        .unwrap_or("-");
+    let name = input_name(path);
+    let table = match changed(rt, matches, table_of(rt, matches, path)?) {
+        Ok(table) => table,
+        Err(fault) => return Err(unbuilt(name, &[], fault)),
+    };
+    if matches!(form, Form::Rows) && !table.trie.is_coherent() {
+        let why = "not coherent, so its ranges may differ from its look-ups: no rows are written";
+        return Err(about(name, why));
+    }
+    match written(&table, form) {
+        Ok(bytes) => Ok(bytes),
+        Err(fault) => Err(unbuilt(name, &[], fault)),
+    }
+}

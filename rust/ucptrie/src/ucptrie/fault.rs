@@ -1,0 +1,92 @@
+//! Why the program fails: the line that it prints, and the status that it ends with.
+#[allow(unused_imports)]
+use crate::host::{HostRuntime, Text};
+#[allow(unused_imports)]
+use crate::support::prelude::*;
+use crate::support::{AllocError, AllocFailed};
+use core::fmt;
+
+/// Why the program fails.
+pub enum Fault {
+    /// The arguments are at fault, as this line says.
+    Arguments(String),
+    /// Something else is, as this line says.
+    Said(String),
+    /// An allocation failed.
+    Memory,
+    /// The reader of standard output has closed the pipe.
+    ClosedPipe,
+}
+
+impl From<AllocError> for Fault {
+    fn from(_error: AllocError) -> Fault {
+        Fault::Memory
+    }
+}
+
+impl<T> From<AllocFailed<T>> for Fault {
+    fn from(_error: AllocFailed<T>) -> Fault {
+        Fault::Memory
+    }
+}
+
+impl Fault {
+    /// Returns the line that is printed, or `None` if none is.
+    pub fn line(&self) -> Option<&str> {
+        match self {
+            Fault::Arguments(line) | Fault::Said(line) => Some(line.as_str()),
+            Fault::Memory => Some("no memory"),
+            Fault::ClosedPipe => None,
+        }
+    }
+
+    /// Returns the status of `diff` if `is_diff`, for which 1 means a difference, and otherwise
+    /// that of the other commands.
+    pub fn status(&self, is_diff: bool) -> u8 {
+        match self {
+            Fault::Arguments(_) => 2,
+            Fault::Said(_) | Fault::Memory if is_diff => 2,
+            Fault::Said(_) | Fault::Memory | Fault::ClosedPipe => 1,
+        }
+    }
+}
+
+/// Returns the line about an input, an output or a word: `NAME: WHY`.
+fn line_about<W: fmt::Display>(name: &str, why: W) -> Result<String, AllocError> {
+    let mut line = String::new();
+    write!(line, "{name}: {why}")?;
+    Ok(line)
+}
+
+/// Returns the fault with this line, or that of the allocation that failed.
+pub fn said(line: Result<String, AllocError>) -> Fault {
+    match line {
+        Ok(line) => Fault::Said(line),
+        Err(error) => Fault::from(error),
+    }
+}
+
+/// Returns the line that says why, and names nothing.
+fn plain_line<W: fmt::Display>(why: W) -> Result<String, AllocError> {
+    let mut line = String::new();
+    write!(line, "{why}")?;
+    Ok(line)
+}
+
+/// Returns the fault of no single input, output or word.
+pub fn plain<W: fmt::Display>(why: W) -> Fault {
+    said(plain_line(why))
+}
+
+/// Returns the fault of an input, an output or a word.
+pub fn about<W: fmt::Display>(name: &str, why: W) -> Fault {
+    said(line_about(name, why))
+}
+
+/// Returns the fault of the arguments of a command.
+pub fn about_arguments<W: fmt::Display>(command: &str, why: W) -> Fault {
+    match line_about(command, why) {
+        Ok(line) => Fault::Arguments(line),
+        Err(error) => Fault::from(error),
+    }
+}

@@ -1,0 +1,134 @@
+//! Where the bytes of a table go: to standard output, into a file, or nowhere if a file is compared
+//! with them.
+use crate::host::fs::File;
+use crate::host::io::Write;
+#[allow(unused_imports)]
+use crate::host::{HostRuntime, Text};
+use crate::host::{fs, io};
+use crate::support::AllocError;
+#[allow(unused_imports)]
+use crate::support::prelude::*;
+use crate::ucptrie::fault::{Fault, about, about_arguments, said};
+use crate::ucptrie::streams::put;
+use crate::ucptrie_tables::compare::{Difference, first_difference};
+use clap::ArgMatches;
+
+/// Where the bytes go.
+#[derive(Clone, Copy)]
+pub enum Target<'a> {
+    /// To standard output.
+    Output,
+    /// Into the file of this name.
+    File(&'a str),
+    /// Nowhere: the file of this name is compared with them.
+    Check(&'a str),
+}
+
+/// Returns where the arguments send the bytes.
+pub fn target_of(matches: &ArgMatches) -> Result<Target<'_>, Fault> {
+    match (
+        matches.get_one::<String>("output").map(String::as_str),
+        matches.get_one::<String>("check").map(String::as_str),
+    ) {
+        (None | Some("-"), None) => Ok(Target::Output),
+        (Some(path), None) => Ok(Target::File(path)),
+        (None, Some(path)) => Ok(Target::Check(path)),
+        (Some(_), Some(_)) => {
+            let why = "either --output or --check, not both";
+            Err(about_arguments("arguments", why))
+        }
+    }
+}
+
+/// How many names of temporary files are tried.
+const NAMES: u32 = 1000;
+
+/// Returns a name beside the file's.
+fn beside(path: &str, number: u32) -> Result<String, AllocError> {
+    let mut name = String::new();
+    write!(name, "{path}.{number}.tmp")?;
+    Ok(name)
+}
+
+/// Makes a file beside the one of this name, and returns its name.
+fn made_beside(rt: &HostRuntime, path: &str) -> io::Result<(String, File)> {
+    for number in 0..NAMES {
+        let name = beside(path, number)?;
+        match File::create_new(rt, name.as_str()) {
+            Ok(file) => return Ok((name, file)),
+            Err(error) if matches!(error.kind(), io::ErrorKind::AlreadyExists) => {}
+            Err(error) => return Err(error),
+        }
+    }
+    Err(io::Error::from(io::ErrorKind::AlreadyExists))
+}
+
+/// Writes the file of this name, under another name until all is written. The new file has the
+/// permissions of the old one.
+fn replace(rt: &HostRuntime, path: &str, bytes: &[u8]) -> io::Result<()> {
+    let (name, mut file) = made_beside(rt, path)?;
+    let written = match fs::metadata(rt, path) {
+        Ok(old) => file.set_permissions(old.permissions()),
+        Err(_) => Ok(()),
+    };
+    let written = written.and_then(|()| file.write_all(bytes));
+    let written = written.and_then(|()| fs::rename(rt, name.as_str(), path));
+    if written.is_err() {
+        let _ = fs::remove_file(rt, name.as_str());
+    }
+    written
+}
+
+/// Writes the file of this name, or of the name that a symbolic link leads to. A device or a pipe
+/// is written in place.
+fn write_file(rt: &HostRuntime, path: &str, bytes: &[u8]) -> io::Result<()> {
+    match fs::metadata(rt, path) {
+        Ok(old) if old.is_file() => replace(rt, fs::canonicalize(rt, path)?.as_str(), bytes),
+        Ok(_) => fs::write(rt, path, bytes),
+        Err(_) => replace(rt, path, bytes),
+    }
+}
+
+/// Returns the line about a file with other bytes. Binary bytes have no lines.
+fn other_line(path: &str, place: Difference, is_binary: bool) -> Result<String, AllocError> {
+    let mut line = String::new();
+    write!(
+        line,
+        "{path}: is not what this command writes: the first difference is "
+    )?;
+    if is_binary {
+        write!(line, "at offset {}", place.offset)?;
+    } else {
+        write!(line, "in line {}", place.line)?;
+    }
+    Ok(line)
+}
+
+/// Compares the file of this name with the bytes.
+fn check(rt: &HostRuntime, path: &str, bytes: &[u8], is_binary: bool) -> Result<(), Fault> {
+    let found = match fs::read(rt, path) {
+        Ok(found) => found,
+        Err(error) => return Err(about(path, error)),
+    };
+    match first_difference(&found, bytes) {
+        None => Ok(()),
+        Some(place) => Err(said(other_line(path, place, is_binary))),
+    }
+}
+
+/// Sends the bytes to their target.
+pub fn deliver(
+    rt: &HostRuntime,
+    target: Target<'_>,
+    bytes: &[u8],
+    is_binary: bool,
+) -> Result<(), Fault> {
+    match target {
+        Target::Output => put(rt, bytes),
+        Target::Check(path) => check(rt, path, bytes, is_binary),
+        Target::File(path) => match write_file(rt, path, bytes) {
+            Ok(()) => Ok(()),
+            Err(error) => Err(about(path, error)),
+        },
+    }
+}

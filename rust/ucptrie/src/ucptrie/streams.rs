@@ -1,0 +1,61 @@
+//! Files and streams, and the names by which faults call them.
+use crate::host::io::{Read, Write};
+#[allow(unused_imports)]
+use crate::host::{HostRuntime, Text};
+use crate::host::{fs, io};
+#[allow(unused_imports)]
+use crate::support::prelude::*;
+use crate::ucptrie::fault::{Fault, about};
+
+/// The name of standard input in messages.
+pub const INPUT: &str = "standard input";
+
+/// The name of standard output in messages.
+const OUTPUT: &str = "standard output";
+
+/// Returns the name of an input in messages. `-` is standard input.
+pub fn input_name(path: &str) -> &str {
+    if path == "-" { INPUT } else { path }
+}
+
+/// Reads all of standard input.
+pub fn input(rt: &HostRuntime) -> Result<Vec<u8>, Fault> {
+    let mut bytes = Vec::new();
+    match rt.stdin().read_to_end(&mut bytes) {
+        Ok(_) => Ok(bytes),
+        Err(error) => Err(about(INPUT, error)),
+    }
+}
+
+/// Reads a file, or standard input if its name is `-`.
+pub fn bytes_at(rt: &HostRuntime, path: &str) -> Result<Vec<u8>, Fault> {
+    if path == "-" {
+        return input(rt);
+    }
+    match fs::read(rt, path) {
+        Ok(bytes) => Ok(bytes),
+        Err(error) => Err(about(path, error)),
+    }
+}
+
+/// Returns the fault of a write to standard output. It says nothing if the reader has closed the
+/// pipe, as `head` does.
+fn unwritten(error: io::Error) -> Fault {
+    if matches!(error.kind(), io::ErrorKind::BrokenPipe) {
+        return Fault::ClosedPipe;
+    }
+    about(OUTPUT, error)
+}
+
+/// Writes to standard output.
+pub fn put(rt: &HostRuntime, bytes: &[u8]) -> Result<(), Fault> {
+    match rt.stdout().write_all(bytes) {
+        Ok(()) => Ok(()),
+        Err(error) => Err(unwritten(error)),
+    }
+}
+
+/// Prints a line on standard error.
+pub fn say(rt: &HostRuntime, line: &str) {
+    let _ = writeln!(io::stderr(), "ucptrie: {line}");
+}

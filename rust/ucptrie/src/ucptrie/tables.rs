@@ -1,0 +1,132 @@
+//! The tables of files, and how a table is to be written.
+#[allow(unused_imports)]
+use crate::host::{HostRuntime, Text};
+use crate::support::AllocError;
+#[allow(unused_imports)]
+use crate::support::prelude::*;
+use crate::ucptrie::fault::{Fault, about, said};
+use crate::ucptrie::names::{module_name, name_of};
+use crate::ucptrie::streams::{bytes_at, input_name};
+use crate::ucptrie_tables::fault::{ReadFault, TomlFault};
+use crate::ucptrie_tables::properties::{PropertyFault, read_property};
+use crate::ucptrie_tables::table::Table;
+use crate::ucptrie_tables::width::ValueWidth;
+use crate::ucptrie_tables::written::Form;
+use bekstaudi::codepointtrie::TrieType;
+use clap::ArgMatches;
+
+/// Returns the trie type that the arguments name.
+pub fn trie_type(matches: &ArgMatches) -> Option<TrieType> {
+    match matches.get_one::<String>("type").map(String::as_str) {
+        Some("fast") => Some(TrieType::Fast),
+        Some("small") => Some(TrieType::Small),
+        _ => None,
+    }
+}
+
+/// Returns the width that the arguments name.
+pub fn width(matches: &ArgMatches) -> Option<ValueWidth> {
+    match matches.get_one::<String>("width").map(String::as_str) {
+        Some("8") => Some(ValueWidth::Bits8),
+        Some("16") => Some(ValueWidth::Bits16),
+        Some("32") => Some(ValueWidth::Bits32),
+        _ => None,
+    }
+}
+
+/// Returns the form that the arguments name.
+pub fn form(matches: &ArgMatches) -> Result<Form<'_>, Fault> {
+    let name = name_of(
+        matches
+            .get_one::<String>("name")
+            .map(String::as_str)
+            .unwrap_or("table"),
+    )?;
+    Ok(match matches.get_one::<String>("as").map(String::as_str) {
+        Some("icu") => Form::Icu,
+        Some("toml") => Form::Toml,
+        Some("json") => Form::Json,
+        Some("c") => Form::C(name),
+        Some("rust") => Form::Rust(module_name(name)?),
+        _ => Form::Rows,
+    })
+}
+
+/// Returns the line about a text in no known form.
+fn toml_line(name: &str, fault: &TomlFault) -> Result<String, AllocError> {
+    let (number, why) = (fault.line(), fault.message());
+    let mut line = String::new();
+    write!(
+        line,
+        "{name}:{number}: not TOML, JSON or ICU's binary form: {why}"
+    )?;
+    Ok(line)
+}
+
+/// Returns the fault of a file that has no table.
+fn unread(path: &str, fault: ReadFault) -> Fault {
+    let name = input_name(path);
+    match fault {
+        ReadFault::Memory => Fault::Memory,
+        ReadFault::Toml(fault) => said(toml_line(name, &fault)),
+        _ => about(name, fault),
+    }
+}
+
+/// Returns the line about a property with no trie in a file.
+fn missing_line(name: &str, property: &str, found: &str) -> Result<String, AllocError> {
+    let mut line = String::new();
+    write!(
+        line,
+        "{name}: expected the property {property} with a trie, found "
+    )?;
+    line.try_push_str(if found.is_empty() { "none" } else { found })?;
+    Ok(line)
+}
+
+/// Returns the line about properties of which one has to be chosen.
+fn several_line(name: &str, found: &str) -> Result<String, AllocError> {
+    let mut line = String::new();
+    write!(
+        line,
+        "{name}: several properties have a trie, choose one by --property: {found}"
+    )?;
+    Ok(line)
+}
+
+/// Returns the fault of a file that has no table of the property.
+fn unchosen(path: &str, property: &str, fault: PropertyFault) -> Fault {
+    let name = input_name(path);
+    match fault {
+        PropertyFault::Read(fault) => unread(path, fault),
+        PropertyFault::NotToml => about(name, "not TOML, so it has no properties"),
+        PropertyFault::Missing(found) => said(missing_line(name, property, &found)),
+        PropertyFault::Several(found) => said(several_line(name, &found)),
+    }
+}
+
+/// Reads the table of a file, or of standard input if the file's name is `-`. In TOML it is that of
+/// the property that the arguments name.
+pub fn table_of(rt: &HostRuntime, matches: &ArgMatches, path: &str) -> Result<Table, Fault> {
+    let bytes = bytes_at(rt, path)?;
+    if bytes.is_empty() {
+        return Err(about(input_name(path), "the file is empty"));
+    }
+    let property = matches.get_one::<String>("property").map(String::as_str);
+    match read_property(&bytes, property) {
+        Ok(table) => Ok(table),
+        Err(fault) => Err(unchosen(path, property.unwrap_or(""), fault)),
+    }
+}
+
+/// Reads the table of the file that the argument `id` names.
+pub fn table_at(rt: &HostRuntime, matches: &ArgMatches, id: &str) -> Result<Table, Fault> {
+    table_of(
+        rt,
+        matches,
+        matches
+            .get_one::<String>(id)
+            .map(String::as_str)
+            .unwrap_or("-"),
+    )
+}

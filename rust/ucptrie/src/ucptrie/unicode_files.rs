@@ -1,0 +1,187 @@
+//! Tables of files of the Unicode Character Database.
+#[allow(unused_imports)]
+use crate::host::{HostRuntime, Text};
+#[allow(unused_imports)]
+use crate::support::prelude::*;
+use crate::ucd_files::aliases::alias_names;
+use crate::ucd_files::fault::FileFault;
+use crate::ucd_files::kind::{FileKind, has_missing_lines, has_property};
+use crate::ucd_files::names::{Name, Numbering, is_same_name};
+use crate::ucd_files::order::names_in_order;
+use crate::ucd_files::statement::Columns;
+use crate::ucptab_table::input::line_at;
+use crate::ucptab_table::message::line_message;
+use crate::ucptrie::build::{options, unbuilt};
+use crate::ucptrie::fault::{Fault, about, said};
+use crate::ucptrie::streams::{bytes_at, input_name};
+use crate::ucptrie::tables::form;
+use crate::ucptrie_tables::fault::UnicodeFileFault;
+use crate::ucptrie_tables::unicode_file::table_of_file;
+use crate::ucptrie_tables::value_names::names_source;
+use crate::ucptrie_tables::written::{Form, written};
+use clap::ArgMatches;
+
+/// The properties of `UnicodeData.txt` with one value for each code point: the short and the long
+/// name, and the field.
+const UNICODE_DATA: [(&str, &str, usize); 8] = [
+    ("na", "Name", 1),
+    ("gc", "General_Category", 2),
+    ("ccc", "Canonical_Combining_Class", 3),
+    ("bc", "Bidi_Class", 4),
+    ("Bidi_M", "Bidi_Mirrored", 9),
+    ("suc", "Simple_Uppercase_Mapping", 12),
+    ("slc", "Simple_Lowercase_Mapping", 13),
+    ("stc", "Simple_Titlecase_Mapping", 14),
+];
+
+/// Returns the field of a property in `UnicodeData.txt`.
+fn unicode_data_field(property: &str) -> Result<usize, Fault> {
+    for (short, long, field) in UNICODE_DATA {
+        if is_same_name(short.as_bytes(), property.as_bytes())
+            || is_same_name(long.as_bytes(), property.as_bytes())
+        {
+            return Ok(field);
+        }
+    }
+    let why = "UnicodeData.txt has no such property; --field names a field by its number";
+    Err(about(property, why))
+}
+
+/// Returns where the lines of a file have their values.
+fn columns<'a>(matches: &'a ArgMatches, kind: FileKind, file: &[u8]) -> Result<Columns<'a>, Fault> {
+    let is_unicode_data = matches!(kind, FileKind::UnicodeData);
+    let field: Option<u32> = matches.get_one::<u32>("field").copied();
+    match (
+        field,
+        matches.get_one::<String>("property").map(String::as_str),
+    ) {
+        (Some(n), _) if is_unicode_data => Ok(Columns::UnicodeData(n as usize)),
+        (Some(n), _) => Ok(Columns::Field(n as usize)),
+        (None, Some(property)) if is_unicode_data => {
+            Ok(Columns::UnicodeData(unicode_data_field(property)?))
+        }
+        (None, Some(property)) if has_property(file, property.as_bytes()) => {
+            Ok(Columns::Property(property.as_bytes()))
+        }
+        (None, None) if is_unicode_data => {
+            let why = "the file has many properties: name one by --property or --field";
+            Err(about("UnicodeData.txt", why))
+        }
+        _ => Ok(Columns::Field(1)),
+    }
+}
+
+/// Returns the names of the values in a file, in order of first appearance. The first number is 0
+/// if the file says which value code points without a line have. Otherwise it is 1, and 0 is for
+/// these.
+fn names_in<'f>(file: &'f [u8], columns: Columns<'_>) -> Result<Vec<Name<'f>>, Fault> {
+    let mut names = Vec::new();
+    if !has_missing_lines(file, columns) {
+        names.try_push(Name {
+            text: b"",
+            number: 0,
+        })?;
+    }
+    Ok(names_in_order(file, columns, names)?)
+}
+
+/// Returns whether the only value of a property is the property itself, as in `PropList.txt`.
+fn is_binary(columns: Columns<'_>, names: &[Name<'_>]) -> bool {
+    match (columns, names) {
+        (Columns::Property(property), [value] | [_, value]) => is_same_name(value.text, property),
+        _ => false,
+    }
+}
+
+/// Returns the names of the property's values in a file of aliases.
+fn aliases<'f>(matches: &ArgMatches, file: &'f [u8]) -> Result<Vec<Name<'f>>, Fault> {
+    let Some(property) = matches.get_one::<String>("property").map(String::as_str) else {
+        let why = "--aliases needs --property, the property whose values are named";
+        return Err(about("arguments", why));
+    };
+    let names = alias_names(file, property.as_bytes())?;
+    if names.is_empty() {
+        let why = "the file of aliases has no value of this property";
+        return Err(about(property, why));
+    }
+    Ok(names)
+}
+
+/// Returns how the values of a file become numbers.
+fn numbering<'n>(
+    matches: &ArgMatches,
+    columns: Columns<'_>,
+    names: &'n [Name<'n>],
+) -> Numbering<'n> {
+    match matches.get_one::<String>("values").map(String::as_str) {
+        Some("decimal") => Numbering::Decimal,
+        Some("hexadecimal") => Numbering::Hexadecimal,
+        Some("set") => Numbering::One,
+        None if is_binary(columns, names) => Numbering::One,
+        _ => Numbering::Names(names),
+    }
+}
+
+/// Returns the fault of a file that makes no table. `path` is what it was read from.
+fn unread(path: &str, file: &[u8], fault: UnicodeFileFault) -> Fault {
+    let name = input_name(path);
+    match fault {
+        UnicodeFileFault::File(FileFault::Memory) => Fault::Memory,
+        UnicodeFileFault::File(FileFault::Unfinished) => {
+            about(name, "the file ends after `<.., First>`")
+        }
+        UnicodeFileFault::File(FileFault::Line(number, fault)) => {
+            let line = line_at(file, number).unwrap_or(&[]);
+            said(line_message(name, number, fault.expected(), line))
+        }
+        UnicodeFileFault::Build(fault) => unbuilt(name, file, fault),
+    }
+}
+
+/// Returns the table of a file, whose values have these names, in a form.
+fn built_of_file(
+    matches: &ArgMatches,
+    file: &[u8],
+    columns: Columns<'_>,
+    names: &[Name<'_>],
+    form: Form<'_>,
+) -> Result<Vec<u8>, UnicodeFileFault> {
+    let numbering = numbering(matches, columns, names);
+    let table = table_of_file(file, columns, numbering, options(matches))?;
+    let mut bytes = written(&table, form)?;
+    if matches!(numbering, Numbering::Names(_)) {
+        let source = names_source(form, table.width.bits(), names)?;
+        bytes.try_extend_from_slice(source.as_bytes())?;
+    }
+    Ok(bytes)
+}
+
+/// Builds a table of a file of the Unicode Character Database, in the form that the arguments name.
+/// `path` is what it was read from.
+pub fn build_file(
+    rt: &HostRuntime,
+    matches: &ArgMatches,
+    path: &str,
+    file: &[u8],
+    kind: FileKind,
+) -> Result<Vec<u8>, Fault> {
+    let form = form(matches)?;
+    let columns = columns(matches, kind, file)?;
+    let named = match matches.get_one::<String>("aliases").map(String::as_str) {
+        Some(path) => bytes_at(rt, path)?,
+        None => Vec::new(),
+    };
+    let names = if matches
+        .get_one::<String>("aliases")
+        .map(String::as_str)
+        .is_some()
+    {
+        aliases(matches, &named)?
+    } else {
+        names_in(file, columns)?
+    };
+    match built_of_file(matches, file, columns, &names, form) {
+        Ok(bytes) => Ok(bytes),
+        Err(fault) => Err(unread(path, file, fault)),
+    }
+}

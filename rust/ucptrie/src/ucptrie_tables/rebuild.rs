@@ -1,0 +1,47 @@
+//! The same values in a trie of another type, with another width or another error value.
+
+#[allow(unused_imports)]
+use crate::host::{HostRuntime, Text};
+use crate::ucptrie_tables::fault::BuildFault;
+use crate::ucptrie_tables::table::{Table, first_wider};
+use crate::ucptrie_tables::width::ValueWidth;
+use bekstaudi::codepointtrie::CodePointTrieBuilder;
+use bekstaudi::codepointtrie::TrieType;
+use bekstaudi::zerovec::{CODE_POINT_LIMIT, MemoryError};
+
+/// Sets the value of each code point to that of another map.
+fn copy_values(
+    from: &CodePointTrieBuilder<u32>,
+    to: &mut CodePointTrieBuilder<u32>,
+) -> Result<(), MemoryError> {
+    let mut next = 0;
+    while let Some(run) = from.get_range(next) {
+        next = *run.range.end() + 1;
+        to.try_set_range_value(run.range, run.value)?;
+    }
+    Ok(())
+}
+
+/// Builds a table with the value of each code point in another table, which need not be coherent.
+/// Its type, its width and its error value are the given ones.
+///
+/// # Errors
+/// Returns [`BuildFault::Width`] for the first value in the new trie's data that has more bits than
+/// the width. Returns [`BuildFault::Table`] if the values are too many for a trie, and if an
+/// allocation fails.
+pub fn rebuilt(
+    table: &Table,
+    trie_type: TrieType,
+    width: ValueWidth,
+    error: u32,
+) -> Result<Table, BuildFault> {
+    let values = CodePointTrieBuilder::try_from_trie(&table.trie)?;
+    let default = table.trie.get32(CODE_POINT_LIMIT - 1);
+    let mut builder = CodePointTrieBuilder::new(default, error, trie_type);
+    copy_values(&values, &mut builder)?;
+    let trie = builder.try_build()?;
+    match first_wider(&trie, width) {
+        Some(value) => Err(BuildFault::Width(value, width)),
+        None => Ok(Table { trie, width }),
+    }
+}
