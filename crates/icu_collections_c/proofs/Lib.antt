@@ -24,3 +24,4 @@ mod UnitTextLemmas
 mod UnitPrefixLemmas
 mod TextStepLemmas
 mod UnitPageLemmas
+mod WideLemmas

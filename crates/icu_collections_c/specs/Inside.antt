@@ -12,3 +12,4 @@ pub mod SetPlaces
 pub mod ShortCharacters
 pub mod TextCells
 pub mod TextSteps
+pub mod WideCharacters

@@ -6,11 +6,13 @@ ghost use Rattle.icu_invlist.specs.InversionList.{IsValid, holds};
 ghost use Rattle.icu_collections_c.specs.Frozen.{is_held};
 ghost use Rattle.icu_collections_c.specs.Inside.Kinds.{IsRangeOfKind};
 ghost use Rattle.icu_collections_c.specs.Inside.ShortCharacters.{AreShortWords};
+ghost use Rattle.icu_collections_c.specs.Inside.WideCharacters.{wide_place};
 
 use crate::frozen::{PLACE_WORDS, contains, place_of, word};
 use crate::plain_characters::past_plain;
 use crate::short_characters::has_short;
 use crate::spans::long_span;
+use crate::wide_characters::{Passed, past_threes};
 use icu_zerovec::CODE_POINT_LIMIT;
 use std::marker::Model;
 
@@ -22,6 +24,7 @@ pub(crate) trait Kind {
     ghost use Rattle.std.specs.Prelude.{◌≡◌, ◌<◌, ◌≤◌, ℕ, ℤ, Bool, true, Some, length, slice_index, take};
     ghost use mathlib.Core.Bool.{beq};
     ghost use Rattle.icu_collections_c.specs.Spans.{AllHeld, AnswersSpan};
+    ghost use Rattle.icu_collections_c.specs.Inside.WideCharacters.{IsPassed};
 
     /// There is such a set.
     ghost is_sound: { Self → Type 0 };
@@ -62,6 +65,13 @@ pub(crate) trait Kind {
         ensures found { (r : ℤ) → result ≡ Some r → is_sound self.old
             → AllHeld (is_in self.old) (held self.old) (take passed bytes.now)
             → AnswersSpan (is_in self.old) (held self.old) bytes.now r };
+
+    /// Passes some characters of three bytes, if that is faster than one by one.
+    fn past_wide(&mut self, bytes: &[u8], start: usize) -> Passed
+        requires { start ≤ length bytes.now }
+        ensures same { self.new ≡ self.old }
+        ensures passed { IsPassed (is_sound self.old) (is_in self.old) (held self.old) bytes.now
+            start result };
 }
 
 /// A kind by the words of a frozen set.
@@ -135,6 +145,14 @@ impl<'a> Kind for FrozenKind<'a> {
         }
         Some(long_span(self.table, self.held, bytes, passed))
     }
+
+    #[inline(always)]
+    fn past_wide(&mut self, _bytes: &[u8], start: usize) -> Passed {
+        Passed {
+            end: start,
+            is_end: false,
+        }
+    }
 }
 
 /// A kind by tables that are made of a frozen set.
@@ -144,19 +162,22 @@ pub(crate) struct LongKind<'a> {
     held: bool,
     /// The words of characters of one and two bytes.
     words: &'a [u64; 36],
+    /// The offsets of blocks of characters of three bytes.
+    places: &'a [u16; 256],
     /// 0 only for ASCII characters of this kind, and bytes that are not ASCII.
     others: &'a [u8; 256],
 }
 
 impl<'a> Model for LongKind<'a> {
     ghost use Rattle.icu_collections_c.specs.Inside.Kinds.{NumbersAndHeld};
-    ghost use Rattle.icu_collections_c.specs.Inside.ShortCharacters.{AreLongTables};
+    ghost use Rattle.icu_collections_c.specs.Inside.WideCharacters.{AreWideTables};
 
     ghost Value = { NumbersAndHeld };
 
     ghost view = { λ a. record { numbers = a.table.now; held = a.held } };
 
-    ghost invariant = { λ a. AreLongTables a.table.now a.held a.words.now a.others.now };
+    ghost invariant = { λ a. AreWideTables a.table.now a.held a.words.now a.others.now
+        a.places.now };
 }
 
 impl<'a> LongKind<'a> {
@@ -166,9 +187,11 @@ impl<'a> LongKind<'a> {
         table: &'a [u64],
         held: bool,
         words: &'a [u64; 36],
+        places: &'a [u16; 256],
         others: &'a [u8; 256],
     ) -> LongKind<'a>
         requires short { AreShortWords table.now held words.now }
+        requires wide { (b : ℕ) → b < 256 → slice_index places.now b ≡ wide_place table.now b }
         requires plain { (c : ℕ) → c < 128 → slice_index others.now c ≡ 0
             → (bit_at (slice_index words.now (c / 64)) (c % 64) == 1) ≡ true }
         ensures { result ≡ record { numbers = table.now; held = held } }
@@ -177,6 +200,7 @@ impl<'a> LongKind<'a> {
             table,
             held,
             words,
+            places,
             others,
         }
     }
@@ -210,6 +234,11 @@ impl<'a> Kind for LongKind<'a> {
     #[inline(always)]
     fn rest(&mut self, _bytes: &[u8], _passed: usize) -> Option<i64> {
         None
+    }
+
+    #[inline(always)]
+    fn past_wide(&mut self, bytes: &[u8], start: usize) -> Passed {
+        past_threes(self.table, self.held, self.words, self.places, bytes, start)
     }
 }
 
@@ -324,5 +353,13 @@ impl<'a> Kind for EndsKind<'a> {
     #[inline(always)]
     fn rest(&mut self, _bytes: &[u8], _passed: usize) -> Option<i64> {
         None
+    }
+
+    #[inline(always)]
+    fn past_wide(&mut self, _bytes: &[u8], start: usize) -> Passed {
+        Passed {
+            end: start,
+            is_end: false,
+        }
     }
 }

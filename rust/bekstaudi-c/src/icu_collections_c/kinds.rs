@@ -4,6 +4,7 @@ use crate::icu_collections_c::frozen::{PLACE_WORDS, contains, place_of, word};
 use crate::icu_collections_c::plain_characters::past_plain;
 use crate::icu_collections_c::short_characters::has_short;
 use crate::icu_collections_c::spans::long_span;
+use crate::icu_collections_c::wide_characters::{Passed, past_threes};
 use crate::icu_zerovec::CODE_POINT_LIMIT;
 
 /// After so many bytes a span goes on by tables. Making them takes about as long as passing these.
@@ -24,6 +25,9 @@ pub(crate) trait Kind {
     /// Returns the result of the span, if it is found faster in another way from here on. The first
     /// `passed` bytes are characters of this kind.
     fn rest(&mut self, bytes: &[u8], passed: usize) -> Option<i64>;
+
+    /// Passes some characters of three bytes, if that is faster than one by one.
+    fn past_wide(&mut self, bytes: &[u8], start: usize) -> Passed;
 }
 
 /// A kind by the words of a frozen set.
@@ -76,6 +80,14 @@ impl<'a> Kind for FrozenKind<'a> {
         }
         Some(long_span(self.table, self.held, bytes, passed))
     }
+
+    #[inline(always)]
+    fn past_wide(&mut self, _bytes: &[u8], start: usize) -> Passed {
+        Passed {
+            end: start,
+            is_end: false,
+        }
+    }
 }
 
 /// A kind by tables that are made of a frozen set.
@@ -84,6 +96,8 @@ pub(crate) struct LongKind<'a> {
     held: bool,
     /// The words of characters of one and two bytes.
     words: &'a [u64; 36],
+    /// The offsets of blocks of characters of three bytes.
+    places: &'a [u16; 256],
     /// 0 only for ASCII characters of this kind, and bytes that are not ASCII.
     others: &'a [u8; 256],
 }
@@ -95,12 +109,14 @@ impl<'a> LongKind<'a> {
         table: &'a [u64],
         held: bool,
         words: &'a [u64; 36],
+        places: &'a [u16; 256],
         others: &'a [u8; 256],
     ) -> LongKind<'a> {
         LongKind {
             table,
             held,
             words,
+            places,
             others,
         }
     }
@@ -128,6 +144,11 @@ impl<'a> Kind for LongKind<'a> {
     #[inline(always)]
     fn rest(&mut self, _bytes: &[u8], _passed: usize) -> Option<i64> {
         None
+    }
+
+    #[inline(always)]
+    fn past_wide(&mut self, bytes: &[u8], start: usize) -> Passed {
+        past_threes(self.table, self.held, self.words, self.places, bytes, start)
     }
 }
 
@@ -214,5 +235,13 @@ impl<'a> Kind for EndsKind<'a> {
     #[inline(always)]
     fn rest(&mut self, _bytes: &[u8], _passed: usize) -> Option<i64> {
         None
+    }
+
+    #[inline(always)]
+    fn past_wide(&mut self, _bytes: &[u8], start: usize) -> Passed {
+        Passed {
+            end: start,
+            is_end: false,
+        }
     }
 }

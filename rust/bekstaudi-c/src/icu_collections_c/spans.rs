@@ -5,6 +5,7 @@ use crate::icu_collections_c::kinds::{EndsKind, FrozenKind, Kind, LONG, LongKind
 use crate::icu_collections_c::plain_characters::others_of;
 use crate::icu_collections_c::short_characters::{past_short, short_words};
 use crate::icu_collections_c::status::Refusal;
+use crate::icu_collections_c::wide_characters::wide_places;
 use crate::icu_trie_text::characters::{first_character, last_character};
 use crate::icu_trie_text::first_utf16::first_code_point;
 
@@ -57,6 +58,14 @@ fn span_from<K: Kind>(kind: &mut K, bytes: &[u8], start: usize) -> i64 {
             return passed as i64;
         }
         passed += size;
+        if size != 3 {
+            continue;
+        }
+        let wide = kind.past_wide(bytes, passed);
+        if wide.is_end {
+            return wide.end as i64;
+        }
+        passed = wide.end;
     }
     passed as i64
 }
@@ -74,9 +83,10 @@ fn span<K: Kind>(kind: &mut K, bytes: &[u8]) -> i64 {
 pub(crate) fn long_span(table: &[u64], held: bool, bytes: &[u8], start: usize) -> i64 {
     let words = short_words(table, held);
     let others = others_of(&words);
+    let places = wide_places(table);
     let passed = past_short(&words, bytes, start);
     span_from(
-        &mut LongKind::new(table, held, &words, &others),
+        &mut LongKind::new(table, held, &words, &places, &others),
         bytes,
         passed,
     )

@@ -1,9 +1,9 @@
 -- The loop passes ASCII, eight bytes at a time as far as `past_plain` does, and other characters one by one.
-use Rattle.std.proofs.Common.{◌≡◌, ◌∙◌, ◌+◌, ◌^◌, ◌<◌, ◌≤◌, ◌++◌, ap, arith, drop, encode_utf8, length, rules, sym, ℕ, List}
-use Rattle.std.proofs.lemmas.List.{drop-drop, take_rest}
-use Rattle.std.proofs.lemmas.Str.{length-encode}
+use Rattle.std.proofs.Common.{◌≡◌, ◌∙◌, ◌+◌, ◌^◌, ◌<◌, ◌≤◌, arith, drop, length, rules, sym, ℕ, List}
+use Rattle.std.proofs.lemmas.List.{take_rest}
 use mathlib.Core.Bool.{beq}
-use Rattle.icu_collections_c.proofs.SpanLemmas.{after_ascii, answers_end, answers_fault, answers_other, as_returned, ascii_to_end, ascii_to_other, is_alike, is_other, one_more, past_part}
+use Rattle.icu_collections_c.proofs.SpanLemmas.{after_ascii, answers_end, answers_fault, answers_other, as_returned, ascii_to_end, ascii_to_other, is_other, past_part}
+use Rattle.icu_collections_c.proofs.WideLemmas.{answers_passed, next_held}
 use Rattle.icu_collections_c.proofs.spans.span_from.Goals as goal
 
 pub returns-then-passed-bytes : goal.returns-then-passed-bytes
@@ -86,8 +86,15 @@ returns-then-not-has g c = λ sound all.
     as_returned is_in held bytes n small (answers_other is_in held bytes n within alike char (drop size (drop n bytes))
     part.0 part.2 (is_other _ _ (sym is ∙ c.if-not-has.true)))
 
-pub loop-passed-preserved : goal.loop-passed-preserved
-loop-passed-preserved g c =
+pub past_wide-wide-requires : goal.past_wide-wide-requires
+past_wide-wide-requires g c =
+    let bytes : List ℕ = c.args.bytes.now in
+    let n : ℕ = c.loop-passed.passed in
+    let part = rw (take_rest bytes n) at c.in-Some-first_character.ensures in
+    past_part bytes n c.in-Some-first_character.size c.in-Some-first_character.c c.loop-passed.invariant.within part.1 part.2
+
+pub loop-passed-preserved-then-size-ne3 : goal.loop-passed-preserved-then-size-ne3
+loop-passed-preserved-then-size-ne3 g c =
     let bytes : List ℕ = c.args.bytes.now in
     let n : ℕ = c.loop-passed.passed in
     let within : n ≤ length bytes = c.loop-passed.invariant.within in
@@ -101,12 +108,55 @@ loop-passed-preserved g c =
       alike = λ sound all.
           let is_in = g.K.Kind.is_in c.args.kind.now in
           let held = g.K.Kind.held c.args.kind.now in
-          let alike = c.loop-passed.invariant.alike sound all in
           let is : c.has.result ≡ beq (is_in char) held =
           (rw (c.rest.ensures.same ∙ c.loop-passed.invariant.same, c.from.ensures) at c.has.ensures.is) sound in
-          one_more is_in held bytes n within alike char size part.0 (part.1 ∙ sym (length-encode char))
-          (part.2 ∙ ap (λ (bs : List ℕ). encode_utf8 char ++ bs) (drop-drop size n bytes)) there
-          (is_alike _ _ (sym is ∙ c.if-not-has.false));
+          next_held is_in held bytes n within (c.loop-passed.invariant.alike sound all) char size part there
+          (sym is ∙ c.if-not-has.false);
+    }
+
+pub returns-then-wide : goal.returns-then-wide
+returns-then-wide g c = λ sound all.
+    let is_in = g.K.Kind.is_in c.args.kind.now in
+    let held = g.K.Kind.held c.args.kind.now in
+    let bytes : List ℕ = c.args.bytes.now in
+    let n : ℕ = c.loop-passed.passed in
+    let within : n ≤ length bytes = c.loop-passed.invariant.within in
+    let char : ℕ = c.in-Some-first_character.c in
+    let size : ℕ = c.in-Some-first_character.size in
+    let part = rw (take_rest bytes n) at c.in-Some-first_character.ensures in
+    let there : n + size ≤ length bytes = past_part bytes n size char within part.1 part.2 in
+    let is : c.has.result ≡ beq (is_in char) held =
+    (rw (c.rest.ensures.same ∙ c.loop-passed.invariant.same, c.from.ensures) at c.has.ensures.is) sound in
+    let alike = next_held is_in held bytes n within (c.loop-passed.invariant.alike sound all) char size part there
+    (sym is ∙ c.if-not-has.false) in
+    let kind = c.has.ensures.same ∙ (c.rest.ensures.same ∙ c.loop-passed.invariant.same) in
+    let p = rw kind at c.past_wide-wide.ensures.passed in
+    let few : length bytes < 2 ^ 63 = search rules in
+    let small : c.past_wide-wide.result.end < 2 ^ 63 = omega (arith, p.within, few) in
+    answers_passed (g.K.Kind.is_sound c.args.kind.now) is_in held bytes (n + size) c.past_wide-wide.result p sound c.if-wide.true
+    small alike
+
+pub loop-passed-preserved : goal.loop-passed-preserved
+loop-passed-preserved g c =
+    let bytes : List ℕ = c.args.bytes.now in
+    let n : ℕ = c.loop-passed.passed in
+    let within : n ≤ length bytes = c.loop-passed.invariant.within in
+    let char : ℕ = c.in-Some-first_character.c in
+    let size : ℕ = c.in-Some-first_character.size in
+    let part = rw (take_rest bytes n) at c.in-Some-first_character.ensures in
+    let there : n + size ≤ length bytes = past_part bytes n size char within part.1 part.2 in
+    let kind = c.has.ensures.same ∙ (c.rest.ensures.same ∙ c.loop-passed.invariant.same) in
+    let p = rw kind at c.past_wide-wide.ensures.passed in
+    record {
+      same = c.past_wide-wide.ensures.same ∙ kind;
+      within = p.within;
+      alike = λ sound all.
+          let is_in = g.K.Kind.is_in c.args.kind.now in
+          let held = g.K.Kind.held c.args.kind.now in
+          let is : c.has.result ≡ beq (is_in char) held =
+          (rw (c.rest.ensures.same ∙ c.loop-passed.invariant.same, c.from.ensures) at c.has.ensures.is) sound in
+          p.alike sound (next_held is_in held bytes n within (c.loop-passed.invariant.alike sound all) char size part there
+          (sym is ∙ c.if-not-has.false));
     }
 
 pub returns : goal.returns
