@@ -9,17 +9,24 @@ use std::io::{self, ErrorKind, Read, Write};
 use std::marker::Brand;
 use std::process::ExitCode;
 use std::sync::ledger::{Blank, Ledger};
-use ucptab_table::fault::TableError;
+use ucptab_table::fault::{RowFault, TableError};
+use ucptab_table::message::line_message;
 use ucptab_table::streams::{Failed, Sink, Source};
 use ucptab_table::text::write_fault;
 use ucptab_table::{run_words, write_usage};
 
-/// A reader with a count of its failures, and the last one.
+/// The name of standard input in messages.
+const INPUT: &str = "standard input";
+
+/// A reader with a count of its failures, the last one, and the first line that is not a row.
 #[derive(Drop)]
 struct Input<R: Read, L: Ledger> {
     reader: R,
     failures: Steps<L>,
     error: Option<io::Error>,
+    /// The line's number, counted from 1, and its fault.
+    fault: Option<(u64, RowFault)>,
+    line: Vec<u8>,
 }
 
 impl<R: Read, L: Ledger> Source for Input<R, L> {
@@ -35,6 +42,12 @@ impl<R: Read, L: Ledger> Source for Input<R, L> {
                 self.error = Some(error);
                 Err(Failed)
             }
+        }
+    }
+
+    fn note_fault(&mut self, number: u64, line: &[u8], fault: RowFault) {
+        if self.line.extend_from_slice(line).is_ok() {
+            self.fault = Some((number, fault));
         }
     }
 }
@@ -85,6 +98,13 @@ fn say(rt: &HostRuntime, stream: &str, failure: &Option<io::Error>) {
     }
 }
 
+/// Says on standard error which line is not a row, and what was expected of it.
+fn say_fault(rt: &HostRuntime, number: u64, fault: RowFault, line: &[u8]) {
+    if let Ok(message) = line_message(rt.alloc(), INPUT, number, fault.expected(), line) {
+        let _ = eprintln!(rt; "ucptab: {message}");
+    }
+}
+
 /// Runs the program over standard input and output, and returns its status. Each stream has a
 /// ledger for its failures.
 fn status<L: Ledger, K: Ledger>(rt: &HostRuntime, reads: Blank, writes: Blank) -> u8
@@ -99,6 +119,8 @@ fn status<L: Ledger, K: Ledger>(rt: &HostRuntime, reads: Blank, writes: Blank) -
         reader: rt.stdin(),
         failures: Steps::<L>::new(reads),
         error: None,
+        fault: None,
+        line: Vec::new(rt.alloc()),
     };
     let mut writer = Output {
         writer: rt.stdout(),
@@ -115,7 +137,10 @@ fn status<L: Ledger, K: Ledger>(rt: &HostRuntime, reads: Blank, writes: Blank) -
     };
     let words: Vec<String> = words;
     let status = run_words(rt.alloc(), &words, &mut reader, &mut writer);
-    say(rt, "standard input", &reader.error);
+    say(rt, INPUT, &reader.error);
+    if let Some((number, fault)) = reader.fault {
+        say_fault(rt, number, fault, &reader.line);
+    }
     say(rt, "standard output", &writer.error);
     status
 }

@@ -117,3 +117,28 @@ pub fn read_rows(alloc: Global, input: &[u8]) -> Result<Vec<Write<u32>>, TableEr
     }
     Ok(writes)
 }
+
+/// Returns the writes of all rows of the table, as `read_rows` does, and shows the reader the line
+/// that is not one.
+///
+/// # Errors
+/// Returns the errors of [`read_rows`].
+pub fn read_shown_rows<S: Source>(
+    alloc: Global,
+    input: &[u8],
+    reader: &mut S,
+) -> Result<Vec<Write<u32>>, TableError>
+    ensures ok { IfOk result (λ writes. AreRows input.now writes.items) }
+    ensures row { (k : ℕ) (f : RowFault) → IfErr result (λ e. e ≡ Row k f
+        → IsFirstFault input.now k f) }
+    ensures no_other { IfErr result (λ e. (e ≡ Memory) ⊎ ((k : ℕ) × ((f : RowFault)
+        × (e ≡ Row k f)))) }
+    ensures remaining { S.remaining reader.new ≡ S.remaining reader.old }
+    ensures failures { S.failures reader.new ≡ S.failures reader.old }
+{
+    let rows = read_rows(alloc, input);
+    if let Err(TableError::Row(number, fault)) = rows {
+        reader.note_fault(number, line_at(input, number).unwrap_or(&[]), fault);
+    }
+    rows
+}

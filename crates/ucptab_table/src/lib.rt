@@ -21,7 +21,7 @@ pub mod text;
 pub mod words;
 
 use crate::fault::TableError;
-use crate::input::{read_all, read_rows};
+use crate::input::{read_all, read_shown_rows};
 use crate::streams::{Failed, Sink, Source};
 use crate::text::{answers_text, ranges_text, write_fault};
 use crate::words::{Request, asked_numbers, request_of};
@@ -77,7 +77,7 @@ fn table_text<S: Source>(
     ensures no_write { IfErr result (λ e. e ≢ WriteFault) }
 {
     let input = read_all(alloc, reader)?;
-    let writes = read_rows(alloc, &input)?;
+    let writes = read_shown_rows(alloc, &input, reader)?;
     answer_text(alloc, trie_type, default, error, &writes, asked)
 }
 

@@ -3,6 +3,8 @@ ghost use Rattle.std.specs.Prelude.{◌≡◌, ℕ, ◌+◌, ◌<◌, List, Opti
 ghost use Rattle.std.specs.Io.{ReadsAtMost};
 ghost use Rattle.std.specs.Io.KnownBytes.{Appends, Consumes, IsAtEnd};
 
+use crate::fault::RowFault;
+
 /// A read or a write failed.
 #[derive(Clone, Copy, Debug, PartialEq, Eq)]
 pub struct Failed;
@@ -27,6 +29,12 @@ pub trait Source {
         ensures end { IfOk result (λ n. n ≡ 0 → 0 < length buf.new → IsAtEnd (remaining self.new)) }
         ensures read { IfOk result (λ _. failures self.new ≡ failures self.old) }
         ensures failed { IfErr result (λ _. failures self.new ≡ failures self.old + 1) };
+
+    /// Is called with the first line that is not a row, its number, counted from 1, and its fault.
+    /// What is left to read stays the same.
+    fn note_fault(&mut self, number: u64, line: &[u8], fault: RowFault)
+        ensures remaining { remaining self.new ≡ remaining self.old }
+        ensures failures { failures self.new ≡ failures self.old };
 }
 
 /// A stream to write to.

@@ -10,16 +10,23 @@ use crate::ledger::Steps;
 use crate::ledger::{Blank, Ledger};
 #[allow(unused_imports)]
 use crate::support::prelude::*;
-use crate::ucptab_table::fault::TableError;
+use crate::ucptab_table::fault::{RowFault, TableError};
+use crate::ucptab_table::message::line_message;
 use crate::ucptab_table::streams::{Failed, Sink, Source};
 use crate::ucptab_table::text::write_fault;
 use crate::ucptab_table::{run_words, write_usage};
 
-/// A reader with a count of its failures, and the last one.
+/// The name of standard input in messages.
+const INPUT: &str = "standard input";
+
+/// A reader with a count of its failures, the last one, and the first line that is not a row.
 struct Input<R: Read, L: Ledger> {
     reader: R,
     failures: Steps<L>,
     error: Option<io::Error>,
+    /// The line's number, counted from 1, and its fault.
+    fault: Option<(u64, RowFault)>,
+    line: Vec<u8>,
 }
 
 impl<R: Read, L: Ledger> Source for Input<R, L> {
@@ -31,6 +38,12 @@ impl<R: Read, L: Ledger> Source for Input<R, L> {
                 self.error = Some(error);
                 Err(Failed)
             }
+        }
+    }
+
+    fn note_fault(&mut self, number: u64, line: &[u8], fault: RowFault) {
+        if self.line.try_extend_from_slice(line).is_ok() {
+            self.fault = Some((number, fault));
         }
     }
 }
@@ -76,6 +89,13 @@ fn say(rt: &HostRuntime, stream: &str, failure: &Option<io::Error>) {
     }
 }
 
+/// Says on standard error which line is not a row, and what was expected of it.
+fn say_fault(rt: &HostRuntime, number: u64, fault: RowFault, line: &[u8]) {
+    if let Ok(message) = line_message(INPUT, number, fault.expected(), line) {
+        let _ = writeln!(io::stderr(), "ucptab: {message}");
+    }
+}
+
 /// Runs the program over standard input and output, and returns its status. Each stream has a
 /// ledger for its failures.
 fn status<L: Ledger, K: Ledger>(rt: &HostRuntime, reads: Blank, writes: Blank) -> u8 {
@@ -83,6 +103,8 @@ fn status<L: Ledger, K: Ledger>(rt: &HostRuntime, reads: Blank, writes: Blank) -
         reader: rt.stdin(),
         failures: Steps::<L>::new(reads),
         error: None,
+        fault: None,
+        line: Vec::new(),
     };
     let mut writer = Output {
         writer: rt.stdout(),
@@ -99,7 +121,10 @@ fn status<L: Ledger, K: Ledger>(rt: &HostRuntime, reads: Blank, writes: Blank) -
     };
     let words: Vec<String> = words;
     let status = run_words(&words, &mut reader, &mut writer);
-    say(rt, "standard input", &reader.error);
+    say(rt, INPUT, &reader.error);
+    if let Some((number, fault)) = reader.fault {
+        say_fault(rt, number, fault, &reader.line);
+    }
     say(rt, "standard output", &writer.error);
     status
 }
