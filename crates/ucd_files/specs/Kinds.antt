@@ -1,14 +1,16 @@
 -- Which kind of file some lines are.
-use Rattle.std.specs.Prelude.{ℕ, ◌==◌, ◌&&◌, nat_eq, Bool, List, [], ◌∷◌, length, codes, Option, Some, None, is_some, false, if◌then◌else◌}
-use Rattle.std.specs.List.{count_by, ends_with, starts_with}
-use Rattle.std.specs.Result.{is_err}
+use Rattle.std.specs.Prelude.{ℕ, ◌==◌, ◌&&◌, nat_le, Bool, List, [], ◌∷◌, length, Option, Some, None, is_none, is_some, false, true, if◌then◌else◌}
+use Rattle.std.specs.List.{count_by, list_any}
 use Rattle.std.specs.Str.Lines.{lines}
-use Rattle.ucptab_table.specs.TableText.{before, content_of, row_of}
-use Rattle.ucd_files.specs.Fields.{missing_of}
+use Rattle.ucptab_table.specs.TableText.{content_of, hexadecimal}
+use Rattle.ucd_files.specs.Fields.{after_mark, has_field, missing_of}
+use Rattle.ucd_files.specs.Names.{short_decimal}
 use Rattle.ucd_files.specs.Statements.{missing_text}
+use Rattle.ucd_files.specs.Titles.{title_of}
+use Rattle.ucd_files.specs.ValueNames.{text_of_line}
 use Rattle.ucd_files.specs.declared.kind.FileKind.{FileKind}
 use Rattle.ucd_files.specs.declared.statement.Columns.{Columns}
-use Rattle.ucd_files.specs.declared.kind.FileKind.TheVariants.{Rows, UnicodeData, Properties}
+use Rattle.ucd_files.specs.declared.kind.FileKind.TheVariants.{Rows, UnicodeData, Properties, CodePoints, Unihan}
 
 -- The content of the first line that has any.
 abbrev pub first_content : List (List ℕ) → List ℕ
@@ -16,17 +18,35 @@ first_content [] = []
 first_content (line ∷ more) =
     if length (content_of line) == 0 then first_content more else content_of line
 
--- The first line is a comment that ends in `.txt`, as `# Scripts-15.0.0.txt`.
-unfoldable pub has_title : List ℕ → Bool
-has_title input = let title = before 13 (before 10 input) in
-    starts_with nat_eq title (codes "# ") && ends_with nat_eq title (codes ".txt")
+-- The line is of a file of Unihan: it starts with `U+` and has a tab.
+unfoldable pub is_of_unihan : List ℕ → Bool
+is_of_unihan content = is_some (after_mark content) && list_any (λ b. b == 9) content
 
--- The kind of a file. UnicodeData.txt has 14 semicolons in each line. Other files of the Unicode
--- Character Database have a title, and their first line with content is no row.
+-- The kind of a file, by its first line with content. UnicodeData.txt has 14 semicolons in each
+-- line. Other files of the Unicode Character Database have a title. If their lines have one field,
+-- they are lists of code points.
 unfoldable pub kind_of : List ℕ → FileKind
 kind_of input = let content = first_content (lines input) in
     if count_by (λ b. b == 59) content == 14 then UnicodeData
-    else (if has_title input && is_err (row_of content) then Properties else Rows)
+    else (if is_of_unihan content then Unihan
+    else (if is_none (title_of input) then Rows
+    else (if has_field 1 content then Properties else CodePoints)))
+
+-- The line has no value, or one that is a decimal number of at most 32 bits.
+unfoldable pub has_decimal : Columns → List ℕ → Bool
+has_decimal columns line = is_decimal (text_of_line columns line) where
+  is_decimal : Option (List ℕ) → Bool
+  is_decimal None = true
+  is_decimal (Some text) = is_some (short_decimal text)
+
+-- The line has no value, or one that is a code point as the Unicode Character Database writes it,
+-- in 4 to 6 hexadecimal digits.
+unfoldable pub has_code_point : Columns → List ℕ → Bool
+has_code_point columns line = is_code_point (text_of_line columns line) where
+  is_code_point : Option (List ℕ) → Bool
+  is_code_point None = true
+  is_code_point (Some text) =
+      (nat_le 4 (length text) && nat_le (length text) 6) && is_some (hexadecimal text)
 
 -- The line says which value code points without a line have, for the property that is read.
 abbrev pub says_missing_text : Columns → Option (List ℕ) → Bool

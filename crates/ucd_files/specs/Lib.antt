@@ -4,3 +4,5 @@ pub mod Names
 pub mod Statements
 pub mod Files
 pub mod ValueNames
+pub mod Titles
+pub mod Messages

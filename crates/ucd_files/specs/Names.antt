@@ -1,9 +1,10 @@
 -- Names of values: when two are the same, and which number a value has.
-use Rattle.std.specs.Prelude.{ℕ, ◌==◌, ◌||◌, nat_le, nat_eq, not, Bool, List, [], ◌∷◌, map, Option, Some, None, if◌then◌else◌}
+use Rattle.std.specs.Prelude.{ℕ, ◌==◌, ◌&&◌, ◌||◌, nat_le, nat_eq, not, Bool, List, [], ◌∷◌, codes, map, Option, Some, None, if◌then◌else◌}
 use Rattle.std.specs.Char.{to_ascii_lowercase}
-use Rattle.std.specs.List.{find}
+use Rattle.std.specs.List.{find, starts_with}
 use Rattle.std.specs.Option.{option_and_then, option_map}
 use Rattle.std.specs.Cmp.Lexicographic.{pointwise}
+use mathlib.Core.Bool.{beq}
 use Rattle.ucptab_table.specs.TableText.{decimal_number, hexadecimal}
 use Rattle.ucd_files.specs.declared.names.Name.{Name}
 use Rattle.ucd_files.specs.declared.names.Numbering.{Numbering}
@@ -19,9 +20,16 @@ abbrev pub loose : List ℕ → List ℕ
 loose [] = []
 loose (b ∷ bytes) = if is_significant b then to_ascii_lowercase b ∷ loose bytes else loose bytes
 
--- The two names are the same in this comparison.
+-- The two texts are the same in this comparison.
+unfoldable pub is_alike : List ℕ → List ℕ → Bool
+is_alike left right = pointwise nat_eq (loose left) (loose right)
+
+-- The two names are the same. A text that starts with `-` is a negative number, and not the same as
+-- another text.
 unfoldable pub is_same_name : List ℕ → List ℕ → Bool
-is_same_name left right = pointwise nat_eq (loose left) (loose right)
+is_same_name left right =
+    beq (starts_with nat_eq left (codes "-")) (starts_with nat_eq right (codes "-"))
+    && is_alike left right
 
 -- Names with their numbers, as pairs.
 abbrev pub pairs_of : List Name → List (List ℕ × ℕ)

@@ -1,18 +1,20 @@
 -- What a line says, and what a file says.
-use Rattle.std.specs.Prelude.{ℕ, ◌==◌, nat_le, nat_lt, Bool, true, List, length, Option, Some, None, Result, Ok, Err, if◌then◌else◌}
+use Rattle.std.specs.Prelude.{ℕ, ◌==◌, nat_eq, nat_le, nat_lt, Bool, true, List, [], length, codes, Option, Some, None, Result, Ok, Err, if◌then◌else◌}
+use Rattle.std.specs.List.{starts_with}
+use Rattle.std.specs.Option.{option_and_then}
 use mathlib.Core.Bool.{beq}
 use Rattle.icu_zerovec.specs.CodePoints.{code_point_limit}
 use Rattle.icu_trie_builder.specs.declared.writes.Write.{Write}
 use Rattle.ucptab_table.specs.TableText.{code_points_of, content_of, first_of, last_of, write_at}
 use Rattle.ucptab_table.specs.declared.rows.CodePoints.{CodePoints}
 use Rattle.ucptab_table.specs.declared.rows.CodePoints.TheVariants.{Single, Span}
-use Rattle.ucd_files.specs.Fields.{ends_in_first, ends_in_last, field, missing_of}
+use Rattle.ucd_files.specs.Fields.{after_mark, column, ends_in_first, ends_in_last, field, has_field, missing_of}
 use Rattle.ucd_files.specs.Names.{is_same_name, number_of}
 use Rattle.ucd_files.specs.declared.fault.LineFault.{LineFault}
 use Rattle.ucd_files.specs.declared.fault.LineFault.TheVariants.{Unpaired, NotCodePoints, CodePoint, Reversed, NoValue, UnknownValue}
 use Rattle.ucd_files.specs.declared.names.Numbering.{Numbering}
 use Rattle.ucd_files.specs.declared.statement.Columns.{Columns}
-use Rattle.ucd_files.specs.declared.statement.Columns.TheVariants.{Field, Property, UnicodeData}
+use Rattle.ucd_files.specs.declared.statement.Columns.TheVariants.{Field, Property, UnicodeData, Unihan}
 use Rattle.ucd_files.specs.declared.statement.Statement.{Statement}
 use Rattle.ucd_files.specs.declared.statement.Statement.TheVariants.{Missing, Explicit}
 
@@ -26,19 +28,29 @@ later_field content = if length (field 2 content) == 0 then field 1 content else
 abbrev pub some_text : List ℕ → Option (List ℕ)
 some_text text = if length text == 0 then None else Some text
 
--- The text of the value in a line. None if the line is about another property, and in
--- UnicodeData.txt if the field is empty: the code points then have the default.
+-- The text of the value in a line. None if the line is about another property, or if the field is
+-- there and empty: the code points then have the default.
 unfoldable pub value_text : Columns → List ℕ → Option (List ℕ)
-value_text (Field n) content = Some (field n content)
+value_text (Field n) content =
+    if has_field n content then some_text (field n content) else Some []
 value_text (Property name) content =
     if is_same_name (field 1 content) name.now then Some (later_field content) else None
 value_text (UnicodeData n) content = some_text (field n content)
+value_text (Unihan name) content =
+    if is_same_name (column 1 content) name.now then Some (column 2 content) else None
+
+-- A text that is not `<none>`, `<code point>` or `<script>`. In `@missing` lines these stand for
+-- values that are not written as text: none, the code point itself, the value of Script.
+unfoldable pub untagged : List ℕ → Option (List ℕ)
+untagged text = if starts_with nat_eq text (codes "<") then None else Some text
 
 -- The same for an `@missing` line, which is `CODE POINTS; VALUE` or `CODE POINTS; PROPERTY; VALUE`.
+-- None if the value is not written as text: the code points then have the default.
 unfoldable pub missing_text : Columns → List ℕ → Option (List ℕ)
-missing_text (Field n) content = Some (later_field content)
-missing_text (Property name) content = value_text (Property name) content
-missing_text (UnicodeData n) content = Some (later_field content)
+missing_text (Field n) content = untagged (later_field content)
+missing_text (Property name) content = option_and_then untagged (value_text (Property name) content)
+missing_text (UnicodeData n) content = untagged (later_field content)
+missing_text (Unihan name) content = None
 
 -- ---- Code points
 
@@ -63,11 +75,14 @@ is_paired (UnicodeData n) previous content = beq (ends_in_first previous) (ends_
 is_paired columns previous content = true
 
 -- The code points of a line. Those of the second line of a range start at the line before it.
+-- Unihan writes a code point after `U+`.
 unfoldable pub points_of : Columns → List ℕ → List ℕ → Result CodePoints LineFault
 points_of (UnicodeData n) previous content =
     checked_points (if ends_in_last content
     then joined (code_points_of (field 0 previous)) (code_points_of (field 0 content))
     else code_points_of (field 0 content))
+points_of (Unihan name) previous content =
+    checked_points (option_and_then code_points_of (after_mark (column 0 content)))
 points_of columns previous content = checked_points (code_points_of (field 0 content))
 
 -- ---- Lines

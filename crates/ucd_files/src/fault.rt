@@ -1,5 +1,6 @@
 //! What is wrong with a line, and why a file can't be read.
-ghost use Rattle.std.specs.Prelude.{◌≡◌};
+ghost use Rattle.std.specs.Prelude.{◌≡◌, ◌++◌, Some, codes};
+ghost use Rattle.ucd_files.specs.Messages.{expected_text, fault_text};
 ghost use Rattle.ucd_files.specs.declared.fault.FileFault.TheVariants.{Memory};
 
 use std::alloc::AllocError;
@@ -26,7 +27,9 @@ pub enum LineFault {
 
 impl LineFault {
     /// Returns what the test that failed expects of a line, in words.
-    pub fn expected(self) -> &'static str {
+    pub fn expected(self) -> &'static str
+        ensures { result.now ≡ expected_text self }
+    {
         match self {
             LineFault::Unpaired => "`<.., First>` and `<.., Last>` in two lines in a row",
             LineFault::NotCodePoints => "HEX or HEX..HEX before the first `;`",
@@ -39,6 +42,8 @@ impl LineFault {
 }
 
 impl fmt::Display for LineFault {
+    ghost output = { λ fault. Some (codes "expected " ++ expected_text fault) };
+
     fn fmt<W: fmt::Write>(&self, f: &mut fmt::Formatter<W>) -> fmt::Result {
         let expected = self.expected();
         write!(f, "expected {expected}")
@@ -59,6 +64,8 @@ pub enum FileFault {
 }
 
 impl fmt::Display for FileFault {
+    ghost output = { λ fault. Some (fault_text fault) };
+
     fn fmt<W: fmt::Write>(&self, f: &mut fmt::Formatter<W>) -> fmt::Result {
         match self {
             FileFault::Line(number, fault) => write!(f, "line {number}: {fault}"),

@@ -1,21 +1,57 @@
 //! The fields of a line.
 ghost use Rattle.std.specs.Prelude.{◌≡◌};
 ghost use Rattle.std.specs.Option.{option_map};
-ghost use Rattle.ucd_files.specs.Fields.{ends_in_first, ends_in_last, field, missing_of};
+ghost use Rattle.ucd_files.specs.Fields.{after_mark, column, ends_in_first, ends_in_last, field, has_field, missing_of, part};
 
 use ucptab_table::rows::{after, before, content_of, trimmed};
 
-/// Returns field `n` of a line's content, counted from 0, without blanks around it: empty if the
-/// line has fewer fields. Fields are separated by semicolons.
-#[tactic(auto, using(crate::proofs::NameLemmas::field_more))]
-pub fn field(n: usize, content: &[u8]) -> &[u8]
-    ensures { result.now ≡ field n content.now }
+/// Returns part `n` of a line's content, counted from 0, without blanks around it: empty if the
+/// line has fewer parts.
+#[tactic(auto, using(crate::proofs::NameLemmas::part_more))]
+fn part(separator: u8, n: usize, content: &[u8]) -> &[u8]
+    ensures { result.now ≡ part separator n content.now }
 {
     let mut rest = content;
     for _ in 0..n {
-        rest = after(b';', rest);
+        rest = after(separator, rest);
     }
-    trimmed(before(b';', rest))
+    trimmed(before(separator, rest))
+}
+
+/// Returns field `n` of a line's content, counted from 0, without blanks around it: empty if the
+/// line has fewer fields. Fields are separated by semicolons.
+pub fn field(n: usize, content: &[u8]) -> &[u8]
+    ensures { result.now ≡ field n content.now }
+{
+    part(b';', n, content)
+}
+
+/// Returns whether a line's content has field `n`, counted from 0.
+#[tactic(auto, unfolding(crate::specs::Fields::has_field))]
+pub fn has_field(n: usize, content: &[u8]) -> bool
+    ensures { result ≡ has_field n content.now }
+{
+    n <= content.iter().filter(|byte| **byte == b';').count()
+}
+
+/// Returns column `n` of a line of Unihan, counted from 0, without blanks around it: empty if the
+/// line has fewer columns. Columns are separated by tabs.
+pub fn column(n: usize, content: &[u8]) -> &[u8]
+    ensures { result.now ≡ column n content.now }
+{
+    part(b'\t', n, content)
+}
+
+/// Returns what follows `U+` in a text that starts with it, or `None` for any other text.
+#[tactic(auto, unfolding(crate::specs::Fields::after_mark))]
+pub fn after_mark(text: &[u8]) -> Option<&[u8]>
+    ensures { option_map (λ digits. digits.now) result ≡ after_mark text.now }
+{
+    if text.starts_with(b"U+".as_slice()) {
+        Some(&text[2..])
+    } else {
+        None
+    }
 }
 
 /// Returns what follows `# @missing:` in a line that starts with it, without a further comment and

@@ -1,17 +1,20 @@
 //! Which kind of file some lines are.
 ghost use Rattle.std.specs.Prelude.{◌≡◌};
-ghost use Rattle.std.specs.List.{list_any};
+ghost use Rattle.std.specs.List.{list_all, list_any};
 ghost use Rattle.std.specs.Str.Lines.{lines};
 ghost use Rattle.ucptab_table.specs.TableText.{content_of};
 ghost use Rattle.ucd_files.specs.Fields.{field};
-ghost use Rattle.ucd_files.specs.Kinds.{first_content, has_title, kind_of, says_missing};
+ghost use Rattle.ucd_files.specs.Kinds.{first_content, has_code_point, has_decimal, is_of_unihan, kind_of, says_missing};
 ghost use Rattle.ucd_files.specs.Names.{is_same_name};
 
-use crate::fields::{field, missing_of};
-use crate::names::is_same_name;
+use crate::fields::{after_mark, field, has_field, missing_of};
+use crate::names::{is_same_name, short_decimal};
+use crate::order::text_of_line;
 use crate::statement::{Columns, missing_text};
+use crate::title::title_of;
+use ucptab_table::digits::hexadecimal;
 use ucptab_table::input::first_line;
-use ucptab_table::rows::{before, content_of, row_of};
+use ucptab_table::rows::content_of;
 
 /// The kinds of files from which a table can be built.
 #[derive(Clone, Copy, Debug, PartialEq, Eq)]
@@ -22,6 +25,10 @@ pub enum FileKind {
     UnicodeData,
     /// Any other file of the Unicode Character Database with a property in each line.
     Properties,
+    /// A file of the Unicode Character Database with only code points in each line.
+    CodePoints,
+    /// A file of Unihan: `U+HEX`, a property and a value, with tabs between them.
+    Unihan,
 }
 
 /// Returns the content of the first line that has any, or nothing.
@@ -39,19 +46,17 @@ fn first_content(input: &[u8]) -> &[u8]
     &[]
 }
 
-/// Returns whether the first line is a comment that ends in `.txt`, as in all other files of the
-/// Unicode Character Database: `# Scripts-15.0.0.txt`.
-#[tactic(auto, unfolding(crate::specs::Kinds::has_title))]
-fn has_title(input: &[u8]) -> bool
-    ensures { result ≡ has_title input.now }
+/// Returns whether a line is of a file of Unihan: whether it starts with `U+` and has a tab.
+#[tactic(auto, unfolding(crate::specs::Kinds::is_of_unihan))]
+fn is_of_unihan(content: &[u8]) -> bool
+    ensures { result ≡ is_of_unihan content.now }
 {
-    let title = before(b'\r', before(b'\n', input));
-    title.starts_with(b"# ".as_slice()) && title.ends_with(b".txt".as_slice())
+    after_mark(content).is_some() && content.contains(&b'\t')
 }
 
-/// Returns the kind of a file. `UnicodeData.txt` has 14 semicolons in its first line with content.
-/// Other files of the Unicode Character Database start with a title, and their first line with
-/// content is no row.
+/// Returns the kind of a file, by its first line with content. `UnicodeData.txt` has 14 semicolons
+/// in it. Other files of the Unicode Character Database start with a title. If their lines have one
+/// field, they are lists of code points. Files without a title are rows.
 #[tactic(auto, unfolding(crate::specs::Kinds::kind_of))]
 pub fn kind_of(input: &[u8]) -> FileKind
     ensures { result ≡ kind_of input.now }
@@ -60,10 +65,17 @@ pub fn kind_of(input: &[u8]) -> FileKind
     if content.iter().filter(|byte| **byte == b';').count() == 14 {
         return FileKind::UnicodeData;
     }
-    if has_title(input) && row_of(content).is_err() {
-        return FileKind::Properties;
+    if is_of_unihan(content) {
+        return FileKind::Unihan;
     }
-    FileKind::Rows
+    if title_of(input).is_none() {
+        return FileKind::Rows;
+    }
+    if has_field(1, content) {
+        FileKind::Properties
+    } else {
+        FileKind::CodePoints
+    }
 }
 
 /// Returns whether a line has this property in field 1, so that the file has more than one.
@@ -105,4 +117,55 @@ pub fn has_missing_lines(input: &[u8], columns: Columns<'_>) -> bool
         rest = after;
     }
     false
+}
+
+/// Returns whether a line has no value, or one that is a decimal number of at most 32 bits.
+#[tactic(auto, unfolding(crate::specs::Kinds::has_decimal))]
+fn has_decimal(columns: Columns<'_>, line: &[u8]) -> bool
+    ensures { result ≡ has_decimal columns.entry line.now }
+{
+    match text_of_line(columns, line) {
+        Some(text) => short_decimal(text).is_some(),
+        None => true,
+    }
+}
+
+/// Returns whether each value in a file is a decimal number of at most 32 bits.
+pub fn are_decimal(input: &[u8], columns: Columns<'_>) -> bool
+    ensures { result ≡ list_all (has_decimal columns.entry) (lines input.now) }
+{
+    let mut rest = input;
+    while let Some((line, after)) = first_line(rest) {
+        if !has_decimal(columns, line) {
+            return false;
+        }
+        rest = after;
+    }
+    true
+}
+
+/// Returns whether a line has no value, or one that is a code point as the Unicode Character
+/// Database writes it, in 4 to 6 hexadecimal digits.
+#[tactic(auto, unfolding(crate::specs::Kinds::has_code_point))]
+fn has_code_point(columns: Columns<'_>, line: &[u8]) -> bool
+    ensures { result ≡ has_code_point columns.entry line.now }
+{
+    match text_of_line(columns, line) {
+        Some(text) => text.len() >= 4 && text.len() <= 6 && hexadecimal(text).is_some(),
+        None => true,
+    }
+}
+
+/// Returns whether each value in a file is a code point, in 4 to 6 hexadecimal digits.
+pub fn are_code_points(input: &[u8], columns: Columns<'_>) -> bool
+    ensures { result ≡ list_all (has_code_point columns.entry) (lines input.now) }
+{
+    let mut rest = input;
+    while let Some((line, after)) = first_line(rest) {
+        if !has_code_point(columns, line) {
+            return false;
+        }
+        rest = after;
+    }
+    true
 }

@@ -1,6 +1,6 @@
-//! Names of values, and the numbers that stand for them.
+//! Names of values, and their numbers.
 ghost use Rattle.std.specs.Prelude.{◌≡◌, ◌<◌, ◌∷◌, ◌++◌, [], length, IfNone, IfOk, IfSome};
-ghost use Rattle.ucd_files.specs.Names.{is_same_name, is_significant, loose, number_named, number_of, pairs_of, short_decimal};
+ghost use Rattle.ucd_files.specs.Names.{is_alike, is_same_name, is_significant, loose, number_named, number_of, pairs_of, short_decimal};
 
 use std::alloc::AllocError;
 use ucptab_table::digits::{decimal_number, hexadecimal};
@@ -65,11 +65,9 @@ fn first_significant(text: &[u8]) -> Option<(u8, &[u8])>
     None
 }
 
-/// Returns whether two names are the same apart from case, spaces, `_` and `-`. The Unicode
-/// Character Database compares names so (UAX44-LM3), and also without a leading `is`, which counts
-/// here.
-pub fn is_same_name(left: &[u8], right: &[u8]) -> bool
-    ensures { result ≡ is_same_name left.now right.now }
+/// Returns whether two texts are the same apart from case, spaces, `_` and `-`.
+fn is_alike(left: &[u8], right: &[u8]) -> bool
+    ensures { result ≡ is_alike left.now right.now }
 {
     let mut left_rest = left;
     let mut right_rest = right;
@@ -83,6 +81,16 @@ pub fn is_same_name(left: &[u8], right: &[u8]) -> bool
         }
     }
     first_significant(right_rest).is_none()
+}
+
+/// Returns whether two names are the same apart from case, spaces, `_` and `-`. The Unicode
+/// Character Database compares names so (UAX44-LM3), and also without a leading `is`, which counts
+/// here. A text that starts with `-` is a negative number, and not the same as another text.
+#[tactic(auto, unfolding(crate::specs::Names::is_same_name))]
+pub fn is_same_name(left: &[u8], right: &[u8]) -> bool
+    ensures { result ≡ is_same_name left.now right.now }
+{
+    left.starts_with(b"-".as_slice()) == right.starts_with(b"-".as_slice()) && is_alike(left, right)
 }
 
 /// Returns the number of the first of the names that is the same as the text.

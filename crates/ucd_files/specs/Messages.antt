@@ -1,0 +1,21 @@
+-- The words of faults.
+use Rattle.std.specs.Prelude.{ℕ, List, ◌++◌, codes, decimal}
+use Rattle.ucd_files.specs.declared.fault.FileFault.{FileFault}
+use Rattle.ucd_files.specs.declared.fault.FileFault.TheVariants.{Line, Unfinished, Memory}
+use Rattle.ucd_files.specs.declared.fault.LineFault.{LineFault}
+use Rattle.ucd_files.specs.declared.fault.LineFault.TheVariants.{Unpaired, NotCodePoints, CodePoint, Reversed, NoValue, UnknownValue}
+
+-- What the test of a line that failed expects.
+abbrev pub expected_text : LineFault → List ℕ
+expected_text Unpaired = codes "`<.., First>` and `<.., Last>` in two lines in a row"
+expected_text NotCodePoints = codes "HEX or HEX..HEX before the first `;`"
+expected_text CodePoint = codes "code points up to 10FFFF"
+expected_text Reversed = codes "a range whose end is not below its start"
+expected_text NoValue = codes "a value"
+expected_text UnknownValue = codes "a value that is a known name or number"
+
+-- The fault of a file, in words.
+abbrev pub fault_text : FileFault → List ℕ
+fault_text (Line k f) = codes "line " ++ (decimal k ++ (codes ": expected " ++ expected_text f))
+fault_text Unfinished = codes "the file ends after `<.., First>`"
+fault_text Memory = codes "no memory"

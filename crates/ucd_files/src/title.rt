@@ -1,0 +1,65 @@
+//! What a file says of itself: its name, its date, its version.
+ghost use Rattle.std.specs.Prelude.{◌≡◌};
+ghost use Rattle.std.specs.Option.{option_map};
+ghost use Rattle.ucd_files.specs.Titles.{after_prefix, note_of, title_of, version_of};
+
+use ucptab_table::rows::{before, trimmed};
+
+/// Returns the title of a file of the Unicode Character Database, `Scripts-15.0.0.txt` for
+/// `# Scripts-15.0.0.txt`: the first line without `# `, if it is a comment that ends in `.txt`.
+#[tactic(auto, unfolding(crate::specs::Titles::title_of))]
+pub fn title_of(input: &[u8]) -> Option<&[u8]>
+    ensures { option_map (λ title. title.now) result ≡ title_of input.now }
+{
+    let line = before(b'\r', before(b'\n', input));
+    if line.starts_with(b"# ".as_slice()) && line.ends_with(b".txt".as_slice()) {
+        Some(&line[2..])
+    } else {
+        None
+    }
+}
+
+/// Returns what follows a mark at the start of a line, without blanks around it, or `None` if the
+/// line does not start with the mark.
+#[tactic(auto, unfolding(crate::specs::Titles::after_prefix))]
+fn after_prefix<'t>(mark: &[u8], line: &'t [u8]) -> Option<&'t [u8]>
+    ensures { option_map (λ rest. rest.now) result ≡ after_prefix mark.now line.now }
+{
+    if line.starts_with(mark) {
+        Some(trimmed(&line[mark.len()..]))
+    } else {
+        None
+    }
+}
+
+/// Returns a line, without blanks around it, that has the version of ICU or of Unicode in a TOML
+/// file of ICU's `icuexportdata`, or `None` for any other line.
+#[tactic(auto, unfolding(crate::specs::Titles::version_of))]
+fn version_of(line: &[u8]) -> Option<&[u8]>
+    ensures { option_map (λ version. version.now) result ≡ version_of line.now }
+{
+    let has_version = line.starts_with(b"icu_version = ".as_slice())
+        || line.starts_with(b"unicode_version = ".as_slice());
+    if has_version {
+        Some(trimmed(line))
+    } else {
+        None
+    }
+}
+
+/// Returns what a line says of its file, without blanks around it. In a file of the Unicode
+/// Character Database it is what follows `# Date: `. In the TOML files that ICU's `icuexportdata`
+/// writes, it is what follows `# file name: `, and the lines of `icu_version` and
+/// `unicode_version`. Returns `None` for any other line.
+#[tactic(auto, unfolding(crate::specs::Titles::note_of))]
+pub fn note_of(line: &[u8]) -> Option<&[u8]>
+    ensures { option_map (λ note. note.now) result ≡ note_of line.now }
+{
+    if let Some(date) = after_prefix(b"# Date: ".as_slice(), line) {
+        return Some(date);
+    }
+    if let Some(name) = after_prefix(b"# file name: ".as_slice(), line) {
+        return Some(name);
+    }
+    version_of(line)
+}
