@@ -1,0 +1,5 @@
+mod JsonLemmas
+mod RowLemmas
+mod SerializedLemmas
+mod TomlFaults
+mod TomlLemmas

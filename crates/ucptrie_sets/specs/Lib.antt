@@ -1,0 +1,4 @@
+pub mod Rows
+pub mod Sets
+pub mod TomlSets
+pub mod WrittenSets
