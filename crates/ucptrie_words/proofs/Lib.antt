@@ -1,0 +1,2 @@
+mod RowSteps
+mod WordSteps

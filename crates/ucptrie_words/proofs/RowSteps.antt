@@ -1,0 +1,56 @@
+-- One row more.
+use Rattle.std.proofs.Common.{◌≡◌, ◌⊎◌, inl, inr, ℕ, suc, ℤ, true, false, Result, Ok, Err, List, [], ◌∷◌, ◌++◌, refl, sym, ◌∙◌, ap, subst, append_assoc, arith}
+use Rattle.std.specs.Prelude.{All, Any, IfErr, IsErrAnd, String, string_bytes}
+use Rattle.std.specs.Global.{Global}
+use Rattle.std.proofs.lemmas.List.Elements.{All-cons}
+use Rattle.icu_char16trie.specs.LossyText.{key_text}
+use Rattle.icu_char16trie.specs.UnitMap.{UnitMap}
+use Rattle.ucptrie_words.specs.Rows.{AreRowsOf, HasNoRow, HasRow, can_be_key, line_of, row_of, rows_text}
+use Rattle.ucptrie_words.specs.declared.fault.RowsFault.{RowsFault}
+use Rattle.ucptrie_words.specs.declared.fault.RowsFault.TheVariants.{Key, Memory}
+
+-- The line of an entry, before those of the entries after it.
+pub rows_cons : (key : List ℕ) (value : ℤ) (rest m : UnitMap) (shown more : List ℕ) → m ≡ (key, value) ∷ rest → shown ≡ key_text key
+    → can_be_key shown ≡ true → AreRowsOf rest more → AreRowsOf m (line_of shown value ++ more)
+rows_cons key value rest m shown more is text can rows =
+    subst (λ z. AreRowsOf z (line_of shown value ++ more)) (sym is)
+    (subst (λ z. AreRowsOf ((key, value) ∷ rest) (line_of z value ++ more)) (sym text)
+    (record {
+      rows = ap (λ z. line_of (key_text key) value ++ z) rows.rows;
+      keys = All-cons HasRow (key, value) rest (subst (λ z. can_be_key z ≡ true) text can) rows.keys;
+    }))
+
+-- The text so far, the line of an entry, and what follows.
+pub rows_after : (m : UnitMap) (text new line more : List ℕ) → new ≡ text ++ line → AreRowsOf m (text ++ (line ++ more))
+    → AreRowsOf m (new ++ more)
+rows_after m text new line more is rows =
+    subst (λ z. AreRowsOf m z) (sym (ap (λ z. z ++ more) is ∙ append_assoc text line more)) rows
+
+pub no_rows : (m : UnitMap) → m ≡ [] → AreRowsOf m []
+no_rows m none =
+    subst (λ z. AreRowsOf z []) (sym none) (record { rows = refl; keys = λ k d within. absurd (omega (arith, within)) })
+
+-- ---- a key that no line can have
+
+-- The key of the first entry, or of one after it.
+pub key_first : (key : List ℕ) (value : ℤ) (rest m : UnitMap) (text : List ℕ) → m ≡ (key, value) ∷ rest → text ≡ key_text key
+    → Any (λ e. key_text e.0 ≡ text) m
+key_first key value rest m text is shown =
+    subst (λ z. Any (λ e. key_text e.0 ≡ text) z) (sym is) (0, (key, value), omega arith, refl, sym shown)
+
+pub key_later : (key : List ℕ) (value : ℤ) (rest m : UnitMap) (text : List ℕ) → m ≡ (key, value) ∷ rest
+    → Any (λ e. key_text e.0 ≡ text) rest → Any (λ e. key_text e.0 ≡ text) m
+key_later key value rest m text is found =
+    subst (λ z. Any (λ e. key_text e.0 ≡ text) z) (sym is) (suc found.0, found.1, omega (arith, found.2), found.3, found.4)
+
+-- The key that an error has is one of the entries'.
+pub key_of_error : {T : Type 0} (r : Result T RowsFault) (x : RowsFault) (m : UnitMap) (text : List ℕ) (key : String Global)
+    → IsErrAnd r (λ e. e ≡ x) → Any (λ e. key_text e.0 ≡ text) m
+    → (x ≡ Memory) ⊎ ((given : String Global) × (x ≡ Key given) × (string_bytes given ≡ text) × (can_be_key text ≡ false))
+    → IfErr r (λ e. e ≡ Key key → HasNoRow m (string_bytes key))
+key_of_error (Ok y) x m text key same found why = absurd same
+key_of_error (Err e) x m text key same found (inl memory) = λ is. absurd (cc)
+key_of_error (Err e) x m text key same found (inr why) = λ is.
+    let given : why.0 ≡ key = cc in
+    let bytes : text ≡ string_bytes key = sym why.2 ∙ ap string_bytes given in
+    subst (λ z. HasNoRow m z) bytes (found, why.3)
