@@ -10,11 +10,22 @@ HERE = os.path.dirname(os.path.realpath(__file__))
 # The programs, and the crates of each.
 PROGRAMS = {
     "ucptab": ["ucptab", "ucptab_table"],
-    "ucptrie": ["ucptrie", "ucptrie_tables", "ucd_files", "ucptab_table"],
+    "ucptrie": [
+        "ucptrie",
+        "ucptrie_sets",
+        "ucptrie_tables",
+        "ucptrie_words",
+        "ucd_files",
+        "ucptab_table",
+    ],
 }
 # The paths in the proved sources, and the public modules of bekstaudi that have the same names.
 PUBLIC = {
     r"icu_zerovec": "zerovec",
+    r"icu_invlist::codepointinvlist": "codepointinvlist",
+    r"icu_invlist_binary": "codepointinvlist",
+    r"icu_frozen_sets::frozen": "codepointinvlist",
+    r"icu_char16trie(?:_builder)?::(?:builder|char16trie|error)": "char16trie",
     r"icu_trie_formats": "codepointtrie",
     r"icu_trie_binary::binary": "codepointtrie::binary",
     r"icu_trie(?:_core)?::(?:cptrie|header|map_value|range|value)": "codepointtrie",
@@ -25,8 +36,8 @@ RULES = [
     *((rf"\b{path}(?=::)", f"bekstaudi::{module}") for path, module in PUBLIC.items()),
     (r"\bfn main\(", "pub(crate) fn main("),
     # The library's enums of errors are non-exhaustive. What is no other error is a failed allocation.
-    (r"\b(?:BuildError|SwappedError)::Memory(?= =>)", "_"),
-    (r"\bErr\(MapError::Memory\)(?= =>)", "Err(_)"),
+    (r"\b(?:BuildError|SwappedError|SerializeError)::Memory(?= =>)", "_"),
+    (r"\bErr\((?:MapError|AddError)::Memory\)(?= =>)", "Err(_)"),
     (r"\buse std::str;\n", ""),
     (r"\buse std::\{error, fmt\};", "use core::{error, fmt};"),
     (r"\buse std::\{((?:env|fs|io)(?:, (?:env|fs|io))*)\};", r"use crate::host::{\1};"),
@@ -53,8 +64,10 @@ EDITS = {
         (r"error\.exit_code\(\) as u8", "if error.use_stderr() { 2 } else { 0 }", 1),
     ],
     "ucptrie/output": [(r"\bfn target_of<'a>(\(matches: &ArgMatches\) -> Result<Target)<'a>", r"fn target_of\1<'_>", 1)],
+    "ucptrie/sets": [(r"\bfn set_form<'a>(\(matches: &ArgMatches\) -> Result<SetForm)<'a>", r"fn set_form\1<'_>", 1)],
     "ucptrie/tables": [(r"\bfn form<'a>(\(matches: &ArgMatches\) -> Result<Form)<'a>", r"fn form\1<'_>", 1)],
     "ucptrie/unicode_files": [(r"(\bfn columns<'a>\(\s*matches: &)(ArgMatches)", r"\1'a \2", 1)],
+    "ucptrie/word_lists": [(r"\bfn form<'a>(\(matches: &ArgMatches\) -> Result<Form)<'a>", r"fn form\1<'_>", 1)],
     "ucptrie/words": [
         (r"(name|about): &'a str", r"\1: &'static str", 2),
         (r"(\.arg\(arg_of\(row\)\))\?", r"\1", 1),
@@ -62,6 +75,9 @@ EDITS = {
         (r"(fn \w+)<'a>", r"\1", 7),
     ],
     "ucd_files/read": [(r"(missing\.append\(&mut explicit\))\?", r"\1", 1)],
+    "ucptrie_sets/toml_file": [(r"\n *Err\(error\) if error\.is_memory\(\) => [^\n]*", "", 1)],
+    # serde_json ends the program if an allocation fails.
+    "ucptrie_sets/written": [(r"\.to_string\(\)\?", ".to_string()", 1), (r"text\.try_push(\(\x02\d+\x03\))\?", r"text.push\1", 1)],
     "ucptrie_tables/fault": [
         (r"(?s)        if error\.is_memory\(\) \{.*?\n        \}\n", "", 1),
         (r"(#\[derive\()Clone, Copy, (Debug, PartialEq, Eq\)\]\npub struct TomlFault)", r"\1Clone, \2", 1),

@@ -3,17 +3,20 @@ _ucptrie() {
     local word=${COMP_WORDS[COMP_CWORD]} before=${COMP_WORDS[COMP_CWORD - 1]} words=
     COMPREPLY=()
     if [ "$COMP_CWORD" = 1 ]; then
-        words='build convert show get diff help --help -h --version -V'
+        words='build convert set words show get explain diff help --help -h --version -V'
         mapfile -t COMPREPLY < <(compgen -W "$words" -- "$word")
         return
     fi
     case $before in
-        --as) words='icu toml json c rust rows' ;;
+        --as) words='icu toml json c rust rows'; [ "${COMP_WORDS[1]}" != set ] || words="$words c-frozen rust-frozen" ;;
         --type) words='fast small' ;;
         --width) words='8 16 32' ;;
-        --format) words='rows properties unicode-data' ;;
+        --format)
+            words='rows properties code-points unicode-data unihan'
+            [ "${COMP_WORDS[1]}" != set ] || words="$words table toml serialized"
+            [ "${COMP_WORDS[1]}" != words ] || words='words icu' ;;
         --values) words='names decimal hexadecimal set' ;;
-        --name | --default | --error | --property | --field) return ;;
+        --name | --default | --error | --property | --field | --value | --offset) return ;;
         --output | -o | --check | --from | --aliases) mapfile -t COMPREPLY < <(compgen -f -- "$word"); return ;;
         *)
             case ${COMP_WORDS[1]} in
@@ -21,16 +24,21 @@ _ucptrie() {
                     words='--format --property --field --values --aliases --type --width --default'
                     words="$words --error --as --name --output -o --check --help -h" ;;
                 convert)
-                    words='--property --type --width --error --as --name --output -o --check --help -h' ;;
-                show | diff) words='--property --help -h' ;;
-                get) words='--property --from --help -h' ;;
-                help) words='build convert show get diff help' ;;
+                    words='--property --offset --type --width --error --as --name --output -o --check --help -h' ;;
+                set)
+                    words='--format --property --field --value --aliases --offset --as --name --output -o'
+                    words="$words --check --help -h" ;;
+                words) words='--format --as --name --output -o --check --help -h' ;;
+                show) words='--property --offset --help -h' ;;
+                diff) words='--property --help -h' ;;
+                get | explain) words='--property --offset --from --help -h' ;;
+                help) words='build convert set words show get explain diff help' ;;
             esac ;;
     esac
     mapfile -t COMPREPLY < <(compgen -W "$words" -- "$word")
     case ${COMP_WORDS[1]}$before in
-        convert--* | build--*) ;;
-        build* | convert* | show* | get* | diff*) mapfile -t -O "${#COMPREPLY[@]}" COMPREPLY < <(compgen -f -- "$word") ;;
+        convert--* | build--* | set--* | words--*) ;;
+        build* | convert* | set* | words* | show* | get* | explain* | diff*) mapfile -t -O "${#COMPREPLY[@]}" COMPREPLY < <(compgen -f -- "$word") ;;
     esac
 }
 complete -o filenames -F _ucptrie ucptrie

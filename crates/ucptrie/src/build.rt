@@ -1,5 +1,6 @@
 //! The command `build`: a table of rows, or of a file of the Unicode Character Database.
 use crate::fault::{Fault, about, plain, said};
+use crate::heading::with_heading;
 use crate::streams::{bytes_at, input_name};
 use crate::tables::{form, trie_type, width};
 use crate::unicode_files::build_file;
@@ -73,6 +74,8 @@ fn kind(matches: &ArgMatches<'_>, file: &[u8]) -> FileKind {
         Some("rows") => FileKind::Rows,
         Some("properties") => FileKind::Properties,
         Some("unicode-data") => FileKind::UnicodeData,
+        Some("code-points") => FileKind::CodePoints,
+        Some("unihan") => FileKind::Unihan,
         _ => match kind_of(file) {
             FileKind::Rows if has_properties(matches) => FileKind::Properties,
             kind => kind,
@@ -81,11 +84,17 @@ fn kind(matches: &ArgMatches<'_>, file: &[u8]) -> FileKind {
 }
 
 /// Builds a table of a file, or of standard input, in the form that the arguments name.
-pub fn build(rt: &HostRuntime, matches: &ArgMatches<'_>) -> Result<Vec<u8>, Fault> {
+/// `words` are the command.
+pub fn build(
+    rt: &HostRuntime,
+    words: &[String],
+    matches: &ArgMatches<'_>,
+) -> Result<Vec<u8>, Fault> {
     let path = matches.get_str("file").unwrap_or("-");
     let file = bytes_at(rt, path)?;
-    match kind(matches, &file) {
-        FileKind::Rows => build_rows(rt, matches, path, &file),
-        kind => build_file(rt, matches, path, &file, kind),
-    }
+    let bytes = match kind(matches, &file) {
+        FileKind::Rows => build_rows(rt, matches, path, &file)?,
+        kind => build_file(rt, matches, path, &file, kind)?,
+    };
+    Ok(with_heading(rt.alloc(), matches, words, path, &file, bytes)?)
 }

@@ -1,8 +1,9 @@
 //! The command `convert`: a table in another form, or of another type, width or error value.
 use crate::build::unbuilt;
 use crate::fault::{Fault, about};
-use crate::streams::input_name;
-use crate::tables::{form, table_of, trie_type, width};
+use crate::heading::with_heading;
+use crate::streams::{bytes_at, input_name};
+use crate::tables::{form, table_in, trie_type, width};
 use clap::ArgMatches;
 use ucptrie_tables::fault::BuildFault;
 use ucptrie_tables::rebuild::rebuilt;
@@ -26,12 +27,21 @@ fn changed(rt: &HostRuntime, matches: &ArgMatches<'_>, table: Table) -> Result<T
 /// Returns the table of a file in the form that the arguments name.
 ///
 /// Rows are ranges. The ranges of a table that is not coherent may differ from its values, so its
-/// rows would make another table and are not written.
-pub fn convert(rt: &HostRuntime, matches: &ArgMatches<'_>) -> Result<Vec<u8>, Fault> {
+/// rows would make another table and are not written. `words` are the command.
+pub fn convert(
+    rt: &HostRuntime,
+    words: &[String],
+    matches: &ArgMatches<'_>,
+) -> Result<Vec<u8>, Fault> {
     let form = form(rt.alloc(), matches)?;
     let path = matches.get_str("file").unwrap_or("-");
     let name = input_name(path);
-    let table = match changed(rt, matches, table_of(rt, matches, path)?) {
+    let input = bytes_at(rt, path)?;
+    let table = match changed(
+        rt,
+        matches,
+        table_in(rt.alloc(), matches, path, &input, matches.get_one("offset"))?,
+    ) {
         Ok(table) => table,
         Err(fault) => return Err(unbuilt(rt.alloc(), name, &[], fault)),
     };
@@ -40,7 +50,7 @@ pub fn convert(rt: &HostRuntime, matches: &ArgMatches<'_>) -> Result<Vec<u8>, Fa
         return Err(about(rt.alloc(), name, why));
     }
     match written(rt.alloc(), &table, form) {
-        Ok(bytes) => Ok(bytes),
+        Ok(bytes) => Ok(with_heading(rt.alloc(), matches, words, path, &input, bytes)?),
         Err(fault) => Err(unbuilt(rt.alloc(), name, &[], fault)),
     }
 }

@@ -6,11 +6,16 @@ mod asked;
 mod build;
 mod convert;
 mod fault;
+mod heading;
 mod names;
+mod offsets;
 mod output;
+mod overlap;
+mod sets;
 mod streams;
 mod tables;
 mod unicode_files;
+mod word_lists;
 mod words;
 
 use crate::asked::asked;
@@ -18,23 +23,33 @@ use crate::build::build;
 use crate::convert::convert;
 use crate::fault::{Fault, about, about_arguments};
 use crate::output::{deliver, target_of};
+use crate::sets::set;
 use crate::streams::{put, say};
 use crate::tables::table_at;
+use crate::word_lists::word_list;
 use crate::words::program_words;
 use clap::ArgMatches;
 use clap::error::ErrorKind;
 use std::process::ExitCode;
 use std::{env, io};
 use ucptrie_tables::diff::differences_text;
+use ucptrie_tables::explain::explained;
 use ucptrie_tables::shown::{answered, shown};
 
-/// Makes a table by `build` or `convert`, and sends it to its target.
-fn make(rt: &HostRuntime, name: &str, matches: &ArgMatches<'_>) -> Result<(), Fault> {
+/// Makes a table by `build` or `convert`, a set by `set` or a trie by `words`, and sends it to its
+/// target.
+fn make(
+    rt: &HostRuntime,
+    words: &[String],
+    name: &str,
+    matches: &ArgMatches<'_>,
+) -> Result<(), Fault> {
     let target = target_of(rt.alloc(), matches)?;
-    let bytes = if name == "build" {
-        build(rt, matches)?
-    } else {
-        convert(rt, matches)?
+    let bytes = match name {
+        "build" => build(rt, words, matches)?,
+        "set" => set(rt, words, matches)?,
+        "words" => word_list(rt, words, matches)?,
+        _ => convert(rt, words, matches)?,
     };
     let is_binary = matches.get_str("as") == Some("icu");
     deliver(rt, target, &bytes, is_binary)
@@ -42,7 +57,7 @@ fn make(rt: &HostRuntime, name: &str, matches: &ArgMatches<'_>) -> Result<(), Fa
 
 /// Prints what a table is, in lines.
 fn show(rt: &HostRuntime, matches: &ArgMatches<'_>) -> Result<(), Fault> {
-    let table = table_at(rt, matches, "file")?;
+    let table = table_at(rt, matches, "file", matches.get_one("offset"))?;
     let text = shown(rt.alloc(), &table)?;
     put(rt, text.as_bytes())
 }
@@ -50,27 +65,41 @@ fn show(rt: &HostRuntime, matches: &ArgMatches<'_>) -> Result<(), Fault> {
 /// Prints the value of each asked number in a table, in lines.
 fn get(rt: &HostRuntime, matches: &ArgMatches<'_>) -> Result<(), Fault> {
     let asked = asked(rt, matches)?;
-    let table = table_at(rt, matches, "file")?;
+    let table = table_at(rt, matches, "file", matches.get_one("offset"))?;
     let text = answered(rt.alloc(), &table, &asked)?;
+    put(rt, text.as_bytes())
+}
+
+/// Prints how the look-up of each asked number goes, in lines.
+fn explain(rt: &HostRuntime, matches: &ArgMatches<'_>) -> Result<(), Fault> {
+    let asked = asked(rt, matches)?;
+    let table = table_at(rt, matches, "file", matches.get_one("offset"))?;
+    let text = explained(rt.alloc(), &table, &asked)?;
     put(rt, text.as_bytes())
 }
 
 /// Prints the ranges in which two tables differ, in lines. Returns 1 if there is a line, and 0 if
 /// there is none.
 fn diff(rt: &HostRuntime, matches: &ArgMatches<'_>) -> Result<u8, Fault> {
-    let first = table_at(rt, matches, "first")?;
-    let second = table_at(rt, matches, "second")?;
+    let first = table_at(rt, matches, "first", None)?;
+    let second = table_at(rt, matches, "second", None)?;
     let text = differences_text(rt.alloc(), &first.trie, &second.trie)?;
     put(rt, text.as_bytes())?;
     Ok(if text.is_empty() { 0 } else { 1 })
 }
 
 /// Does what a command asks for, and returns the status.
-fn run(rt: &HostRuntime, name: &str, matches: &ArgMatches<'_>) -> Result<u8, Fault> {
+fn run(
+    rt: &HostRuntime,
+    words: &[String],
+    name: &str,
+    matches: &ArgMatches<'_>,
+) -> Result<u8, Fault> {
     match name {
-        "build" | "convert" => make(rt, name, matches)?,
+        "build" | "convert" | "set" | "words" => make(rt, words, name, matches)?,
         "show" => show(rt, matches)?,
         "get" => get(rt, matches)?,
+        "explain" => explain(rt, matches)?,
         _ => return diff(rt, matches),
     }
     Ok(0)
@@ -117,7 +146,7 @@ fn status(rt: &HostRuntime, words: &[String]) -> u8 {
     let Some((name, matches)) = matches.subcommand() else {
         return 2;
     };
-    match run(rt, name, matches) {
+    match run(rt, words, name, matches) {
         Ok(status) => status,
         Err(fault) => failed(rt, &fault, name == "diff"),
     }

@@ -1,6 +1,7 @@
 //! The tables of files, and how a table is to be written.
 use crate::fault::{Fault, about, said};
 use crate::names::{module_name, name_of};
+use crate::offsets::from_trie;
 use crate::streams::{bytes_at, input_name};
 use clap::ArgMatches;
 use icu_trie_core::header::TrieType;
@@ -101,21 +102,36 @@ fn unchosen(alloc: Global, path: &str, property: &str, fault: PropertyFault) -> 
     }
 }
 
-/// Reads the table of a file, or of standard input if the file's name is `-`. In TOML it is that of
-/// the property that the arguments name.
-pub fn table_of(rt: &HostRuntime, matches: &ArgMatches<'_>, path: &str) -> Result<Table, Fault> {
-    let bytes = bytes_at(rt, path)?;
+/// Returns the table of a file with these bytes. In TOML it is that of the property that the
+/// arguments name, and in another file that of the trie at the given offset, or the only one.
+/// `path` is what the bytes were read from.
+pub fn table_in(
+    alloc: Global,
+    matches: &ArgMatches<'_>,
+    path: &str,
+    bytes: &[u8],
+    offset: Option<u32>,
+) -> Result<Table, Fault> {
     if bytes.is_empty() {
-        return Err(about(rt.alloc(), input_name(path), "the file is empty"));
+        return Err(about(alloc, input_name(path), "the file is empty"));
     }
+    let part = from_trie(alloc, input_name(path), bytes, offset)?;
     let property = matches.get_str("property");
-    match read_property(rt.alloc(), &bytes, property) {
+    match read_property(alloc, part, property) {
         Ok(table) => Ok(table),
-        Err(fault) => Err(unchosen(rt.alloc(), path, property.unwrap_or(""), fault)),
+        Err(fault) => Err(unchosen(alloc, path, property.unwrap_or(""), fault)),
     }
 }
 
-/// Reads the table of the file that the argument `id` names.
-pub fn table_at(rt: &HostRuntime, matches: &ArgMatches<'_>, id: &str) -> Result<Table, Fault> {
-    table_of(rt, matches, matches.get_str(id).unwrap_or("-"))
+/// Reads the table of the file that the argument `id` names, or of standard input if its name is
+/// `-`. The trie starts at an offset, if one is given.
+pub fn table_at(
+    rt: &HostRuntime,
+    matches: &ArgMatches<'_>,
+    id: &str,
+    offset: Option<u32>,
+) -> Result<Table, Fault> {
+    let path = matches.get_str(id).unwrap_or("-");
+    let bytes = bytes_at(rt, path)?;
+    table_in(rt.alloc(), matches, path, &bytes, offset)
 }

@@ -1,13 +1,14 @@
 //! Tables of files of the Unicode Character Database.
 use crate::build::{options, unbuilt};
 use crate::fault::{Fault, about, said};
+use crate::overlap::has_overlap;
 use crate::streams::{bytes_at, input_name};
 use crate::tables::form;
 use clap::ArgMatches;
 use std::alloc::Global;
 use ucd_files::aliases::alias_names;
 use ucd_files::fault::FileFault;
-use ucd_files::kind::{FileKind, has_missing_lines, has_property};
+use ucd_files::kind::{FileKind, are_code_points, are_decimal, has_missing_lines, has_property};
 use ucd_files::names::{Name, Numbering, is_same_name};
 use ucd_files::order::names_in_order;
 use ucd_files::statement::Columns;
@@ -44,11 +45,12 @@ fn unicode_data_field(alloc: Global, property: &str) -> Result<usize, Fault> {
     Err(about(alloc, property, why))
 }
 
-/// Returns where the lines of a file have their values.
-fn columns<'a>(
+/// Returns where the lines of a file have their values. `name` is what it was read from.
+pub fn columns<'a>(
     alloc: Global,
     matches: &ArgMatches<'a>,
     kind: FileKind,
+    name: &str,
     file: &[u8],
 ) -> Result<Columns<'a>, Fault> {
     let is_unicode_data = matches!(kind, FileKind::UnicodeData);
@@ -56,6 +58,14 @@ fn columns<'a>(
     match (field, matches.get_str("property")) {
         (Some(n), _) if is_unicode_data => Ok(Columns::UnicodeData(n as usize)),
         (Some(n), _) => Ok(Columns::Field(n as usize)),
+        (None, Some(property)) if matches!(kind, FileKind::Unihan) => {
+            Ok(Columns::Unihan(property.as_bytes()))
+        }
+        (None, None) if matches!(kind, FileKind::Unihan) => {
+            let why = "the file has many properties: name one by --property";
+            Err(about(alloc, name, why))
+        }
+        (None, _) if matches!(kind, FileKind::CodePoints) => Ok(Columns::Field(0)),
         (None, Some(property)) if is_unicode_data => {
             Ok(Columns::UnicodeData(unicode_data_field(alloc, property)?))
         }
@@ -65,6 +75,10 @@ fn columns<'a>(
         (None, None) if is_unicode_data => {
             let why = "the file has many properties: name one by --property or --field";
             Err(about(alloc, "UnicodeData.txt", why))
+        }
+        (None, None) if has_overlap(alloc, file)? => {
+            let why = "a code point has two values: choose by --property or by --field";
+            Err(about(alloc, name, why))
         }
         _ => Ok(Columns::Field(1)),
     }
@@ -88,9 +102,11 @@ fn names_in<'f>(
     Ok(names_in_order(file, columns, names)?)
 }
 
-/// Returns whether the only value of a property is the property itself, as in `PropList.txt`.
-fn is_binary(columns: Columns<'_>, names: &[Name<'_>]) -> bool {
+/// Returns whether the lines have only code points, or the only value of a property is the property
+/// itself, as in `PropList.txt`.
+pub fn is_set(columns: Columns<'_>, names: &[Name<'_>]) -> bool {
     match (columns, names) {
+        (Columns::Field(0), _) => true,
         (Columns::Property(property), [value] | [_, value]) => is_same_name(value.text, property),
         _ => false,
     }
@@ -114,9 +130,34 @@ fn aliases<'f>(
     Ok(names)
 }
 
+/// Returns the bytes of the file of aliases, or none if the arguments name no such file.
+pub fn named_file(rt: &HostRuntime, matches: &ArgMatches<'_>) -> Result<Vec<u8>, Fault> {
+    match matches.get_str("aliases") {
+        Some(path) => bytes_at(rt, path),
+        None => Ok(Vec::new(rt.alloc())),
+    }
+}
+
+/// Returns the names of the values of a file: those in `named`, the file of aliases, if the
+/// arguments name one, and else those in the file itself.
+pub fn names<'f>(
+    alloc: Global,
+    matches: &ArgMatches<'_>,
+    file: &'f [u8],
+    columns: Columns<'_>,
+    named: &'f [u8],
+) -> Result<Vec<Name<'f>>, Fault> {
+    if matches.get_str("aliases").is_some() {
+        aliases(alloc, matches, named)
+    } else {
+        names_in(alloc, file, columns)
+    }
+}
+
 /// Returns how the values of a file become numbers.
 fn numbering<'n>(
     matches: &ArgMatches<'_>,
+    file: &[u8],
     columns: Columns<'_>,
     names: &'n [Name<'n>],
 ) -> Numbering<'n> {
@@ -124,19 +165,20 @@ fn numbering<'n>(
         Some("decimal") => Numbering::Decimal,
         Some("hexadecimal") => Numbering::Hexadecimal,
         Some("set") => Numbering::One,
-        None if is_binary(columns, names) => Numbering::One,
+        None if is_set(columns, names) => Numbering::One,
+        None if matches.get_str("aliases").is_some() => Numbering::Names(names),
+        None if are_decimal(file, columns) => Numbering::Decimal,
+        None if are_code_points(file, columns) => Numbering::Hexadecimal,
         _ => Numbering::Names(names),
     }
 }
 
 /// Returns the fault of a file that makes no table. `path` is what it was read from.
-fn unread(alloc: Global, path: &str, file: &[u8], fault: UnicodeFileFault) -> Fault {
+pub fn unread(alloc: Global, path: &str, file: &[u8], fault: UnicodeFileFault) -> Fault {
     let name = input_name(path);
     match fault {
         UnicodeFileFault::File(FileFault::Memory) => Fault::Memory,
-        UnicodeFileFault::File(FileFault::Unfinished) => {
-            about(alloc, name, "the file ends after `<.., First>`")
-        }
+        UnicodeFileFault::File(FileFault::Unfinished) => about(alloc, name, FileFault::Unfinished),
         UnicodeFileFault::File(FileFault::Line(number, fault)) => {
             let line = line_at(file, number).unwrap_or(&[]);
             said(line_message(alloc, name, number, fault.expected(), line))
@@ -154,7 +196,7 @@ fn built_of_file(
     names: &[Name<'_>],
     form: Form<'_>,
 ) -> Result<Vec<u8>, UnicodeFileFault> {
-    let numbering = numbering(matches, columns, names);
+    let numbering = numbering(matches, file, columns, names);
     let table = table_of_file(alloc, file, columns, numbering, options(matches))?;
     let mut bytes = written(alloc, &table, form)?;
     if matches!(numbering, Numbering::Names(_)) {
@@ -174,16 +216,9 @@ pub fn build_file(
     kind: FileKind,
 ) -> Result<Vec<u8>, Fault> {
     let form = form(rt.alloc(), matches)?;
-    let columns = columns(rt.alloc(), matches, kind, file)?;
-    let named = match matches.get_str("aliases") {
-        Some(path) => bytes_at(rt, path)?,
-        None => Vec::new(rt.alloc()),
-    };
-    let names = if matches.get_str("aliases").is_some() {
-        aliases(rt.alloc(), matches, &named)?
-    } else {
-        names_in(rt.alloc(), file, columns)?
-    };
+    let columns = columns(rt.alloc(), matches, kind, input_name(path), file)?;
+    let named = named_file(rt, matches)?;
+    let names = names(rt.alloc(), matches, file, columns, &named)?;
     match built_of_file(rt.alloc(), matches, file, columns, &names, form) {
         Ok(bytes) => Ok(bytes),
         Err(fault) => Err(unread(rt.alloc(), path, file, fault)),

@@ -70,6 +70,13 @@ const PROPERTY: Argument = Argument {
     ..OPTION
 };
 
+/// Where a trie starts in a file.
+const OFFSET: Argument = Argument {
+    id: "offset",
+    help: "The byte at which a trie starts, in a file with several",
+    ..NUMBER
+};
+
 /// The form in which a table is written.
 const FORM: Argument = Argument {
     id: "as",
@@ -136,8 +143,14 @@ const BUILD: [Argument; 14] = [
     },
     Argument {
         id: "format",
-        values: ValueParser::Names(&["rows", "properties", "unicode-data"]),
-        help: "What FILE is; if left out, its first line tells",
+        values: ValueParser::Names(&[
+            "rows",
+            "properties",
+            "code-points",
+            "unicode-data",
+            "unihan",
+        ]),
+        help: "What FILE is; if left out, its start decides",
         ..OPTION
     },
     Argument {
@@ -186,17 +199,44 @@ const BUILD: [Argument; 14] = [
 ];
 
 /// The arguments of `convert`: a table, what changes, and the form in which it is written.
-const CONVERT: [Argument; 9] = [
-    FILE, PROPERTY, TYPE, WIDTH, ERROR, FORM, NAME, OUTPUT, CHECK,
+const CONVERT: [Argument; 10] = [
+    FILE, PROPERTY, OFFSET, TYPE, WIDTH, ERROR, FORM, NAME, OUTPUT, CHECK,
+];
+
+/// The arguments of `words`: a word list, and the form in which its trie is written.
+const WORDS: [Argument; 6] = [
+    Argument {
+        required: false,
+        help: "Lines KEY;VALUE; - for standard input",
+        ..FILE
+    },
+    Argument {
+        id: "format",
+        values: ValueParser::Names(&["words", "icu"]),
+        default: &["words"],
+        help: "What FILE is: lines, or the units of a trie",
+        ..OPTION
+    },
+    Argument {
+        values: ValueParser::Names(&["icu", "c", "rust", "rows"]),
+        ..FORM
+    },
+    Argument {
+        default: &["words"],
+        ..NAME
+    },
+    OUTPUT,
+    CHECK,
 ];
 
 /// The arguments of `show`: a table.
-const SHOW: [Argument; 2] = [FILE, PROPERTY];
+const SHOW: [Argument; 3] = [FILE, PROPERTY, OFFSET];
 
-/// The arguments of `get`: a table, and the asked numbers.
-const GET: [Argument; 4] = [
+/// The arguments of `get` and `explain`: a table, and the asked numbers.
+const GET: [Argument; 5] = [
     FILE,
     PROPERTY,
+    OFFSET,
     Argument {
         id: "asked",
         place: Place::Words,
@@ -226,8 +266,73 @@ const DIFF: [Argument; 3] = [
     },
 ];
 
+/// The arguments of `set`.
+const SET: [Argument; 11] = [
+    Argument {
+        required: false,
+        help: "What build or convert reads, or a set in TOML or in ICU's serialized form",
+        ..FILE
+    },
+    Argument {
+        id: "format",
+        values: ValueParser::Names(&[
+            "rows",
+            "properties",
+            "code-points",
+            "unicode-data",
+            "unihan",
+            "table",
+            "toml",
+            "serialized",
+        ]),
+        help: "What FILE is; if left out, its start decides, but not for serialized",
+        ..OPTION
+    },
+    Argument {
+        help: "The property, as in build and in convert",
+        ..PROPERTY
+    },
+    OFFSET,
+    Argument {
+        id: "field",
+        help: "The field with the value, counted from 0",
+        ..NUMBER
+    },
+    Argument {
+        id: "value",
+        help: "The value whose code points are the set; 1 if left out, or a property's own",
+        ..OPTION
+    },
+    Argument {
+        id: "aliases",
+        value_name: &["FILE"],
+        help: "PropertyValueAliases.txt: the names of the property's values",
+        ..OPTION
+    },
+    Argument {
+        values: ValueParser::Names(&[
+            "rows",
+            "icu",
+            "json",
+            "toml",
+            "c",
+            "rust",
+            "c-frozen",
+            "rust-frozen",
+        ]),
+        ..FORM
+    },
+    Argument {
+        default: &["set"],
+        help: "The name in C, Rust and TOML",
+        ..NAME
+    },
+    OUTPUT,
+    CHECK,
+];
+
 /// The commands: the name, the description and the arguments of each.
-const COMMANDS: [(&str, &str, &[Argument]); 5] = [
+const COMMANDS: [(&str, &str, &[Argument]); 8] = [
     (
         "build",
         "Builds a table from rows or from a file of the Unicode Character Database",
@@ -239,11 +344,26 @@ const COMMANDS: [(&str, &str, &[Argument]); 5] = [
         &CONVERT,
     ),
     (
+        "set",
+        "Writes the set of the code points with a value",
+        &SET,
+    ),
+    (
+        "words",
+        "Writes a word list as a unit trie, which ICU's UCharsTrie reads",
+        &WORDS,
+    ),
+    (
         "show",
         "Prints the header of a table, its sizes and its ranges",
         &SHOW,
     ),
     ("get", "Prints the value of each number in a table", &GET),
+    (
+        "explain",
+        "Prints which cells of a table the look-up of each number reads",
+        &GET,
+    ),
     (
         "diff",
         "Prints the ranges in which two tables differ, with the value of each",

@@ -4,14 +4,40 @@
 use crate::host::{HostRuntime, Text};
 use crate::ucptab_table::rows::{after, before, content_of, trimmed};
 
+/// Returns part `n` of a line's content, counted from 0, without blanks around it: empty if the
+/// line has fewer parts.
+fn part(separator: u8, n: usize, content: &[u8]) -> &[u8] {
+    let mut rest = content;
+    for _ in 0..n {
+        rest = after(separator, rest);
+    }
+    trimmed(before(separator, rest))
+}
+
 /// Returns field `n` of a line's content, counted from 0, without blanks around it: empty if the
 /// line has fewer fields. Fields are separated by semicolons.
 pub fn field(n: usize, content: &[u8]) -> &[u8] {
-    let mut rest = content;
-    for _ in 0..n {
-        rest = after(b';', rest);
+    part(b';', n, content)
+}
+
+/// Returns whether a line's content has field `n`, counted from 0.
+pub fn has_field(n: usize, content: &[u8]) -> bool {
+    n <= content.iter().filter(|byte| **byte == b';').count()
+}
+
+/// Returns column `n` of a line of Unihan, counted from 0, without blanks around it: empty if the
+/// line has fewer columns. Columns are separated by tabs.
+pub fn column(n: usize, content: &[u8]) -> &[u8] {
+    part(b'\t', n, content)
+}
+
+/// Returns what follows `U+` in a text that starts with it, or `None` for any other text.
+pub fn after_mark(text: &[u8]) -> Option<&[u8]> {
+    if text.starts_with(b"U+".as_slice()) {
+        Some(&text[2..])
+    } else {
+        None
     }
-    trimmed(before(b';', rest))
 }
 
 /// Returns what follows `# @missing:` in a line that starts with it, without a further comment and

@@ -2,11 +2,14 @@
 
 #[allow(unused_imports)]
 use crate::host::{HostRuntime, Text};
-use crate::ucd_files::fields::{field, missing_of};
-use crate::ucd_files::names::is_same_name;
+use crate::ucd_files::fields::{after_mark, field, has_field, missing_of};
+use crate::ucd_files::names::{is_same_name, short_decimal};
+use crate::ucd_files::order::text_of_line;
 use crate::ucd_files::statement::{Columns, missing_text};
+use crate::ucd_files::title::title_of;
+use crate::ucptab_table::digits::hexadecimal;
 use crate::ucptab_table::input::first_line;
-use crate::ucptab_table::rows::{before, content_of, row_of};
+use crate::ucptab_table::rows::content_of;
 
 /// The kinds of files from which a table can be built.
 #[derive(Clone, Copy, Debug, PartialEq, Eq)]
@@ -17,6 +20,10 @@ pub enum FileKind {
     UnicodeData,
     /// Any other file of the Unicode Character Database with a property in each line.
     Properties,
+    /// A file of the Unicode Character Database with only code points in each line.
+    CodePoints,
+    /// A file of Unihan: `U+HEX`, a property and a value, with tabs between them.
+    Unihan,
 }
 
 /// Returns the content of the first line that has any, or nothing.
@@ -32,25 +39,30 @@ fn first_content(input: &[u8]) -> &[u8] {
     &[]
 }
 
-/// Returns whether the first line is a comment that ends in `.txt`, as in all other files of the
-/// Unicode Character Database: `# Scripts-15.0.0.txt`.
-fn has_title(input: &[u8]) -> bool {
-    let title = before(b'\r', before(b'\n', input));
-    title.starts_with(b"# ".as_slice()) && title.ends_with(b".txt".as_slice())
+/// Returns whether a line is of a file of Unihan: whether it starts with `U+` and has a tab.
+fn is_of_unihan(content: &[u8]) -> bool {
+    after_mark(content).is_some() && content.contains(&b'\t')
 }
 
-/// Returns the kind of a file. `UnicodeData.txt` has 14 semicolons in its first line with content.
-/// Other files of the Unicode Character Database start with a title, and their first line with
-/// content is no row.
+/// Returns the kind of a file, by its first line with content. `UnicodeData.txt` has 14 semicolons
+/// in it. Other files of the Unicode Character Database start with a title. If their lines have one
+/// field, they are lists of code points. Files without a title are rows.
 pub fn kind_of(input: &[u8]) -> FileKind {
     let content = first_content(input);
     if content.iter().filter(|byte| **byte == b';').count() == 14 {
         return FileKind::UnicodeData;
     }
-    if has_title(input) && row_of(content).is_err() {
-        return FileKind::Properties;
+    if is_of_unihan(content) {
+        return FileKind::Unihan;
     }
-    FileKind::Rows
+    if title_of(input).is_none() {
+        return FileKind::Rows;
+    }
+    if has_field(1, content) {
+        FileKind::Properties
+    } else {
+        FileKind::CodePoints
+    }
 }
 
 /// Returns whether a line has this property in field 1, so that the file has more than one.
@@ -84,4 +96,45 @@ pub fn has_missing_lines(input: &[u8], columns: Columns<'_>) -> bool {
         rest = after;
     }
     false
+}
+
+/// Returns whether a line has no value, or one that is a decimal number of at most 32 bits.
+fn has_decimal(columns: Columns<'_>, line: &[u8]) -> bool {
+    match text_of_line(columns, line) {
+        Some(text) => short_decimal(text).is_some(),
+        None => true,
+    }
+}
+
+/// Returns whether each value in a file is a decimal number of at most 32 bits.
+pub fn are_decimal(input: &[u8], columns: Columns<'_>) -> bool {
+    let mut rest = input;
+    while let Some((line, after)) = first_line(rest) {
+        if !has_decimal(columns, line) {
+            return false;
+        }
+        rest = after;
+    }
+    true
+}
+
+/// Returns whether a line has no value, or one that is a code point as the Unicode Character
+/// Database writes it, in 4 to 6 hexadecimal digits.
+fn has_code_point(columns: Columns<'_>, line: &[u8]) -> bool {
+    match text_of_line(columns, line) {
+        Some(text) => text.len() >= 4 && text.len() <= 6 && hexadecimal(text).is_some(),
+        None => true,
+    }
+}
+
+/// Returns whether each value in a file is a code point, in 4 to 6 hexadecimal digits.
+pub fn are_code_points(input: &[u8], columns: Columns<'_>) -> bool {
+    let mut rest = input;
+    while let Some((line, after)) = first_line(rest) {
+        if !has_code_point(columns, line) {
+            return false;
+        }
+        rest = after;
+    }
+    true
 }

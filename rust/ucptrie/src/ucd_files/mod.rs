@@ -7,6 +7,7 @@
 //! - `read`: what all lines say, as the writes of a map
 //! - `aliases`: names and numbers from `PropertyValueAliases.txt` or a list
 //! - `order`: names in order of first appearance
+//! - `title`: what a file says of itself
 //! - `fault`: what is wrong with a line or a file
 
 #[allow(unused_imports)]
@@ -19,3 +20,4 @@ pub mod names;
 pub mod order;
 pub mod read;
 pub mod statement;
+pub mod title;

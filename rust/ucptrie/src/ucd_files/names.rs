@@ -1,4 +1,4 @@
-//! Names of values, and the numbers that stand for them.
+//! Names of values, and their numbers.
 
 #[allow(unused_imports)]
 use crate::host::{HostRuntime, Text};
@@ -58,10 +58,8 @@ fn first_significant(text: &[u8]) -> Option<(u8, &[u8])> {
     None
 }
 
-/// Returns whether two names are the same apart from case, spaces, `_` and `-`. The Unicode
-/// Character Database compares names so (UAX44-LM3), and also without a leading `is`, which counts
-/// here.
-pub fn is_same_name(left: &[u8], right: &[u8]) -> bool {
+/// Returns whether two texts are the same apart from case, spaces, `_` and `-`.
+fn is_alike(left: &[u8], right: &[u8]) -> bool {
     let mut left_rest = left;
     let mut right_rest = right;
     while let Some((byte, left_after)) = first_significant(left_rest) {
@@ -74,6 +72,13 @@ pub fn is_same_name(left: &[u8], right: &[u8]) -> bool {
         }
     }
     first_significant(right_rest).is_none()
+}
+
+/// Returns whether two names are the same apart from case, spaces, `_` and `-`. The Unicode
+/// Character Database compares names so (UAX44-LM3), and also without a leading `is`, which counts
+/// here. A text that starts with `-` is a negative number, and not the same as another text.
+pub fn is_same_name(left: &[u8], right: &[u8]) -> bool {
+    left.starts_with(b"-".as_slice()) == right.starts_with(b"-".as_slice()) && is_alike(left, right)
 }
 
 /// Returns the number of the first of the names that is the same as the text.

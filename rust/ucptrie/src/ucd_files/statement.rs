@@ -3,7 +3,9 @@
 #[allow(unused_imports)]
 use crate::host::{HostRuntime, Text};
 use crate::ucd_files::fault::LineFault;
-use crate::ucd_files::fields::{ends_in_first, ends_in_last, field, missing_of};
+use crate::ucd_files::fields::{
+    after_mark, column, ends_in_first, ends_in_last, field, has_field, missing_of,
+};
 use crate::ucd_files::names::{Numbering, is_same_name, number_of};
 use crate::ucptab_table::rows::{CodePoints, code_points_of, content_of};
 use bekstaudi::codepointtrie::Write;
@@ -12,7 +14,7 @@ use bekstaudi::zerovec::CODE_POINT_LIMIT;
 /// Where a line has its value. Field 0 has the code points.
 #[derive(Clone, Copy, Debug)]
 pub enum Columns<'a> {
-    /// In this field, counted from 0.
+    /// In this field, counted from 0. An empty field says nothing.
     Field(usize),
     /// Field 1 has a property, and only lines of this property count. The value is in field 2, or
     /// is the property itself if field 2 is empty.
@@ -20,6 +22,9 @@ pub enum Columns<'a> {
     /// In this field of `UnicodeData.txt`. Two lines can give one range: the name of the first one
     /// ends in `, First>`, and that of the second one in `, Last>`. An empty field says nothing.
     UnicodeData(usize),
+    /// In column 2 of the lines of this property in a file of Unihan: `U+HEX`, the property and the
+    /// value, with tabs between them.
+    Unihan(&'a [u8]),
 }
 
 /// What a line says: the value of code points.
@@ -47,10 +52,16 @@ fn some_text(text: &[u8]) -> Option<&[u8]> {
 }
 
 /// Returns the text of the value in a line. Returns `None` if the line is about another property,
-/// and in `UnicodeData.txt` if the field is empty, so that the code points have the default.
+/// or if the field is there and empty, so that the code points have the default.
 pub(crate) fn value_text<'t>(columns: Columns<'_>, content: &'t [u8]) -> Option<&'t [u8]> {
     match columns {
-        Columns::Field(n) => Some(field(n, content)),
+        Columns::Field(n) => {
+            if has_field(n, content) {
+                some_text(field(n, content))
+            } else {
+                Some(&[])
+            }
+        }
         Columns::UnicodeData(n) => some_text(field(n, content)),
         Columns::Property(name) => {
             if is_same_name(field(1, content), name) {
@@ -59,15 +70,32 @@ pub(crate) fn value_text<'t>(columns: Columns<'_>, content: &'t [u8]) -> Option<
                 None
             }
         }
+        Columns::Unihan(name) => {
+            if is_same_name(column(1, content), name) {
+                Some(column(2, content))
+            } else {
+                None
+            }
+        }
+    }
+}
+
+/// Returns a text that is not `<none>`, `<code point>` or `<script>`.
+fn untagged(text: &[u8]) -> Option<&[u8]> {
+    if text.starts_with(b"<".as_slice()) {
+        None
+    } else {
+        Some(text)
     }
 }
 
 /// Returns the text of the value in an `@missing` line, or `None` if the line is about another
-/// property.
+/// property or its value is not written as text.
 pub(crate) fn missing_text<'t>(columns: Columns<'_>, content: &'t [u8]) -> Option<&'t [u8]> {
     match columns {
-        Columns::Property(name) => value_text(columns, content),
-        Columns::Field(n) | Columns::UnicodeData(n) => Some(later_field(content)),
+        Columns::Property(name) => untagged(value_text(columns, content)?),
+        Columns::Field(n) | Columns::UnicodeData(n) => untagged(later_field(content)),
+        Columns::Unihan(name) => None,
     }
 }
 
@@ -94,7 +122,7 @@ fn checked_points(points: Option<CodePoints>) -> Result<CodePoints, LineFault> {
 pub(crate) fn is_paired(columns: Columns<'_>, previous: &[u8], content: &[u8]) -> bool {
     match columns {
         Columns::UnicodeData(n) => ends_in_first(previous) == ends_in_last(content),
-        Columns::Field(_) | Columns::Property(_) => true,
+        Columns::Field(_) | Columns::Property(_) | Columns::Unihan(_) => true,
     }
 }
 
@@ -108,6 +136,11 @@ fn joined(start: Option<CodePoints>, end: Option<CodePoints>) -> Option<CodePoin
     }
 }
 
+/// Returns the code points that a text has after `U+`, or `None` for any other text.
+fn marked_points(text: &[u8]) -> Option<CodePoints> {
+    code_points_of(after_mark(text)?)
+}
+
 /// Returns the code points of a line after the line `previous`.
 fn points_of(
     columns: Columns<'_>,
@@ -119,6 +152,7 @@ fn points_of(
         Columns::UnicodeData(_) if ends_in_last(content) => {
             checked_points(joined(code_points_of(field(0, previous)), own))
         }
+        Columns::Unihan(_) => checked_points(marked_points(column(0, content))),
         _ => checked_points(own),
     }
 }

@@ -91,3 +91,19 @@ pub fn read_rows(input: &[u8]) -> Result<Vec<Write<u32>>, TableError> {
     }
     Ok(writes)
 }
+
+/// Returns the writes of all rows of the table, as `read_rows` does, and shows the reader the line
+/// that is not one.
+///
+/// # Errors
+/// Returns the errors of [`read_rows`].
+pub fn read_shown_rows<S: Source>(
+    input: &[u8],
+    reader: &mut S,
+) -> Result<Vec<Write<u32>>, TableError> {
+    let rows = read_rows(input);
+    if let Err(TableError::Row(number, fault)) = rows {
+        reader.note_fault(number, line_at(input, number).unwrap_or(&[]), fault);
+    }
+    rows
+}

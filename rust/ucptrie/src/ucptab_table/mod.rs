@@ -14,7 +14,7 @@ pub mod text;
 pub mod words;
 
 use crate::ucptab_table::fault::TableError;
-use crate::ucptab_table::input::{read_all, read_rows};
+use crate::ucptab_table::input::{read_all, read_shown_rows};
 use crate::ucptab_table::streams::{Failed, Sink, Source};
 use crate::ucptab_table::text::{answers_text, ranges_text, write_fault};
 use crate::ucptab_table::words::{Request, asked_numbers, request_of};
@@ -52,7 +52,7 @@ fn table_text<S: Source>(
     reader: &mut S,
 ) -> Result<String, TableError> {
     let input = read_all(reader)?;
-    let writes = read_rows(&input)?;
+    let writes = read_shown_rows(&input, reader)?;
     answer_text(trie_type, default, error, &writes, asked)
 }
 

@@ -2,6 +2,8 @@
 
 #[allow(unused_imports)]
 use crate::host::{HostRuntime, Text};
+use crate::ucptab_table::fault::RowFault;
+
 /// A read or a write failed.
 #[derive(Clone, Copy, Debug, PartialEq, Eq)]
 pub struct Failed;
@@ -14,6 +16,10 @@ pub trait Source {
     /// # Errors
     /// Returns [`Failed`] if the read fails. It may have lost bytes.
     fn read(&mut self, buf: &mut [u8]) -> Result<usize, Failed>;
+
+    /// Is called with the first line that is not a row, its number, counted from 1, and its fault.
+    /// What is left to read stays the same.
+    fn note_fault(&mut self, number: u64, line: &[u8], fault: RowFault);
 }
 
 /// A stream to write to.

@@ -7,6 +7,7 @@ use crate::ucd_files::kind::{FileKind, kind_of};
 use crate::ucptab_table::fault::TableError;
 use crate::ucptab_table::message::row_message;
 use crate::ucptrie::fault::{Fault, about, plain, said};
+use crate::ucptrie::heading::with_heading;
 use crate::ucptrie::streams::{bytes_at, input_name};
 use crate::ucptrie::tables::{form, trie_type, width};
 use crate::ucptrie::unicode_files::build_file;
@@ -74,6 +75,8 @@ fn kind(matches: &ArgMatches, file: &[u8]) -> FileKind {
         Some("rows") => FileKind::Rows,
         Some("properties") => FileKind::Properties,
         Some("unicode-data") => FileKind::UnicodeData,
+        Some("code-points") => FileKind::CodePoints,
+        Some("unihan") => FileKind::Unihan,
         _ => match kind_of(file) {
             FileKind::Rows if has_properties(matches) => FileKind::Properties,
             kind => kind,
@@ -82,14 +85,16 @@ fn kind(matches: &ArgMatches, file: &[u8]) -> FileKind {
 }
 
 /// Builds a table of a file, or of standard input, in the form that the arguments name.
-pub fn build(rt: &HostRuntime, matches: &ArgMatches) -> Result<Vec<u8>, Fault> {
+/// `words` are the command.
+pub fn build(rt: &HostRuntime, words: &[String], matches: &ArgMatches) -> Result<Vec<u8>, Fault> {
     let path = matches
         .get_one::<String>("file")
         .map(String::as_str)
         .unwrap_or("-");
     let file = bytes_at(rt, path)?;
-    match kind(matches, &file) {
-        FileKind::Rows => build_rows(rt, matches, path, &file),
-        kind => build_file(rt, matches, path, &file, kind),
-    }
+    let bytes = match kind(matches, &file) {
+        FileKind::Rows => build_rows(rt, matches, path, &file)?,
+        kind => build_file(rt, matches, path, &file, kind)?,
+    };
+    Ok(with_heading(matches, words, path, &file, bytes)?)
 }

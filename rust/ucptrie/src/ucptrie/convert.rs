@@ -5,8 +5,9 @@ use crate::host::{HostRuntime, Text};
 use crate::support::prelude::*;
 use crate::ucptrie::build::unbuilt;
 use crate::ucptrie::fault::{Fault, about};
-use crate::ucptrie::streams::input_name;
-use crate::ucptrie::tables::{form, table_of, trie_type, width};
+use crate::ucptrie::heading::with_heading;
+use crate::ucptrie::streams::{bytes_at, input_name};
+use crate::ucptrie::tables::{form, table_in, trie_type, width};
 use crate::ucptrie_tables::fault::BuildFault;
 use crate::ucptrie_tables::rebuild::rebuilt;
 use crate::ucptrie_tables::table::Table;
@@ -30,15 +31,25 @@ fn changed(rt: &HostRuntime, matches: &ArgMatches, table: Table) -> Result<Table
 /// Returns the table of a file in the form that the arguments name.
 ///
 /// Rows are ranges. The ranges of a table that is not coherent may differ from its values, so its
-/// rows would make another table and are not written.
-pub fn convert(rt: &HostRuntime, matches: &ArgMatches) -> Result<Vec<u8>, Fault> {
+/// rows would make another table and are not written. `words` are the command.
+pub fn convert(rt: &HostRuntime, words: &[String], matches: &ArgMatches) -> Result<Vec<u8>, Fault> {
     let form = form(matches)?;
     let path = matches
         .get_one::<String>("file")
         .map(String::as_str)
         .unwrap_or("-");
     let name = input_name(path);
-    let table = match changed(rt, matches, table_of(rt, matches, path)?) {
+    let input = bytes_at(rt, path)?;
+    let table = match changed(
+        rt,
+        matches,
+        table_in(
+            matches,
+            path,
+            &input,
+            matches.get_one::<u32>("offset").copied(),
+        )?,
+    ) {
         Ok(table) => table,
         Err(fault) => return Err(unbuilt(name, &[], fault)),
     };
@@ -47,7 +58,7 @@ pub fn convert(rt: &HostRuntime, matches: &ArgMatches) -> Result<Vec<u8>, Fault>
         return Err(about(name, why));
     }
     match written(&table, form) {
-        Ok(bytes) => Ok(bytes),
+        Ok(bytes) => Ok(with_heading(matches, words, path, &input, bytes)?),
         Err(fault) => Err(unbuilt(name, &[], fault)),
     }
 }

@@ -6,6 +6,7 @@ use crate::support::AllocError;
 use crate::support::prelude::*;
 use crate::ucptrie::fault::{Fault, about, said};
 use crate::ucptrie::names::{module_name, name_of};
+use crate::ucptrie::offsets::from_trie;
 use crate::ucptrie::streams::{bytes_at, input_name};
 use crate::ucptrie_tables::fault::{ReadFault, TomlFault};
 use crate::ucptrie_tables::properties::{PropertyFault, read_property};
@@ -105,28 +106,38 @@ fn unchosen(path: &str, property: &str, fault: PropertyFault) -> Fault {
     }
 }
 
-/// Reads the table of a file, or of standard input if the file's name is `-`. In TOML it is that of
-/// the property that the arguments name.
-pub fn table_of(rt: &HostRuntime, matches: &ArgMatches, path: &str) -> Result<Table, Fault> {
-    let bytes = bytes_at(rt, path)?;
+/// Returns the table of a file with these bytes. In TOML it is that of the property that the
+/// arguments name, and in another file that of the trie at the given offset, or the only one.
+/// `path` is what the bytes were read from.
+pub fn table_in(
+    matches: &ArgMatches,
+    path: &str,
+    bytes: &[u8],
+    offset: Option<u32>,
+) -> Result<Table, Fault> {
     if bytes.is_empty() {
         return Err(about(input_name(path), "the file is empty"));
     }
+    let part = from_trie(input_name(path), bytes, offset)?;
     let property = matches.get_one::<String>("property").map(String::as_str);
-    match read_property(&bytes, property) {
+    match read_property(part, property) {
         Ok(table) => Ok(table),
         Err(fault) => Err(unchosen(path, property.unwrap_or(""), fault)),
     }
 }
 
-/// Reads the table of the file that the argument `id` names.
-pub fn table_at(rt: &HostRuntime, matches: &ArgMatches, id: &str) -> Result<Table, Fault> {
-    table_of(
-        rt,
-        matches,
-        matches
-            .get_one::<String>(id)
-            .map(String::as_str)
-            .unwrap_or("-"),
-    )
+/// Reads the table of the file that the argument `id` names, or of standard input if its name is
+/// `-`. The trie starts at an offset, if one is given.
+pub fn table_at(
+    rt: &HostRuntime,
+    matches: &ArgMatches,
+    id: &str,
+    offset: Option<u32>,
+) -> Result<Table, Fault> {
+    let path = matches
+        .get_one::<String>(id)
+        .map(String::as_str)
+        .unwrap_or("-");
+    let bytes = bytes_at(rt, path)?;
+    table_in(matches, path, &bytes, offset)
 }

@@ -5,7 +5,9 @@ use crate::host::{HostRuntime, Text};
 use crate::support::prelude::*;
 use crate::ucd_files::aliases::alias_names;
 use crate::ucd_files::fault::FileFault;
-use crate::ucd_files::kind::{FileKind, has_missing_lines, has_property};
+use crate::ucd_files::kind::{
+    FileKind, are_code_points, are_decimal, has_missing_lines, has_property,
+};
 use crate::ucd_files::names::{Name, Numbering, is_same_name};
 use crate::ucd_files::order::names_in_order;
 use crate::ucd_files::statement::Columns;
@@ -13,6 +15,7 @@ use crate::ucptab_table::input::line_at;
 use crate::ucptab_table::message::line_message;
 use crate::ucptrie::build::{options, unbuilt};
 use crate::ucptrie::fault::{Fault, about, said};
+use crate::ucptrie::overlap::has_overlap;
 use crate::ucptrie::streams::{bytes_at, input_name};
 use crate::ucptrie::tables::form;
 use crate::ucptrie_tables::fault::UnicodeFileFault;
@@ -47,8 +50,13 @@ fn unicode_data_field(property: &str) -> Result<usize, Fault> {
     Err(about(property, why))
 }
 
-/// Returns where the lines of a file have their values.
-fn columns<'a>(matches: &'a ArgMatches, kind: FileKind, file: &[u8]) -> Result<Columns<'a>, Fault> {
+/// Returns where the lines of a file have their values. `name` is what it was read from.
+pub fn columns<'a>(
+    matches: &'a ArgMatches,
+    kind: FileKind,
+    name: &str,
+    file: &[u8],
+) -> Result<Columns<'a>, Fault> {
     let is_unicode_data = matches!(kind, FileKind::UnicodeData);
     let field: Option<u32> = matches.get_one::<u32>("field").copied();
     match (
@@ -57,6 +65,14 @@ fn columns<'a>(matches: &'a ArgMatches, kind: FileKind, file: &[u8]) -> Result<C
     ) {
         (Some(n), _) if is_unicode_data => Ok(Columns::UnicodeData(n as usize)),
         (Some(n), _) => Ok(Columns::Field(n as usize)),
+        (None, Some(property)) if matches!(kind, FileKind::Unihan) => {
+            Ok(Columns::Unihan(property.as_bytes()))
+        }
+        (None, None) if matches!(kind, FileKind::Unihan) => {
+            let why = "the file has many properties: name one by --property";
+            Err(about(name, why))
+        }
+        (None, _) if matches!(kind, FileKind::CodePoints) => Ok(Columns::Field(0)),
         (None, Some(property)) if is_unicode_data => {
             Ok(Columns::UnicodeData(unicode_data_field(property)?))
         }
@@ -66,6 +82,10 @@ fn columns<'a>(matches: &'a ArgMatches, kind: FileKind, file: &[u8]) -> Result<C
         (None, None) if is_unicode_data => {
             let why = "the file has many properties: name one by --property or --field";
             Err(about("UnicodeData.txt", why))
+        }
+        (None, None) if has_overlap(file)? => {
+            let why = "a code point has two values: choose by --property or by --field";
+            Err(about(name, why))
         }
         _ => Ok(Columns::Field(1)),
     }
@@ -85,9 +105,11 @@ fn names_in<'f>(file: &'f [u8], columns: Columns<'_>) -> Result<Vec<Name<'f>>, F
     Ok(names_in_order(file, columns, names)?)
 }
 
-/// Returns whether the only value of a property is the property itself, as in `PropList.txt`.
-fn is_binary(columns: Columns<'_>, names: &[Name<'_>]) -> bool {
+/// Returns whether the lines have only code points, or the only value of a property is the property
+/// itself, as in `PropList.txt`.
+pub fn is_set(columns: Columns<'_>, names: &[Name<'_>]) -> bool {
     match (columns, names) {
+        (Columns::Field(0), _) => true,
         (Columns::Property(property), [value] | [_, value]) => is_same_name(value.text, property),
         _ => false,
     }
@@ -107,9 +129,37 @@ fn aliases<'f>(matches: &ArgMatches, file: &'f [u8]) -> Result<Vec<Name<'f>>, Fa
     Ok(names)
 }
 
+/// Returns the bytes of the file of aliases, or none if the arguments name no such file.
+pub fn named_file(rt: &HostRuntime, matches: &ArgMatches) -> Result<Vec<u8>, Fault> {
+    match matches.get_one::<String>("aliases").map(String::as_str) {
+        Some(path) => bytes_at(rt, path),
+        None => Ok(Vec::new()),
+    }
+}
+
+/// Returns the names of the values of a file: those in `named`, the file of aliases, if the
+/// arguments name one, and else those in the file itself.
+pub fn names<'f>(
+    matches: &ArgMatches,
+    file: &'f [u8],
+    columns: Columns<'_>,
+    named: &'f [u8],
+) -> Result<Vec<Name<'f>>, Fault> {
+    if matches
+        .get_one::<String>("aliases")
+        .map(String::as_str)
+        .is_some()
+    {
+        aliases(matches, named)
+    } else {
+        names_in(file, columns)
+    }
+}
+
 /// Returns how the values of a file become numbers.
 fn numbering<'n>(
     matches: &ArgMatches,
+    file: &[u8],
     columns: Columns<'_>,
     names: &'n [Name<'n>],
 ) -> Numbering<'n> {
@@ -117,19 +167,26 @@ fn numbering<'n>(
         Some("decimal") => Numbering::Decimal,
         Some("hexadecimal") => Numbering::Hexadecimal,
         Some("set") => Numbering::One,
-        None if is_binary(columns, names) => Numbering::One,
+        None if is_set(columns, names) => Numbering::One,
+        None if matches
+            .get_one::<String>("aliases")
+            .map(String::as_str)
+            .is_some() =>
+        {
+            Numbering::Names(names)
+        }
+        None if are_decimal(file, columns) => Numbering::Decimal,
+        None if are_code_points(file, columns) => Numbering::Hexadecimal,
         _ => Numbering::Names(names),
     }
 }
 
 /// Returns the fault of a file that makes no table. `path` is what it was read from.
-fn unread(path: &str, file: &[u8], fault: UnicodeFileFault) -> Fault {
+pub fn unread(path: &str, file: &[u8], fault: UnicodeFileFault) -> Fault {
     let name = input_name(path);
     match fault {
         UnicodeFileFault::File(FileFault::Memory) => Fault::Memory,
-        UnicodeFileFault::File(FileFault::Unfinished) => {
-            about(name, "the file ends after `<.., First>`")
-        }
+        UnicodeFileFault::File(FileFault::Unfinished) => about(name, FileFault::Unfinished),
         UnicodeFileFault::File(FileFault::Line(number, fault)) => {
             let line = line_at(file, number).unwrap_or(&[]);
             said(line_message(name, number, fault.expected(), line))
@@ -146,7 +203,7 @@ fn built_of_file(
     names: &[Name<'_>],
     form: Form<'_>,
 ) -> Result<Vec<u8>, UnicodeFileFault> {
-    let numbering = numbering(matches, columns, names);
+    let numbering = numbering(matches, file, columns, names);
     let table = table_of_file(file, columns, numbering, options(matches))?;
     let mut bytes = written(&table, form)?;
     if matches!(numbering, Numbering::Names(_)) {
@@ -166,20 +223,9 @@ pub fn build_file(
     kind: FileKind,
 ) -> Result<Vec<u8>, Fault> {
     let form = form(matches)?;
-    let columns = columns(matches, kind, file)?;
-    let named = match matches.get_one::<String>("aliases").map(String::as_str) {
-        Some(path) => bytes_at(rt, path)?,
-        None => Vec::new(),
-    };
-    let names = if matches
-        .get_one::<String>("aliases")
-        .map(String::as_str)
-        .is_some()
-    {
-        aliases(matches, &named)?
-    } else {
-        names_in(file, columns)?
-    };
+    let columns = columns(matches, kind, input_name(path), file)?;
+    let named = named_file(rt, matches)?;
+    let names = names(matches, file, columns, &named)?;
     match built_of_file(matches, file, columns, &names, form) {
         Ok(bytes) => Ok(bytes),
         Err(fault) => Err(unread(path, file, fault)),

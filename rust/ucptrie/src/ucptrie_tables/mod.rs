@@ -9,6 +9,7 @@
 //! - `unicode_file`: the table of a file of the Unicode Character Database
 //! - `written`: a table in one of the forms, as the bytes of a file
 //! - `shown`: what a table is, in lines, and its ranges; `sizes`: the bounds on its cells
+//! - `explain`: how a look-up goes, cell by cell
 //! - `diff`: the ranges in which two tables differ; `compare`: the first difference of
 //!   two files
 //! - `rebuild`: the same values in a trie of another type, with another width or error value
@@ -28,6 +29,7 @@ mod c_source;
 mod cells;
 pub mod compare;
 pub mod diff;
+pub mod explain;
 pub mod fault;
 mod pattern;
 pub mod properties;

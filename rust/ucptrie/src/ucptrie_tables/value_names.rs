@@ -53,8 +53,8 @@ fn push_identifier(text: &mut String, name: &[u8], has_capitals: bool) -> Result
     Ok(())
 }
 
-/// Appends the name of a value, without a digit at its start. No name stands for code points
-/// without a line.
+/// Appends the name of a value, without a digit at its start. The empty name is that of code
+/// points without a line.
 fn push_value_name(text: &mut String, name: &[u8], has_capitals: bool) -> Result<(), AllocError> {
     match name {
         [] => return text.try_push_str("Unlisted"),

@@ -1,0 +1,67 @@
+//! Tries inside other files, as in ICU's data files.
+use crate::fault::{Fault, about, said};
+use std::alloc::{AllocError, Global};
+
+/// The signatures of the binary form in the two byte orders.
+const SIGNATURES: [&[u8]; 2] = [b"Tri3", b"3irT"];
+
+/// How many offsets a message lists at most.
+const LISTED: usize = 32;
+
+/// Returns whether bytes start with a signature.
+fn starts_trie(bytes: &[u8]) -> bool {
+    SIGNATURES
+        .iter()
+        .any(|signature| bytes.starts_with(signature))
+}
+
+/// Returns the offsets of signatures, which are multiples of four.
+fn offsets_of(alloc: Global, bytes: &[u8]) -> Result<Vec<usize>, AllocError> {
+    let mut offsets = Vec::new(alloc);
+    for k in 0..bytes.len() / 4 {
+        if starts_trie(&bytes[4 * k..]) {
+            offsets.push(4 * k)?;
+        }
+    }
+    Ok(offsets)
+}
+
+/// Returns the line about a file with several tries.
+fn several_line(alloc: Global, name: &str, offsets: &[usize]) -> Result<String, AllocError> {
+    let mut line = String::new(alloc);
+    let count = offsets.len();
+    write!(line, "{name}: {count} tries, choose one by --offset:")?;
+    for offset in offsets.iter().take(LISTED) {
+        write!(line, " {offset}")?;
+    }
+    if count > LISTED {
+        line.push_str(" ..")?;
+    }
+    Ok(line)
+}
+
+/// Returns the part of a file that starts with a trie: from the given offset on, or else the file
+/// itself if it is text or starts with a trie, or else from its only trie on. `name` is what the
+/// file is called.
+pub fn from_trie<'b>(
+    alloc: Global,
+    name: &str,
+    bytes: &'b [u8],
+    offset: Option<u32>,
+) -> Result<&'b [u8], Fault> {
+    if let Some(offset) = offset {
+        let why = "the offset is beyond the end";
+        return bytes
+            .get(offset as usize..)
+            .ok_or_else(|| about(alloc, name, why));
+    }
+    if starts_trie(bytes) || str::from_utf8(bytes).is_ok() {
+        return Ok(bytes);
+    }
+    let offsets = offsets_of(alloc, bytes)?;
+    match offsets.as_slice() {
+        [] => Ok(bytes),
+        [offset] => Ok(bytes.get(*offset..).unwrap_or(bytes)),
+        _ => Err(said(several_line(alloc, name, &offsets))),
+    }
+}

@@ -1,0 +1,289 @@
+//! The command `set`: the set of the code points with a value, or of a file of sets, in a form.
+use crate::build::unbuilt;
+use crate::fault::{Fault, about};
+use crate::heading::with_heading;
+use crate::names::{module_name, name_of};
+use crate::streams::{bytes_at, input_name};
+use crate::tables::table_in;
+use crate::unicode_files::{columns, is_set, named_file, names, unread};
+use clap::ArgMatches;
+use icu_invlist::codepointinvlist::CodePointInversionList;
+use icu_invlist_binary::serialized::SerializedSetError;
+use icu_trie_core::header::TrieType;
+use std::alloc::Global;
+use std::str;
+use ucd_files::kind::{FileKind, kind_of};
+use ucd_files::names::{Name, Numbering, is_same_name, number_of};
+use ucd_files::statement::Columns;
+use ucptab_table::rows::content_of;
+use ucptrie_sets::fault::{SetFileFault, SetWriteFault, ValueSetFault};
+use ucptrie_sets::of_value::set_of_value;
+use ucptrie_sets::serialized::set_of_bytes;
+use ucptrie_sets::toml_file::set_of_file;
+use ucptrie_sets::written::{SetForm, written};
+use ucptrie_tables::table::{Table, TableOptions, table_of_rows};
+use ucptrie_tables::unicode_file::table_of_file;
+use ucptrie_tables::width::ValueWidth;
+
+/// What a file is.
+#[derive(Clone, Copy)]
+enum Source {
+    /// Lines: rows, or a file of the Unicode Character Database.
+    Lines(FileKind),
+    /// A table, as `convert` reads it.
+    Table,
+    /// TOML: a set of icuexportdata, or a table.
+    Toml,
+    /// A set in ICU's serialized form.
+    Serialized,
+}
+
+/// Returns whether a file is taken for TOML: its first line with content starts with `[` or has a
+/// `=`, as in no file of lines.
+fn is_toml(file: &[u8]) -> bool {
+    let Ok(text) = str::from_utf8(file) else {
+        return false;
+    };
+    let first = text
+        .lines()
+        .map(|line| content_of(line.as_bytes()))
+        .find(|it| !it.is_empty());
+    match first {
+        Some(content) => content.starts_with(b"[".as_slice()) || content.contains(&b'='),
+        None => false,
+    }
+}
+
+/// Returns whether a file is taken for JSON: its first byte after white space is `{`.
+fn is_json(file: &[u8]) -> bool {
+    match str::from_utf8(file) {
+        Ok(text) => text.trim_start().starts_with('{'),
+        Err(_) => false,
+    }
+}
+
+/// Returns the kind of lines: that of the file's start, but no rows if the arguments say where
+/// values are.
+fn kind(matches: &ArgMatches<'_>, file: &[u8]) -> FileKind {
+    let has_properties = matches.get_str("property").is_some()
+        || matches.get_str("aliases").is_some()
+        || matches.get_one::<u32>("field").is_some();
+    match kind_of(file) {
+        FileKind::Rows if has_properties => FileKind::Properties,
+        kind => kind,
+    }
+}
+
+/// Returns what a file is: what the arguments say, or what its first bytes say.
+fn source_of(matches: &ArgMatches<'_>, file: &[u8]) -> Source {
+    match matches.get_str("format") {
+        Some("rows") => return Source::Lines(FileKind::Rows),
+        Some("properties") => return Source::Lines(FileKind::Properties),
+        Some("unicode-data") => return Source::Lines(FileKind::UnicodeData),
+        Some("code-points") => return Source::Lines(FileKind::CodePoints),
+        Some("unihan") => return Source::Lines(FileKind::Unihan),
+        Some("table") => return Source::Table,
+        Some("toml") => return Source::Toml,
+        Some("serialized") => return Source::Serialized,
+        _ => {}
+    }
+    match file {
+        [b'3', b'i', b'r', b'T', ..] | [b'T', b'r', b'i', b'3', ..] => Source::Table,
+        _ if is_json(file) => Source::Table,
+        _ if is_toml(file) => Source::Toml,
+        _ => Source::Lines(kind(matches, file)),
+    }
+}
+
+/// Returns what a table is to be of which only the set of one value is wanted.
+fn options(default: u32) -> TableOptions {
+    TableOptions {
+        trie_type: TrieType::Fast,
+        width: ValueWidth::Bits32,
+        default,
+        error: 0,
+    }
+}
+
+/// Returns the set of a value in a table. `path` is what it was read from.
+fn set_in_table(
+    alloc: Global,
+    path: &str,
+    table: &Table,
+    value: u32,
+) -> Result<CodePointInversionList<'static>, Fault> {
+    match set_of_value(alloc, table, value) {
+        Ok(set) => Ok(set),
+        Err(ValueSetFault::Memory) => Err(Fault::Memory),
+        Err(fault) => Err(about(alloc, input_name(path), fault)),
+    }
+}
+
+/// Returns the value that the arguments ask for as a number, which is 1 if they ask for none.
+fn asked_number(alloc: Global, matches: &ArgMatches<'_>) -> Result<u32, Fault> {
+    let Some(text) = matches.get_str("value") else {
+        return Ok(1);
+    };
+    match number_of(Numbering::Decimal, text.as_bytes()) {
+        Some(value) => Ok(value),
+        None => Err(about(alloc, text, "expected a decimal number up to 4294967295")),
+    }
+}
+
+/// Returns the number of the value with this name.
+fn number_named(alloc: Global, names: &[Name<'_>], text: &str) -> Result<u32, Fault> {
+    for name in names {
+        if !name.text.is_empty()
+            && is_same_name(name.text, text.as_bytes())
+            && let Ok(number) = u32::try_from(name.number)
+        {
+            return Ok(number);
+        }
+    }
+    Err(about(alloc, text, "no value of the property has this name"))
+}
+
+/// Returns how the values of a file become numbers, and the number whose set is asked for.
+fn asked_value<'n>(
+    alloc: Global,
+    matches: &ArgMatches<'_>,
+    path: &str,
+    columns: Columns<'_>,
+    names: &'n [Name<'n>],
+) -> Result<(Numbering<'n>, u32), Fault> {
+    match matches.get_str("value") {
+        Some(text) => Ok((Numbering::Names(names), number_named(alloc, names, text)?)),
+        None if is_set(columns, names) => Ok((Numbering::One, 1)),
+        None => {
+            let why = "expected --value, or by --property a property that is true or false";
+            Err(about(alloc, input_name(path), why))
+        }
+    }
+}
+
+/// Returns the set of a value in a file of the Unicode Character Database. A code point without a
+/// line and without an `@missing` line has none of its values.
+fn set_of_unicode_file(
+    rt: &HostRuntime,
+    matches: &ArgMatches<'_>,
+    path: &str,
+    file: &[u8],
+    kind: FileKind,
+) -> Result<CodePointInversionList<'static>, Fault> {
+    let columns = columns(rt.alloc(), matches, kind, input_name(path), file)?;
+    let named = named_file(rt, matches)?;
+    let names = names(rt.alloc(), matches, file, columns, &named)?;
+    let (numbering, value) = asked_value(rt.alloc(), matches, path, columns, &names)?;
+    let table = match table_of_file(rt.alloc(), file, columns, numbering, options(u32::MAX)) {
+        Ok(table) => table,
+        Err(fault) => return Err(unread(rt.alloc(), path, file, fault)),
+    };
+    set_in_table(rt.alloc(), path, &table, value)
+}
+
+/// Returns the set of a value in rows.
+fn set_of_rows(
+    alloc: Global,
+    matches: &ArgMatches<'_>,
+    path: &str,
+    rows: &[u8],
+) -> Result<CodePointInversionList<'static>, Fault> {
+    let value = asked_number(alloc, matches)?;
+    match table_of_rows(alloc, rows, options(0)) {
+        Ok(table) => set_in_table(alloc, path, &table, value),
+        Err(fault) => Err(unbuilt(alloc, input_name(path), rows, fault)),
+    }
+}
+
+/// Returns the set of a value in a file with a table.
+fn set_of_table(
+    alloc: Global,
+    matches: &ArgMatches<'_>,
+    path: &str,
+    file: &[u8],
+) -> Result<CodePointInversionList<'static>, Fault> {
+    let value = asked_number(alloc, matches)?;
+    let table = table_in(alloc, matches, path, file, matches.get_one("offset"))?;
+    set_in_table(alloc, path, &table, value)
+}
+
+/// Returns the set of a TOML file: that of a property, or else that of a value in a table.
+fn set_of_toml(
+    alloc: Global,
+    matches: &ArgMatches<'_>,
+    path: &str,
+    file: &[u8],
+) -> Result<CodePointInversionList<'static>, Fault> {
+    let Ok(text) = str::from_utf8(file) else {
+        return set_of_table(alloc, matches, path, file);
+    };
+    match set_of_file(alloc, text, matches.get_str("property")) {
+        Ok(_) if matches.get_str("value").is_some() => {
+            let why = "the file has sets, and no table with values for --value";
+            Err(about(alloc, input_name(path), why))
+        }
+        Ok(set) => Ok(set),
+        Err(SetFileFault::Memory) => Err(Fault::Memory),
+        Err(SetFileFault::NotToml | SetFileFault::NoSets) => {
+            set_of_table(alloc, matches, path, file)
+        }
+        Err(fault) => Err(about(alloc, input_name(path), fault)),
+    }
+}
+
+/// Returns the set of a file in ICU's serialized form.
+fn set_of_serialized(
+    alloc: Global,
+    path: &str,
+    file: &[u8],
+) -> Result<CodePointInversionList<'static>, Fault> {
+    match set_of_bytes(alloc, file) {
+        Ok(set) => Ok(set),
+        Err(SerializedSetError::Memory) => Err(Fault::Memory),
+        Err(fault) => Err(about(alloc, input_name(path), fault)),
+    }
+}
+
+/// Returns the set that the arguments ask for.
+fn asked_set(
+    rt: &HostRuntime,
+    matches: &ArgMatches<'_>,
+    path: &str,
+    file: &[u8],
+) -> Result<CodePointInversionList<'static>, Fault> {
+    match source_of(matches, file) {
+        Source::Lines(FileKind::Rows) => set_of_rows(rt.alloc(), matches, path, file),
+        Source::Lines(kind) => set_of_unicode_file(rt, matches, path, file, kind),
+        Source::Table => set_of_table(rt.alloc(), matches, path, file),
+        Source::Toml => set_of_toml(rt.alloc(), matches, path, file),
+        Source::Serialized => set_of_serialized(rt.alloc(), path, file),
+    }
+}
+
+/// Returns the form that the arguments name.
+fn set_form<'a>(alloc: Global, matches: &ArgMatches<'a>) -> Result<SetForm<'a>, Fault> {
+    let name = name_of(alloc, matches.get_str("name").unwrap_or("set"))?;
+    Ok(match matches.get_str("as") {
+        Some("icu") => SetForm::Icu,
+        Some("toml") => SetForm::Toml(name),
+        Some("json") => SetForm::Json,
+        Some("c") => SetForm::C(name),
+        Some("c-frozen") => SetForm::FrozenC(name),
+        Some("rust") => SetForm::Rust(module_name(alloc, name)?),
+        Some("rust-frozen") => SetForm::FrozenRust(module_name(alloc, name)?),
+        _ => SetForm::Rows,
+    })
+}
+
+/// Returns the set that the arguments ask for, in the form that they name. `words` are the command.
+pub fn set(rt: &HostRuntime, words: &[String], matches: &ArgMatches<'_>) -> Result<Vec<u8>, Fault> {
+    let form = set_form(rt.alloc(), matches)?;
+    let path = matches.get_str("file").unwrap_or("-");
+    let file = bytes_at(rt, path)?;
+    let set = asked_set(rt, matches, path, &file)?;
+    match written(rt.alloc(), &set, form) {
+        Ok(bytes) => Ok(with_heading(rt.alloc(), matches, words, path, &file, bytes)?),
+        Err(SetWriteFault::Memory) => Err(Fault::Memory),
+        Err(fault) => Err(about(rt.alloc(), input_name(path), fault)),
+    }
+}

@@ -1,0 +1,87 @@
+//! The command `words`: a word list as a unit trie.
+use crate::fault::{Fault, about, said};
+use crate::heading::with_heading;
+use crate::names::{module_name, name_of};
+use crate::streams::{bytes_at, input_name};
+use clap::ArgMatches;
+use icu_char16trie::char16trie::Char16Trie;
+use std::alloc::{AllocError, Global};
+use ucptab_table::input::line_at;
+use ucptab_table::message::{line_message, push_quoted};
+use ucptrie_words::built::{trie_of_units, trie_of_words};
+use ucptrie_words::fault::{RowsFault, UnitsFault, WordsFault};
+use ucptrie_words::written::{Form, written};
+
+/// Returns the form that the arguments name.
+fn form<'a>(alloc: Global, matches: &ArgMatches<'a>) -> Result<Form<'a>, Fault> {
+    let name = name_of(alloc, matches.get_str("name").unwrap_or("words"))?;
+    Ok(match matches.get_str("as") {
+        Some("icu") => Form::Icu,
+        Some("c") => Form::C(name),
+        Some("rust") => Form::Rust(module_name(alloc, name)?),
+        _ => Form::Rows,
+    })
+}
+
+/// Returns the fault of a word list that makes no trie. `name` is what it was read from.
+fn unbuilt(alloc: Global, name: &str, list: &[u8], fault: WordsFault) -> Fault {
+    match fault {
+        WordsFault::Memory => Fault::Memory,
+        WordsFault::TooLarge => about(alloc, name, fault),
+        WordsFault::Line(number, fault) => {
+            let line = line_at(list, number).unwrap_or(&[]);
+            said(line_message(alloc, name, number, fault.expected(), line))
+        }
+    }
+}
+
+/// Returns the trie of a file: of its words, or of its units if the arguments say that it has them.
+fn trie<'f>(
+    alloc: Global,
+    matches: &ArgMatches<'_>,
+    name: &str,
+    file: &'f [u8],
+) -> Result<Char16Trie<'f>, Fault> {
+    if matches.get_str("format") == Some("icu") {
+        return match trie_of_units(alloc, file) {
+            Ok(trie) => Ok(trie),
+            Err(UnitsFault::Memory) => Err(Fault::Memory),
+            Err(fault) => Err(about(alloc, name, fault)),
+        };
+    }
+    match trie_of_words(alloc, file) {
+        Ok(trie) => Ok(trie),
+        Err(fault) => Err(unbuilt(alloc, name, file, fault)),
+    }
+}
+
+/// Returns the line about a key that no line can have.
+fn key_line(alloc: Global, name: &str, key: &str) -> Result<String, AllocError> {
+    let mut line = String::new(alloc);
+    write!(line, "{name}: expected keys for lines KEY;VALUE, found ")?;
+    push_quoted(&mut line, key.as_bytes())?;
+    Ok(line)
+}
+
+/// Returns the trie of a file, or of standard input, in the form that the arguments name. `words`
+/// are the command.
+pub fn word_list(
+    rt: &HostRuntime,
+    words: &[String],
+    matches: &ArgMatches<'_>,
+) -> Result<Vec<u8>, Fault> {
+    let form = form(rt.alloc(), matches)?;
+    let path = matches.get_str("file").unwrap_or("-");
+    let name = input_name(path);
+    let file = bytes_at(rt, path)?;
+    let trie = trie(rt.alloc(), matches, name, &file)?;
+    if trie.data.is_empty() && !matches!(form, Form::Rows) {
+        let why = "no words, and no units: UCharsTrie needs one word at least";
+        return Err(about(rt.alloc(), name, why));
+    }
+    match written(rt.alloc(), &trie, form) {
+        Ok(bytes) => Ok(with_heading(rt.alloc(), matches, words, path, &file, bytes)?),
+        Err(RowsFault::Memory) => Err(Fault::Memory),
+        Err(RowsFault::Key(key)) => Err(said(key_line(rt.alloc(), name, &key))),
+    }
+}

@@ -1,0 +1,120 @@
+//! The first lines of source: the command that makes it, and what its input says of itself.
+#[allow(unused_imports)]
+use crate::host::{HostRuntime, Text};
+use crate::support::AllocError;
+#[allow(unused_imports)]
+use crate::support::prelude::*;
+use crate::ucd_files::title::{note_of, title_of};
+use crate::ucptab_table::input::first_line;
+use clap::ArgMatches;
+
+/// Returns how many words, from this one on, only name the output.
+fn words_of_target(word: &str) -> usize {
+    match word {
+        "-o" | "--output" | "--check" => 2,
+        _ if word.starts_with("--output=") || word.starts_with("--check=") => 1,
+        _ if word.starts_with("-o") => 1,
+        _ => 0,
+    }
+}
+
+/// Returns whether a shell reads the word as it is.
+fn is_bare(word: &str) -> bool {
+    !word.is_empty()
+        && word
+            .bytes()
+            .all(|byte| byte.is_ascii_alphanumeric() || b"-_./:=,+@%".contains(&byte))
+}
+
+/// Appends a text, with `?` for each character that could end a comment's line.
+fn push_in_line(text: &mut String, words: &str) -> Result<(), AllocError> {
+    for c in words.chars() {
+        text.try_push(if c.is_control() { '?' } else { c })?;
+    }
+    Ok(())
+}
+
+/// Appends a word of the command, between quotes if a shell would not read it as it is.
+fn push_word(text: &mut String, word: &str) -> Result<(), AllocError> {
+    if is_bare(word) {
+        return text.try_push_str(word);
+    }
+    text.try_push('\'')?;
+    for (i, piece) in word.split('\'').enumerate() {
+        if i > 0 {
+            text.try_push_str("'\\''")?;
+        }
+        push_in_line(text, piece)?;
+    }
+    text.try_push('\'')
+}
+
+/// Appends the line with the command, without the words that name the output: so
+/// `--check` expects what `--output` wrote.
+fn push_command(text: &mut String, words: &[String]) -> Result<(), AllocError> {
+    text.try_push_str("// ucptrie")?;
+    let mut left_out = 0;
+    for word in words.iter().skip(1) {
+        if left_out == 0 {
+            left_out = words_of_target(word);
+        }
+        if left_out == 0 {
+            text.try_push(' ')?;
+            push_word(text, word)?;
+        } else {
+            left_out -= 1;
+        }
+    }
+    text.try_push('\n')
+}
+
+/// Appends what the input says, if it is text.
+fn push_note(text: &mut String, mark: &str, note: &[u8]) -> Result<(), AllocError> {
+    let Ok(note) = str::from_utf8(note) else {
+        return Ok(());
+    };
+    text.try_push_str(mark)?;
+    push_in_line(text, note)
+}
+
+/// Appends what an input says of itself, as a list in one line: its title, or else the file's name,
+/// and its date or its versions. Appends nothing about standard input without a title.
+fn push_origin(text: &mut String, path: &str, input: &[u8]) -> Result<(), AllocError> {
+    match title_of(input) {
+        Some(title) => push_note(text, "// From ", title)?,
+        None if path == "-" => return Ok(()),
+        None => push_note(text, "// From ", path.as_bytes())?,
+    }
+    let mut rest = input;
+    while let Some((line, after)) = first_line(rest) {
+        rest = after;
+        if let Some(note) = note_of(line) {
+            push_note(text, ", ", note)?;
+        }
+    }
+    // A `\` at the end of a line would continue the comment in C.
+    text.try_push_str(".\n")
+}
+
+/// Returns what a command writes, with these lines before it if it is source. `words` are the
+/// command, and `path` is what its input was read from.
+pub fn with_heading(
+    matches: &ArgMatches,
+    words: &[String],
+    path: &str,
+    input: &[u8],
+    bytes: Vec<u8>,
+) -> Result<Vec<u8>, AllocError> {
+    if !matches!(
+        matches.get_one::<String>("as").map(String::as_str),
+        Some("c" | "rust" | "c-frozen" | "rust-frozen")
+    ) {
+        return Ok(bytes);
+    }
+    let mut text = String::new();
+    push_command(&mut text, words)?;
+    push_origin(&mut text, path, input)?;
+    let mut whole = text.into_bytes();
+    whole.try_extend_from_slice(&bytes)?;
+    Ok(whole)
+}

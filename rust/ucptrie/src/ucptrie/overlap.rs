@@ -1,0 +1,38 @@
+//! Whether a file gives two values to a code point, as files of several properties do.
+#[allow(unused_imports)]
+use crate::host::{HostRuntime, Text};
+use crate::support::AllocError;
+#[allow(unused_imports)]
+use crate::support::prelude::*;
+use crate::ucd_files::fields::field;
+use crate::ucptab_table::input::first_line;
+use crate::ucptab_table::rows::{CodePoints, code_points_of, content_of};
+
+/// Returns the code points of all lines that start with some, as ranges.
+fn ranges_of(file: &[u8]) -> Result<Vec<(u32, u32)>, AllocError> {
+    let mut ranges = Vec::new();
+    let mut rest = file;
+    while let Some((line, after)) = first_line(rest) {
+        rest = after;
+        match code_points_of(field(0, content_of(line))) {
+            Some(CodePoints::Single(code_point)) => ranges.try_push((code_point, code_point))?,
+            Some(CodePoints::Span(start, end)) => ranges.try_push((start, end))?,
+            None => {}
+        }
+    }
+    Ok(ranges)
+}
+
+/// Returns whether two lines give a value to the same code point.
+pub fn has_overlap(file: &[u8]) -> Result<bool, AllocError> {
+    let mut ranges = ranges_of(file)?;
+    ranges.sort_unstable();
+    let mut end = None;
+    for (start, last) in ranges {
+        if end.is_some_and(|end| start <= end) {
+            return Ok(true);
+        }
+        end = Some(last);
+    }
+    Ok(false)
+}

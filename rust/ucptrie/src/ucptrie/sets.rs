@@ -1,0 +1,307 @@
+//! The command `set`: the set of the code points with a value, or of a file of sets, in a form.
+#[allow(unused_imports)]
+use crate::host::{HostRuntime, Text};
+#[allow(unused_imports)]
+use crate::support::prelude::*;
+use crate::ucd_files::kind::{FileKind, kind_of};
+use crate::ucd_files::names::{Name, Numbering, is_same_name, number_of};
+use crate::ucd_files::statement::Columns;
+use crate::ucptab_table::rows::content_of;
+use crate::ucptrie::build::unbuilt;
+use crate::ucptrie::fault::{Fault, about};
+use crate::ucptrie::heading::with_heading;
+use crate::ucptrie::names::{module_name, name_of};
+use crate::ucptrie::streams::{bytes_at, input_name};
+use crate::ucptrie::tables::table_in;
+use crate::ucptrie::unicode_files::{columns, is_set, named_file, names, unread};
+use crate::ucptrie_sets::fault::{SetFileFault, SetWriteFault, ValueSetFault};
+use crate::ucptrie_sets::of_value::set_of_value;
+use crate::ucptrie_sets::serialized::set_of_bytes;
+use crate::ucptrie_sets::toml_file::set_of_file;
+use crate::ucptrie_sets::written::{SetForm, written};
+use crate::ucptrie_tables::table::{Table, TableOptions, table_of_rows};
+use crate::ucptrie_tables::unicode_file::table_of_file;
+use crate::ucptrie_tables::width::ValueWidth;
+use bekstaudi::codepointinvlist::CodePointInversionList;
+use bekstaudi::codepointinvlist::serialized::SerializedSetError;
+use bekstaudi::codepointtrie::TrieType;
+use clap::ArgMatches;
+
+/// What a file is.
+#[derive(Clone, Copy)]
+enum Source {
+    /// Lines: rows, or a file of the Unicode Character Database.
+    Lines(FileKind),
+    /// A table, as `convert` reads it.
+    Table,
+    /// TOML: a set of icuexportdata, or a table.
+    Toml,
+    /// A set in ICU's serialized form.
+    Serialized,
+}
+
+/// Returns whether a file is taken for TOML: its first line with content starts with `[` or has a
+/// `=`, as in no file of lines.
+fn is_toml(file: &[u8]) -> bool {
+    let Ok(text) = str::from_utf8(file) else {
+        return false;
+    };
+    let first = text
+        .lines()
+        .map(|line| content_of(line.as_bytes()))
+        .find(|it| !it.is_empty());
+    match first {
+        Some(content) => content.starts_with(b"[".as_slice()) || content.contains(&b'='),
+        None => false,
+    }
+}
+
+/// Returns whether a file is taken for JSON: its first byte after white space is `{`.
+fn is_json(file: &[u8]) -> bool {
+    match str::from_utf8(file) {
+        Ok(text) => text.trim_start().starts_with('{'),
+        Err(_) => false,
+    }
+}
+
+/// Returns the kind of lines: that of the file's start, but no rows if the arguments say where
+/// values are.
+fn kind(matches: &ArgMatches, file: &[u8]) -> FileKind {
+    let has_properties = matches
+        .get_one::<String>("property")
+        .map(String::as_str)
+        .is_some()
+        || matches
+            .get_one::<String>("aliases")
+            .map(String::as_str)
+            .is_some()
+        || matches.get_one::<u32>("field").is_some();
+    match kind_of(file) {
+        FileKind::Rows if has_properties => FileKind::Properties,
+        kind => kind,
+    }
+}
+
+/// Returns what a file is: what the arguments say, or what its first bytes say.
+fn source_of(matches: &ArgMatches, file: &[u8]) -> Source {
+    match matches.get_one::<String>("format").map(String::as_str) {
+        Some("rows") => return Source::Lines(FileKind::Rows),
+        Some("properties") => return Source::Lines(FileKind::Properties),
+        Some("unicode-data") => return Source::Lines(FileKind::UnicodeData),
+        Some("code-points") => return Source::Lines(FileKind::CodePoints),
+        Some("unihan") => return Source::Lines(FileKind::Unihan),
+        Some("table") => return Source::Table,
+        Some("toml") => return Source::Toml,
+        Some("serialized") => return Source::Serialized,
+        _ => {}
+    }
+    match file {
+        [b'3', b'i', b'r', b'T', ..] | [b'T', b'r', b'i', b'3', ..] => Source::Table,
+        _ if is_json(file) => Source::Table,
+        _ if is_toml(file) => Source::Toml,
+        _ => Source::Lines(kind(matches, file)),
+    }
+}
+
+/// Returns what a table is to be of which only the set of one value is wanted.
+fn options(default: u32) -> TableOptions {
+    TableOptions {
+        trie_type: TrieType::Fast,
+        width: ValueWidth::Bits32,
+        default,
+        error: 0,
+    }
+}
+
+/// Returns the set of a value in a table. `path` is what it was read from.
+fn set_in_table(
+    path: &str,
+    table: &Table,
+    value: u32,
+) -> Result<CodePointInversionList<'static>, Fault> {
+    match set_of_value(table, value) {
+        Ok(set) => Ok(set),
+        Err(ValueSetFault::Memory) => Err(Fault::Memory),
+        Err(fault) => Err(about(input_name(path), fault)),
+    }
+}
+
+/// Returns the value that the arguments ask for as a number, which is 1 if they ask for none.
+fn asked_number(matches: &ArgMatches) -> Result<u32, Fault> {
+    let Some(text) = matches.get_one::<String>("value").map(String::as_str) else {
+        return Ok(1);
+    };
+    match number_of(Numbering::Decimal, text.as_bytes()) {
+        Some(value) => Ok(value),
+        None => Err(about(text, "expected a decimal number up to 4294967295")),
+    }
+}
+
+/// Returns the number of the value with this name.
+fn number_named(names: &[Name<'_>], text: &str) -> Result<u32, Fault> {
+    for name in names {
+        if !name.text.is_empty()
+            && is_same_name(name.text, text.as_bytes())
+            && let Ok(number) = u32::try_from(name.number)
+        {
+            return Ok(number);
+        }
+    }
+    Err(about(text, "no value of the property has this name"))
+}
+
+/// Returns how the values of a file become numbers, and the number whose set is asked for.
+fn asked_value<'n>(
+    matches: &ArgMatches,
+    path: &str,
+    columns: Columns<'_>,
+    names: &'n [Name<'n>],
+) -> Result<(Numbering<'n>, u32), Fault> {
+    match matches.get_one::<String>("value").map(String::as_str) {
+        Some(text) => Ok((Numbering::Names(names), number_named(names, text)?)),
+        None if is_set(columns, names) => Ok((Numbering::One, 1)),
+        None => {
+            let why = "expected --value, or by --property a property that is true or false";
+            Err(about(input_name(path), why))
+        }
+    }
+}
+
+/// Returns the set of a value in a file of the Unicode Character Database. A code point without a
+/// line and without an `@missing` line has none of its values.
+fn set_of_unicode_file(
+    rt: &HostRuntime,
+    matches: &ArgMatches,
+    path: &str,
+    file: &[u8],
+    kind: FileKind,
+) -> Result<CodePointInversionList<'static>, Fault> {
+    let columns = columns(matches, kind, input_name(path), file)?;
+    let named = named_file(rt, matches)?;
+    let names = names(matches, file, columns, &named)?;
+    let (numbering, value) = asked_value(matches, path, columns, &names)?;
+    let table = match table_of_file(file, columns, numbering, options(u32::MAX)) {
+        Ok(table) => table,
+        Err(fault) => return Err(unread(path, file, fault)),
+    };
+    set_in_table(path, &table, value)
+}
+
+/// Returns the set of a value in rows.
+fn set_of_rows(
+    matches: &ArgMatches,
+    path: &str,
+    rows: &[u8],
+) -> Result<CodePointInversionList<'static>, Fault> {
+    let value = asked_number(matches)?;
+    match table_of_rows(rows, options(0)) {
+        Ok(table) => set_in_table(path, &table, value),
+        Err(fault) => Err(unbuilt(input_name(path), rows, fault)),
+    }
+}
+
+/// Returns the set of a value in a file with a table.
+fn set_of_table(
+    matches: &ArgMatches,
+    path: &str,
+    file: &[u8],
+) -> Result<CodePointInversionList<'static>, Fault> {
+    let value = asked_number(matches)?;
+    let table = table_in(
+        matches,
+        path,
+        file,
+        matches.get_one::<u32>("offset").copied(),
+    )?;
+    set_in_table(path, &table, value)
+}
+
+/// Returns the set of a TOML file: that of a property, or else that of a value in a table.
+fn set_of_toml(
+    matches: &ArgMatches,
+    path: &str,
+    file: &[u8],
+) -> Result<CodePointInversionList<'static>, Fault> {
+    let Ok(text) = str::from_utf8(file) else {
+        return set_of_table(matches, path, file);
+    };
+    match set_of_file(
+        text,
+        matches.get_one::<String>("property").map(String::as_str),
+    ) {
+        Ok(_)
+            if matches
+                .get_one::<String>("value")
+                .map(String::as_str)
+                .is_some() =>
+        {
+            let why = "the file has sets, and no table with values for --value";
+            Err(about(input_name(path), why))
+        }
+        Ok(set) => Ok(set),
+        Err(SetFileFault::Memory) => Err(Fault::Memory),
+        Err(SetFileFault::NotToml | SetFileFault::NoSets) => set_of_table(matches, path, file),
+        Err(fault) => Err(about(input_name(path), fault)),
+    }
+}
+
+/// Returns the set of a file in ICU's serialized form.
+fn set_of_serialized(path: &str, file: &[u8]) -> Result<CodePointInversionList<'static>, Fault> {
+    match set_of_bytes(file) {
+        Ok(set) => Ok(set),
+        Err(SerializedSetError::Memory) => Err(Fault::Memory),
+        Err(fault) => Err(about(input_name(path), fault)),
+    }
+}
+
+/// Returns the set that the arguments ask for.
+fn asked_set(
+    rt: &HostRuntime,
+    matches: &ArgMatches,
+    path: &str,
+    file: &[u8],
+) -> Result<CodePointInversionList<'static>, Fault> {
+    match source_of(matches, file) {
+        Source::Lines(FileKind::Rows) => set_of_rows(matches, path, file),
+        Source::Lines(kind) => set_of_unicode_file(rt, matches, path, file, kind),
+        Source::Table => set_of_table(matches, path, file),
+        Source::Toml => set_of_toml(matches, path, file),
+        Source::Serialized => set_of_serialized(path, file),
+    }
+}
+
+/// Returns the form that the arguments name.
+fn set_form(matches: &ArgMatches) -> Result<SetForm<'_>, Fault> {
+    let name = name_of(
+        matches
+            .get_one::<String>("name")
+            .map(String::as_str)
+            .unwrap_or("set"),
+    )?;
+    Ok(match matches.get_one::<String>("as").map(String::as_str) {
+        Some("icu") => SetForm::Icu,
+        Some("toml") => SetForm::Toml(name),
+        Some("json") => SetForm::Json,
+        Some("c") => SetForm::C(name),
+        Some("c-frozen") => SetForm::FrozenC(name),
+        Some("rust") => SetForm::Rust(module_name(name)?),
+        Some("rust-frozen") => SetForm::FrozenRust(module_name(name)?),
+        _ => SetForm::Rows,
+    })
+}
+
+/// Returns the set that the arguments ask for, in the form that they name. `words` are the command.
+pub fn set(rt: &HostRuntime, words: &[String], matches: &ArgMatches) -> Result<Vec<u8>, Fault> {
+    let form = set_form(matches)?;
+    let path = matches
+        .get_one::<String>("file")
+        .map(String::as_str)
+        .unwrap_or("-");
+    let file = bytes_at(rt, path)?;
+    let set = asked_set(rt, matches, path, &file)?;
+    match written(&set, form) {
+        Ok(bytes) => Ok(with_heading(matches, words, path, &file, bytes)?),
+        Err(SetWriteFault::Memory) => Err(Fault::Memory),
+        Err(fault) => Err(about(input_name(path), fault)),
+    }
+}

@@ -1,0 +1,94 @@
+//! The command `words`: a word list as a unit trie.
+#[allow(unused_imports)]
+use crate::host::{HostRuntime, Text};
+use crate::support::AllocError;
+#[allow(unused_imports)]
+use crate::support::prelude::*;
+use crate::ucptab_table::input::line_at;
+use crate::ucptab_table::message::{line_message, push_quoted};
+use crate::ucptrie::fault::{Fault, about, said};
+use crate::ucptrie::heading::with_heading;
+use crate::ucptrie::names::{module_name, name_of};
+use crate::ucptrie::streams::{bytes_at, input_name};
+use crate::ucptrie_words::built::{trie_of_units, trie_of_words};
+use crate::ucptrie_words::fault::{RowsFault, UnitsFault, WordsFault};
+use crate::ucptrie_words::written::{Form, written};
+use bekstaudi::char16trie::Char16Trie;
+use clap::ArgMatches;
+
+/// Returns the form that the arguments name.
+fn form(matches: &ArgMatches) -> Result<Form<'_>, Fault> {
+    let name = name_of(
+        matches
+            .get_one::<String>("name")
+            .map(String::as_str)
+            .unwrap_or("words"),
+    )?;
+    Ok(match matches.get_one::<String>("as").map(String::as_str) {
+        Some("icu") => Form::Icu,
+        Some("c") => Form::C(name),
+        Some("rust") => Form::Rust(module_name(name)?),
+        _ => Form::Rows,
+    })
+}
+
+/// Returns the fault of a word list that makes no trie. `name` is what it was read from.
+fn unbuilt(name: &str, list: &[u8], fault: WordsFault) -> Fault {
+    match fault {
+        WordsFault::Memory => Fault::Memory,
+        WordsFault::TooLarge => about(name, fault),
+        WordsFault::Line(number, fault) => {
+            let line = line_at(list, number).unwrap_or(&[]);
+            said(line_message(name, number, fault.expected(), line))
+        }
+    }
+}
+
+/// Returns the trie of a file: of its words, or of its units if the arguments say that it has them.
+fn trie<'f>(matches: &ArgMatches, name: &str, file: &'f [u8]) -> Result<Char16Trie<'f>, Fault> {
+    if matches.get_one::<String>("format").map(String::as_str) == Some("icu") {
+        return match trie_of_units(file) {
+            Ok(trie) => Ok(trie),
+            Err(UnitsFault::Memory) => Err(Fault::Memory),
+            Err(fault) => Err(about(name, fault)),
+        };
+    }
+    match trie_of_words(file) {
+        Ok(trie) => Ok(trie),
+        Err(fault) => Err(unbuilt(name, file, fault)),
+    }
+}
+
+/// Returns the line about a key that no line can have.
+fn key_line(name: &str, key: &str) -> Result<String, AllocError> {
+    let mut line = String::new();
+    write!(line, "{name}: expected keys for lines KEY;VALUE, found ")?;
+    push_quoted(&mut line, key.as_bytes())?;
+    Ok(line)
+}
+
+/// Returns the trie of a file, or of standard input, in the form that the arguments name. `words`
+/// are the command.
+pub fn word_list(
+    rt: &HostRuntime,
+    words: &[String],
+    matches: &ArgMatches,
+) -> Result<Vec<u8>, Fault> {
+    let form = form(matches)?;
+    let path = matches
+        .get_one::<String>("file")
+        .map(String::as_str)
+        .unwrap_or("-");
+    let name = input_name(path);
+    let file = bytes_at(rt, path)?;
+    let trie = trie(matches, name, &file)?;
+    if trie.data.is_empty() && !matches!(form, Form::Rows) {
+        let why = "no words, and no units: UCharsTrie needs one word at least";
+        return Err(about(name, why));
+    }
+    match written(&trie, form) {
+        Ok(bytes) => Ok(with_heading(matches, words, path, &file, bytes)?),
+        Err(RowsFault::Memory) => Err(Fault::Memory),
+        Err(RowsFault::Key(key)) => Err(said(key_line(name, &key))),
+    }
+}

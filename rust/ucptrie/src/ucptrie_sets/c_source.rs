@@ -1,0 +1,110 @@
+//! A set as source in C.
+#[allow(unused_imports)]
+use crate::host::{HostRuntime, Text};
+use crate::support::AllocError;
+#[allow(unused_imports)]
+use crate::support::prelude::*;
+use crate::ucptrie_sets::source::{
+    push_boundaries, push_named, push_packed_indices, push_title, push_words,
+};
+use bekstaudi::codepointinvlist::CodePointInversionList;
+use bekstaudi::codepointinvlist::FrozenCodePointSet;
+
+/// The headers.
+const HEADERS: &str = "
+#include <stdbool.h>
+#include <stdint.h>
+
+";
+
+/// What the boundaries are.
+const BOUNDARIES: &str = "\
+// The set starts at the first boundary, ends before the second one, and so on.
+";
+
+/// The search in the boundaries. Each `@` stands for the name.
+const SEARCH: &str = "
+};
+
+// Whether c is in the set: whether an odd number of boundaries are at most c.
+static inline bool @_contains(uint32_t c) {
+    uint32_t low = 0, high = @_length;
+    while (low < high) {
+        uint32_t middle = (low + high) / 2;
+        if (@_boundaries[middle] <= c) {
+            low = middle + 1;
+        } else {
+            high = middle;
+        }
+    }
+    return low % 2 == 1;
+}
+";
+
+/// Returns the set in C: an array with the boundaries, and a search in it. An array in C is not
+/// empty, so that of the empty set has a cell that is not read.
+pub(crate) fn c_text(set: &CodePointInversionList<'_>, name: &str) -> Result<String, AllocError> {
+    let mut text = String::new();
+    push_title(&mut text, set)?;
+    text.try_push_str(HEADERS)?;
+    text.try_push_str(BOUNDARIES)?;
+    let length = set.as_inversion_list().len();
+    let cells = length.max(1);
+    writeln!(text, "enum {{ {name}_length = {length} }};\n")?;
+    writeln!(
+        text,
+        "static const uint32_t {name}_boundaries[{cells}] = {{"
+    )?;
+    if length == 0 {
+        text.try_push('0')?;
+    }
+    push_boundaries(&mut text, set)?;
+    push_named(&mut text, SEARCH, name)?;
+    Ok(text)
+}
+
+/// What the words of a frozen set are.
+const WORDS: &str = "\
+// The words of the frozen set, for bks_frozen_contains and bks_frozen_has of bekstaudi.h. The first
+// 1088 have four offsets each, one for each block of 256 code points. The others have a bit for
+// each code point of a block, 64 in each word.
+";
+
+/// The look-up in the words. Each `@` stands for the name.
+const LOOK_UP: &str = "
+};
+
+// Whether c is in the set, by two reads and without a library.
+static inline bool @_contains(uint32_t c) {
+    uint32_t block;
+    if (c > 0x10ffff) return false;
+    block = (uint32_t)(@_words[c >> 10] >> (c >> 8 & 3) * 16) & 0xffff;
+    return @_words[1088 + block + (c >> 6 & 3)] >> (c & 63) & 1;
+}
+";
+
+/// Returns the frozen set in C: an array with its words, and a look-up in it.
+pub(crate) fn frozen_c_text(
+    set: &CodePointInversionList<'_>,
+    name: &str,
+) -> Result<String, AllocError> {
+    let Ok(frozen) = FrozenCodePointSet::try_freeze(set) else {
+        return Err(AllocError);
+    };
+    let tables = frozen.tables();
+    let mut text = String::new();
+    push_title(&mut text, set)?;
+    text.try_push_str(WORDS)?;
+    text.try_push_str(HEADERS)?;
+    let words = 1088 + tables.words.len();
+    writeln!(text, "enum {{ {name}_length = {words} }};\n")?;
+    writeln!(
+        text,
+        "static const uint64_t {name}_words[{name}_length] = {{"
+    )?;
+    push_packed_indices(&mut text, tables.index)?;
+    text.try_push_str(",\n")?;
+    push_words(&mut text, 0, tables.words)?;
+    push_named(&mut text, LOOK_UP, name)?;
+    Ok(text)
+}

@@ -1,0 +1,91 @@
+//! A set as source in Rust.
+#[allow(unused_imports)]
+use crate::host::{HostRuntime, Text};
+use crate::support::AllocError;
+#[allow(unused_imports)]
+use crate::support::prelude::*;
+use crate::ucptrie_sets::source::{push_boundaries, push_indices, push_title, push_words};
+use bekstaudi::codepointinvlist::CodePointInversionList;
+use bekstaudi::codepointinvlist::FrozenCodePointSet;
+
+/// The search in the boundaries.
+const SEARCH: &str = "
+    ];
+
+    /// Returns whether the set contains `c`: whether an odd number of boundaries are at most `c`.
+    pub fn contains(c: u32) -> bool {
+        BOUNDARIES.partition_point(|&boundary| boundary <= c) % 2 == 1
+    }
+}
+";
+
+/// What the boundaries are.
+const BOUNDARIES: &str = "    \
+/// The set starts at the first boundary, ends before the second one, and so on.
+    #[rustfmt::skip]
+";
+
+/// Returns the set in Rust: a module with the boundaries, and a search in them.
+pub(crate) fn rust_text(
+    set: &CodePointInversionList<'_>,
+    name: &str,
+) -> Result<String, AllocError> {
+    let mut text = String::new();
+    push_title(&mut text, set)?;
+    writeln!(text, "#[allow(dead_code)]\npub mod {name} {{")?;
+    text.try_push_str(BOUNDARIES)?;
+    let length = set.as_inversion_list().len();
+    writeln!(text, "    pub static BOUNDARIES: [u32; {length}] = [")?;
+    push_boundaries(&mut text, set)?;
+    text.try_push_str(SEARCH)?;
+    Ok(text)
+}
+
+/// The look-up in the tables.
+const LOOK_UP: &str = "
+    ];
+
+    /// Returns whether the set contains `c`, by two reads.
+    pub fn contains(c: u32) -> bool {
+        let Some(&first) = INDEX.get((c >> 8) as usize) else {
+            return false;
+        };
+        let word = WORDS[usize::from(first) + (c >> 6 & 3) as usize];
+        (word >> (c & 63)) & 1 == 1
+    }
+}
+";
+
+/// What the tables are.
+const INDEX: &str = "    \
+/// For each block of 256 code points, the index of the first of its four words.
+    #[rustfmt::skip]
+    pub static INDEX: [u16; 4352] = [
+";
+
+/// Returns the frozen set in Rust: a module with its tables, and a look-up in them.
+pub(crate) fn frozen_rust_text(
+    set: &CodePointInversionList<'_>,
+    name: &str,
+) -> Result<String, AllocError> {
+    let Ok(frozen) = FrozenCodePointSet::try_freeze(set) else {
+        return Err(AllocError);
+    };
+    let tables = frozen.tables();
+    let mut text = String::new();
+    push_title(&mut text, set)?;
+    writeln!(text, "#[allow(dead_code)]\npub mod {name} {{")?;
+    text.try_push_str(INDEX)?;
+    push_indices(&mut text, tables.index)?;
+    text.try_push_str(
+        "\n    ];\n\n    /// A bit for each code point of a block, 64 in each word.\n",
+    )?;
+    let length = tables.words.len();
+    writeln!(
+        text,
+        "    #[rustfmt::skip]\n    pub static WORDS: [u64; {length}] = ["
+    )?;
+    push_words(&mut text, 0, tables.words)?;
+    text.try_push_str(LOOK_UP)?;
+    Ok(text)
+}

@@ -1,0 +1,42 @@
+//! The trie of a word list, and the trie that a file of units has.
+
+#[allow(unused_imports)]
+use crate::host::{HostRuntime, Text};
+use crate::ucptrie_words::fault::{UnitsFault, WordsFault};
+use crate::ucptrie_words::read::read_words;
+use bekstaudi::char16trie::BuildError;
+use bekstaudi::char16trie::Char16Trie;
+use bekstaudi::zerovec::ZeroVec;
+
+/// Returns the trie of a word list, which has exactly its entries. Without words it has no units.
+///
+/// # Errors
+/// Returns [`WordsFault::Line`] for the first line that has a fault or repeats a key, counted from
+/// 1, [`WordsFault::TooLarge`] if the trie may need more than `0x7FFF_FFFF` units, and
+/// [`WordsFault::Memory`] if an allocation fails.
+pub fn trie_of_words(input: &[u8]) -> Result<Char16Trie<'static>, WordsFault> {
+    let builder = read_words(input)?;
+    match builder.try_build() {
+        Ok(trie) => Ok(trie),
+        Err(BuildError::TooLarge) => Err(WordsFault::TooLarge),
+        // Building returns no other error.
+        Err(_) => Err(WordsFault::Memory),
+    }
+}
+
+/// Returns the trie with these units, two bytes each, the low byte first. It borrows them.
+///
+/// # Errors
+/// Returns [`UnitsFault::HalfUnit`] if the number of bytes is odd, [`UnitsFault::NotATrie`] if the
+/// units are no trie, and [`UnitsFault::Memory`] if an allocation fails.
+pub fn trie_of_units(bytes: &[u8]) -> Result<Char16Trie<'_>, UnitsFault> {
+    let Ok(units) = ZeroVec::parse_bytes(bytes) else {
+        return Err(UnitsFault::HalfUnit);
+    };
+    let trie = Char16Trie::new(units);
+    match trie.try_is_trie() {
+        Ok(true) => Ok(trie),
+        Ok(false) => Err(UnitsFault::NotATrie),
+        Err(_) => Err(UnitsFault::Memory),
+    }
+}

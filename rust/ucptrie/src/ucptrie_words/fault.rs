@@ -1,0 +1,132 @@
+//! What is wrong with a line, and why there is no trie or no text.
+
+#[allow(unused_imports)]
+use crate::host::{HostRuntime, Text};
+use crate::support::AllocError;
+#[allow(unused_imports)]
+use crate::support::prelude::*;
+use bekstaudi::zerovec::MemoryError;
+use core::error::Error;
+use core::fmt;
+
+/// What is wrong with a line. Lines are tested in this order.
+#[derive(Clone, Copy, Debug, PartialEq, Eq)]
+pub enum LineFault {
+    /// The line has no `;`.
+    NoSeparator,
+    /// There is no key before the last `;`.
+    NoKey,
+    /// The key is not UTF-8.
+    NotUtf8,
+    /// There is no value after the last `;`.
+    NoValue,
+    /// The value is not a decimal number of 32 bits with a sign.
+    NotNumber,
+    /// The key has more than 65,535 units in UTF-16.
+    LongKey,
+    /// A line before has the same key.
+    Repeated,
+}
+
+impl LineFault {
+    /// Returns what the test that failed expects of a line, in words.
+    pub fn expected(self) -> &'static str {
+        match self {
+            LineFault::NoSeparator => "KEY;VALUE",
+            LineFault::NoKey => "a key before the last `;`",
+            LineFault::NotUtf8 => "a key in UTF-8",
+            LineFault::NoValue => "a value after the last `;`",
+            LineFault::NotNumber => "a value from -2147483648 to 2147483647",
+            LineFault::LongKey => "a key of at most 65535 units in UTF-16",
+            LineFault::Repeated => "a key that no line before has",
+        }
+    }
+}
+
+impl fmt::Display for LineFault {
+    fn fmt(&self, f: &mut fmt::Formatter<'_>) -> fmt::Result {
+        let expected = self.expected();
+        write!(f, "expected {expected}")
+    }
+}
+
+impl Error for LineFault {}
+
+/// Why a word list is not made into a trie.
+#[derive(Clone, Copy, Debug, PartialEq, Eq)]
+pub enum WordsFault {
+    /// The first line that has a fault, counted from 1, and its fault.
+    Line(u64, LineFault),
+    /// The words may need more than `0x7FFF_FFFF` units.
+    TooLarge,
+    /// An allocation failed.
+    Memory,
+}
+
+impl fmt::Display for WordsFault {
+    fn fmt(&self, f: &mut fmt::Formatter<'_>) -> fmt::Result {
+        match self {
+            WordsFault::Line(number, fault) => write!(f, "line {number}: {fault}"),
+            WordsFault::TooLarge => f.write_str("too large: the words may need too many units"),
+            WordsFault::Memory => f.write_str("no memory"),
+        }
+    }
+}
+
+impl Error for WordsFault {}
+
+/// Why a file of units has no trie.
+#[derive(Clone, Copy, Debug, PartialEq, Eq)]
+pub enum UnitsFault {
+    /// The number of bytes is odd.
+    HalfUnit,
+    /// The units are no trie.
+    NotATrie,
+    /// An allocation failed.
+    Memory,
+}
+
+impl fmt::Display for UnitsFault {
+    fn fmt(&self, f: &mut fmt::Formatter<'_>) -> fmt::Result {
+        f.write_str(match self {
+            UnitsFault::HalfUnit => "expected units of two bytes, found an odd number of bytes",
+            UnitsFault::NotATrie => "the units are no trie",
+            UnitsFault::Memory => "no memory",
+        })
+    }
+}
+
+impl Error for UnitsFault {}
+
+/// Why the entries of a trie are not written as lines.
+#[derive(Debug)]
+pub enum RowsFault {
+    /// No line can have this key: it is empty, has a blank at an end, a line feed, U+FFFD or a lone
+    /// surrogate, or starts with `#`.
+    Key(String),
+    /// An allocation failed.
+    Memory,
+}
+
+impl fmt::Display for RowsFault {
+    fn fmt(&self, f: &mut fmt::Formatter<'_>) -> fmt::Result {
+        match self {
+            RowsFault::Key(_) => f.write_str("no line can have a key"),
+            RowsFault::Memory => f.write_str("no memory"),
+        }
+    }
+}
+
+impl Error for RowsFault {}
+
+impl From<AllocError> for RowsFault {
+    fn from(_error: AllocError) -> RowsFault {
+        RowsFault::Memory
+    }
+}
+
+impl From<MemoryError> for RowsFault {
+    fn from(_error: MemoryError) -> RowsFault {
+        RowsFault::Memory
+    }
+}

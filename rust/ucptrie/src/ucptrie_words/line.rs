@@ -1,0 +1,107 @@
+//! What one line says.
+
+#[allow(unused_imports)]
+use crate::host::{HostRuntime, Text};
+use crate::ucptab_table::digits::decimal_number;
+use crate::ucptab_table::rows::trimmed;
+use crate::ucptrie_words::fault::LineFault;
+
+/// A word of a list.
+#[derive(Clone, Copy, Debug)]
+pub struct Word<'a> {
+    /// The key, which is not empty and has no blank at an end.
+    pub key: &'a str,
+    /// The value.
+    pub value: i32,
+}
+
+/// Returns the bytes as text if they are UTF-8.
+fn text_of(bytes: &[u8]) -> Option<&str> {
+    match str::from_utf8(bytes) {
+        Ok(text) => Some(text),
+        Err(_) => None,
+    }
+}
+
+/// Returns the number, or its negative, if it has 32 bits with the sign.
+fn signed(is_negative: bool, number: u64) -> Option<i32> {
+    if is_negative {
+        if number <= 0x8000_0000 {
+            return Some(-(number as i64) as i32);
+        }
+        return None;
+    }
+    if number < 0x8000_0000 {
+        Some(number as i32)
+    } else {
+        None
+    }
+}
+
+/// Returns the number that 1 to 10 decimal digits write, with or without a minus sign before them,
+/// if it has 32 bits with the sign.
+fn signed_number(bytes: &[u8]) -> Option<i32> {
+    if let [b'-', digits @ ..] = bytes {
+        let number = decimal_number(digits)?;
+        return signed(true, number);
+    }
+    let number = decimal_number(bytes)?;
+    signed(false, number)
+}
+
+/// Returns the bytes before and after the last byte that is `mark`, or `None` if there is none.
+fn cut_at_last(mark: u8, bytes: &[u8]) -> Option<(&[u8], &[u8])> {
+    let mut place = bytes.len();
+    while place > 0 {
+        if bytes[place - 1] == mark {
+            return Some((&bytes[..place - 1], &bytes[place..]));
+        }
+        place -= 1;
+    }
+    None
+}
+
+/// Returns whether a line says nothing: it is empty or a comment.
+pub(crate) fn is_silent(content: &[u8]) -> bool {
+    match content.first() {
+        Some(byte) => *byte == b'#',
+        None => true,
+    }
+}
+
+/// Returns the word of this key and this value.
+fn word_in<'a>(key: &'a [u8], value: &[u8]) -> Result<Word<'a>, LineFault> {
+    if key.is_empty() {
+        return Err(LineFault::NoKey);
+    }
+    let Some(key) = text_of(key) else {
+        return Err(LineFault::NotUtf8);
+    };
+    if value.is_empty() {
+        return Err(LineFault::NoValue);
+    }
+    match signed_number(value) {
+        Some(value) => Ok(Word { key, value }),
+        None => Err(LineFault::NotNumber),
+    }
+}
+
+/// Returns the word of a line `KEY;VALUE`, or `None` if the line is blank or a comment.
+///
+/// The key is what is before the last `;`, and the value is what is after it, both without blanks
+/// around them. A comment starts with `#`, after blanks or none.
+///
+/// # Errors
+/// Returns what is wrong with the line, by the first of the tests in [`LineFault`]. Never returns
+/// [`LineFault::LongKey`] or [`LineFault::Repeated`].
+pub fn word_of(line: &[u8]) -> Result<Option<Word<'_>>, LineFault> {
+    let content = trimmed(line);
+    if is_silent(content) {
+        return Ok(None);
+    }
+    let Some((key, value)) = cut_at_last(b';', content) else {
+        return Err(LineFault::NoSeparator);
+    };
+    let word = word_in(trimmed(key), trimmed(value))?;
+    Ok(Some(word))
+}

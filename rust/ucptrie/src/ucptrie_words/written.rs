@@ -1,0 +1,44 @@
+//! A trie as the bytes of a file.
+
+#[allow(unused_imports)]
+use crate::host::{HostRuntime, Text};
+use crate::support::AllocError;
+#[allow(unused_imports)]
+use crate::support::prelude::*;
+use crate::ucptrie_words::fault::RowsFault;
+use crate::ucptrie_words::rows::rows_text;
+use crate::ucptrie_words::source::{c_text, rust_text};
+use bekstaudi::char16trie::Char16Trie;
+
+/// The forms in which a trie is written.
+#[derive(Clone, Copy, Debug, PartialEq, Eq)]
+pub enum Form<'a> {
+    /// The units, two bytes each, the low byte first.
+    Icu,
+    /// Source in C: an array whose name starts with this one.
+    C(&'a str),
+    /// Source in Rust: a module of this name.
+    Rust(&'a str),
+    /// The lines `KEY;VALUE` of the entries, in unit order of the keys.
+    Rows,
+}
+
+/// Returns the units of a trie, two bytes each, the low byte first.
+fn units_bytes(trie: &Char16Trie<'_>) -> Result<Vec<u8>, AllocError> {
+    Vec::from_slice(trie.data.as_bytes())
+}
+
+/// Returns a trie in a form, as the bytes of a file.
+///
+/// # Errors
+/// Returns [`RowsFault::Key`] in the form [`Form::Rows`] for the first key that no line can have.
+/// Returns [`RowsFault::Memory`] if an allocation fails.
+pub fn written(trie: &Char16Trie<'_>, form: Form<'_>) -> Result<Vec<u8>, RowsFault> {
+    let text = match form {
+        Form::Icu => return Ok(units_bytes(trie)?),
+        Form::C(name) => c_text(trie.data.as_slice(), name)?,
+        Form::Rust(name) => rust_text(trie.data.as_slice(), name)?,
+        Form::Rows => rows_text(trie)?,
+    };
+    Ok(text.into_bytes())
+}
