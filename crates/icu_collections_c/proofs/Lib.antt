@@ -24,4 +24,5 @@ mod UnitTextLemmas
 mod UnitPrefixLemmas
 mod TextStepLemmas
 mod UnitPageLemmas
+mod NearLemmas
 mod WideLemmas

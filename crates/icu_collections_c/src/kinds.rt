@@ -101,6 +101,16 @@ pub(crate) fn turned(word: u64, held: bool) -> u64
     if held { word } else { !word }
 }
 
+/// Returns the word with the bit of an ASCII character. Without an index, both words are in
+/// registers.
+#[inline(always)]
+fn ascii_word(words: &[u64; 2], c: u32) -> u64
+    requires { c < 128 }
+    ensures { result ≡ slice_index words.now (c / 64) }
+{
+    if c < 64 { words[0] } else { words[1] }
+}
+
 impl<'a> FrozenKind<'a> {
     /// Returns the kind by the frozen set at the start of the words.
     #[inline(always)]
@@ -130,7 +140,7 @@ impl<'a> Kind for FrozenKind<'a> {
 
     #[inline(always)]
     fn has_ascii(&mut self, c: u32) -> bool {
-        (self.ascii[(c / 64) as usize] >> (c % 64)) & 1 == 1
+        (ascii_word(&self.ascii, c) >> (c % 64)) & 1 == 1
     }
 
     #[inline(always)]

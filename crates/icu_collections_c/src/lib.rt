@@ -17,8 +17,9 @@
 //! - `set_queries`: subsets, and the code points of a set by their index
 //! - `frozen`: frozen sets in words, and look-ups in them
 //! - `spans`: the spans of a text; `kinds`: what they test characters for
-//! - `short_characters`: tests characters of one and two bytes for them; `plain_characters`: ASCII;
-//!   `wide_characters`: characters of three bytes that follow one another
+//! - `near_characters`: tests the characters of a short span for them
+//! - `short_characters`: tests characters of one and two bytes of a long span; `plain_characters`:
+//!   ASCII; `wide_characters`: characters of three bytes that follow one another
 //! - `unit_tries`: look-ups in unit tries; `units`: helpers of them
 //! - `text_steps`: steps of a cursor along a text in UTF-8
 //! - `unit_texts`: unit tries whose keys are texts in UTF-8; `unit_keys`: transcodes them
@@ -39,6 +40,7 @@ mod cells;
 pub mod frozen;
 mod kinds;
 pub mod listing;
+mod near_characters;
 pub mod opening;
 mod plain_characters;
 pub mod ranges;

@@ -7,6 +7,7 @@ ghost use Rattle.icu_collections_c.specs.Frozen.{IsFrozenOf, is_held};
 ghost use Rattle.icu_collections_c.specs.Spans.{AllHeld, AnswersSpan, AnswersSpanBack, AnswersTextSpan, AnswersTextSpanBack, unit_count, unit_span};
 
 use crate::kinds::{EndsKind, FrozenKind, Kind, LONG, LongKind};
+use crate::near_characters::past_near;
 use crate::plain_characters::others_of;
 use crate::short_characters::{past_short, short_words};
 use crate::status::Refusal;
@@ -121,31 +122,59 @@ pub(crate) fn long_span(table: &[u64], held: bool, bytes: &[u8], start: usize) -
     )
 }
 
-/// The same as `span_from`, for a frozen set. It is not inlined, so that a call for a word in ASCII
-/// saves no registers.
+/// The same as `span_from`, for a frozen set.
 #[inline(never)]
-fn frozen_span_from(kind: &mut FrozenKind<'_>, bytes: &[u8], start: usize) -> i64
+fn frozen_span_from(table: &[u64], bytes: &[u8], start: usize, held: bool) -> i64
     requires { start ≤ length bytes.now }
-    ensures { AllHeld (is_held kind.old.numbers) kind.old.held (take start bytes.now)
-        → AnswersSpan (is_held kind.old.numbers) kind.old.held bytes.now result }
+    ensures { AllHeld (is_held table.now) held (take start bytes.now)
+        → AnswersSpan (is_held table.now) held bytes.now result }
 {
-    span_from(kind, bytes, start)
+    span_from(&mut FrozenKind::new(table, held), bytes, start)
+}
+
+/// The same as `frozen_span_from`, faster while the span is short. It is not inlined, so that a
+/// call for a word in ASCII saves no registers. All arguments are in registers.
+#[inline(never)]
+fn near_span_from(table: &[u64], bytes: &[u8], start: usize, held: bool) -> i64
+    requires { start ≤ length bytes.now }
+    ensures { AllHeld (is_held table.now) held (take start bytes.now)
+        → AnswersSpan (is_held table.now) held bytes.now result }
+{
+    let far = bytes.len().saturating_sub(LONG);
+    let mut passed = start;
+    while passed < bytes.len() {
+        if passed >= LONG {
+            return long_span(table, held, bytes, passed);
+        }
+        let near = past_near(table, held, bytes, passed, far);
+        if near.is_end {
+            return near.end as i64;
+        }
+        if near.end == passed {
+            return frozen_span_from(table, bytes, passed, held);
+        }
+        passed = near.end;
+    }
+    passed as i64
 }
 
 /// The same as `span`, for a frozen set.
 #[inline(always)]
-fn frozen_span(kind: &mut FrozenKind<'_>, bytes: &[u8]) -> i64
-    ensures { AnswersSpan (is_held kind.old.numbers) kind.old.held bytes.now result }
+fn frozen_span(table: &[u64], held: bool, bytes: &[u8]) -> i64
+    ensures { AnswersSpan (is_held table.now) held bytes.now result }
 {
+    if !bytes.is_empty() && bytes[0] >= 0x80 {
+        return near_span_from(table, bytes, 0, held);
+    }
     let near = bytes.len().min(LONG);
-    let passed = past_ascii(kind, bytes, 0, near);
+    let passed = past_ascii(&mut FrozenKind::new(table, held), bytes, 0, near);
     if passed < near && bytes[passed] < 0x80 {
         return passed as i64;
     }
     if passed >= bytes.len() {
         return passed as i64;
     }
-    frozen_span_from(kind, bytes, passed)
+    near_span_from(table, bytes, passed, held)
 }
 
 /// Returns the offset of the longest suffix whose characters are all of the kind, or the number of
@@ -216,7 +245,7 @@ pub extern "C" fn bks_frozen_span(table: &[u64], text: &[u8], held: bool) -> i64
     ensures text_set { (ends words rest : List ℕ) → IsFrozenOf ends words
         → table.now ≡ words ++ rest → AnswersTextSpan (holds ends) held text.now result }
 {
-    frozen_span(&mut FrozenKind::new(table, held), text)
+    frozen_span(table, held, text)
 }
 
 /// Returns the offset in bytes of the longest suffix of the text that is UTF-8 and whose characters
