@@ -1,5 +1,5 @@
 -- What a line says, and what a file says.
-use Rattle.std.specs.Prelude.{ℕ, ◌==◌, nat_eq, nat_le, nat_lt, Bool, true, List, [], length, codes, Option, Some, None, Result, Ok, Err, if◌then◌else◌}
+use Rattle.std.specs.Prelude.{ℕ, ◌==◌, ◌||◌, ◌∷◌, false, nat_eq, nat_le, nat_lt, Bool, true, List, [], length, codes, Option, Some, None, Result, Ok, Err, if◌then◌else◌}
 use Rattle.std.specs.List.{starts_with}
 use Rattle.std.specs.Option.{option_and_then}
 use mathlib.Core.Bool.{beq}
@@ -14,7 +14,7 @@ use Rattle.ucd_files.specs.declared.fault.LineFault.{LineFault}
 use Rattle.ucd_files.specs.declared.fault.LineFault.TheVariants.{Unpaired, NotCodePoints, CodePoint, Reversed, NoValue, UnknownValue}
 use Rattle.ucd_files.specs.declared.names.Numbering.{Numbering}
 use Rattle.ucd_files.specs.declared.statement.Columns.{Columns}
-use Rattle.ucd_files.specs.declared.statement.Columns.TheVariants.{Field, Property, UnicodeData, Unihan}
+use Rattle.ucd_files.specs.declared.statement.Columns.TheVariants.{Field, Property, SimpleFolding, UnicodeData, Unihan}
 use Rattle.ucd_files.specs.declared.statement.Statement.{Statement}
 use Rattle.ucd_files.specs.declared.statement.Statement.TheVariants.{Missing, Explicit}
 
@@ -28,6 +28,12 @@ later_field content = if length (field 2 content) == 0 then field 1 content else
 abbrev pub some_text : List ℕ → Option (List ℕ)
 some_text text = if length text == 0 then None else Some text
 
+-- The status of a mapping of the simple case folding in CaseFolding.txt: `C` (common) or `S`
+-- (simple).
+unfoldable pub is_simple : List ℕ → Bool
+is_simple (status ∷ []) = status == 67 || status == 83
+is_simple status = false
+
 -- The text of the value in a line. None if the line is about another property, or if the field is
 -- there and empty: the code points then have the default.
 unfoldable pub value_text : Columns → List ℕ → Option (List ℕ)
@@ -38,8 +44,10 @@ value_text (Property name) content =
 value_text (UnicodeData n) content = some_text (field n content)
 value_text (Unihan name) content =
     if is_same_name (column 1 content) name.now then Some (column 2 content) else None
+value_text SimpleFolding content =
+    if is_simple (field 1 content) then Some (field 2 content) else None
 
--- A text that is not `<none>`, `<code point>` or `<script>`. In `@missing` lines these stand for
+-- A text that is not `<none>`, `<code point>` or `<script>`. In `@missing` lines these mean
 -- values that are not written as text: none, the code point itself, the value of Script.
 unfoldable pub untagged : List ℕ → Option (List ℕ)
 untagged text = if starts_with nat_eq text (codes "<") then None else Some text
@@ -51,6 +59,7 @@ missing_text (Field n) content = untagged (later_field content)
 missing_text (Property name) content = option_and_then untagged (value_text (Property name) content)
 missing_text (UnicodeData n) content = untagged (later_field content)
 missing_text (Unihan name) content = None
+missing_text SimpleFolding content = None
 
 -- ---- Code points
 

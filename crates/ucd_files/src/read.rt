@@ -21,7 +21,7 @@ fn is_open(columns: Columns<'_>, line: &[u8]) -> bool
 {
     match columns {
         Columns::UnicodeData(_) => ends_in_first(line),
-        Columns::Field(_) | Columns::Property(_) | Columns::Unihan(_) => false,
+        _ => false,
     }
 }
 

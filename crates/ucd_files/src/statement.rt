@@ -3,7 +3,7 @@ ghost use Rattle.std.specs.Prelude.{◌≡◌};
 ghost use Rattle.std.specs.Option.{option_and_then, option_map};
 ghost use Rattle.ucd_files.specs.Fields.{after_mark};
 ghost use Rattle.ucptab_table.specs.TableText.{code_points_of, write_at};
-ghost use Rattle.ucd_files.specs.Statements.{checked_points, explicit_statement, is_paired, joined, later_field, missing_statement, missing_text, points_of, some_text, statement_of, untagged, value_text, write_of};
+ghost use Rattle.ucd_files.specs.Statements.{checked_points, explicit_statement, is_paired, is_simple, joined, later_field, missing_statement, missing_text, points_of, some_text, statement_of, untagged, value_text, write_of};
 
 use crate::fault::LineFault;
 use crate::fields::{
@@ -28,6 +28,9 @@ pub enum Columns<'a> {
     /// In column 2 of the lines of this property in a file of Unihan: `U+HEX`, the property and the
     /// value, with tabs between them.
     Unihan(&'a [u8]),
+    /// In field 2 of the lines of `CaseFolding.txt` that have the status `C` or `S` in field 1: the
+    /// simple case folding.
+    SimpleFolding,
 }
 
 /// What a line says: the value of code points.
@@ -59,6 +62,15 @@ fn some_text(text: &[u8]) -> Option<&[u8]>
     if text.is_empty() { None } else { Some(text) }
 }
 
+/// Returns whether a mapping with this status in `CaseFolding.txt` is one of the simple case
+/// folding: `C` (common) or `S` (simple).
+#[tactic(auto, unfolding(crate::specs::Statements::is_simple))]
+fn is_simple(status: &[u8]) -> bool
+    ensures { result ≡ is_simple status.now }
+{
+    matches!(status, [b'C' | b'S'])
+}
+
 /// Returns the text of the value in a line. Returns `None` if the line is about another property,
 /// or if the field is there and empty, so that the code points have the default.
 #[tactic(auto, unfolding(crate::specs::Statements::value_text))]
@@ -88,6 +100,13 @@ pub(crate) fn value_text<'t>(columns: Columns<'_>, content: &'t [u8]) -> Option<
                 None
             }
         }
+        Columns::SimpleFolding => {
+            if is_simple(field(1, content)) {
+                Some(field(2, content))
+            } else {
+                None
+            }
+        }
     }
 }
 
@@ -112,7 +131,7 @@ pub(crate) fn missing_text<'t>(columns: Columns<'_>, content: &'t [u8]) -> Optio
     match columns {
         Columns::Property(name) => untagged(value_text(columns, content)?),
         Columns::Field(n) | Columns::UnicodeData(n) => untagged(later_field(content)),
-        Columns::Unihan(name) => None,
+        Columns::Unihan(_) | Columns::SimpleFolding => None,
     }
 }
 
@@ -145,7 +164,7 @@ pub(crate) fn is_paired(columns: Columns<'_>, previous: &[u8], content: &[u8]) -
 {
     match columns {
         Columns::UnicodeData(n) => ends_in_first(previous) == ends_in_last(content),
-        Columns::Field(_) | Columns::Property(_) | Columns::Unihan(_) => true,
+        _ => true,
     }
 }
 

@@ -16,7 +16,7 @@ use bekstaudi::codepointtrie::Write;
 fn is_open(columns: Columns<'_>, line: &[u8]) -> bool {
     match columns {
         Columns::UnicodeData(_) => ends_in_first(line),
-        Columns::Field(_) | Columns::Property(_) | Columns::Unihan(_) => false,
+        _ => false,
     }
 }
 

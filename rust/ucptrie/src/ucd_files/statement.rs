@@ -25,6 +25,9 @@ pub enum Columns<'a> {
     /// In column 2 of the lines of this property in a file of Unihan: `U+HEX`, the property and the
     /// value, with tabs between them.
     Unihan(&'a [u8]),
+    /// In field 2 of the lines of `CaseFolding.txt` that have the status `C` or `S` in field 1: the
+    /// simple case folding.
+    SimpleFolding,
 }
 
 /// What a line says: the value of code points.
@@ -49,6 +52,12 @@ fn later_field(content: &[u8]) -> &[u8] {
 /// Returns a text if it is not empty.
 fn some_text(text: &[u8]) -> Option<&[u8]> {
     if text.is_empty() { None } else { Some(text) }
+}
+
+/// Returns whether a mapping with this status in `CaseFolding.txt` is one of the simple case
+/// folding: `C` (common) or `S` (simple).
+fn is_simple(status: &[u8]) -> bool {
+    matches!(status, [b'C' | b'S'])
 }
 
 /// Returns the text of the value in a line. Returns `None` if the line is about another property,
@@ -77,6 +86,13 @@ pub(crate) fn value_text<'t>(columns: Columns<'_>, content: &'t [u8]) -> Option<
                 None
             }
         }
+        Columns::SimpleFolding => {
+            if is_simple(field(1, content)) {
+                Some(field(2, content))
+            } else {
+                None
+            }
+        }
     }
 }
 
@@ -95,7 +111,7 @@ pub(crate) fn missing_text<'t>(columns: Columns<'_>, content: &'t [u8]) -> Optio
     match columns {
         Columns::Property(name) => untagged(value_text(columns, content)?),
         Columns::Field(n) | Columns::UnicodeData(n) => untagged(later_field(content)),
-        Columns::Unihan(name) => None,
+        Columns::Unihan(_) | Columns::SimpleFolding => None,
     }
 }
 
@@ -122,7 +138,7 @@ fn checked_points(points: Option<CodePoints>) -> Result<CodePoints, LineFault> {
 pub(crate) fn is_paired(columns: Columns<'_>, previous: &[u8], content: &[u8]) -> bool {
     match columns {
         Columns::UnicodeData(n) => ends_in_first(previous) == ends_in_last(content),
-        Columns::Field(_) | Columns::Property(_) | Columns::Unihan(_) => true,
+        _ => true,
     }
 }
 
