@@ -81,7 +81,7 @@ pub(crate) fn frozen_rust_text(
         text,
         "    #[rustfmt::skip]\n    pub static WORDS: [u64; {length}] = ["
     )?;
-    push_words(&mut text, 0, tables.words)?;
+    push_words(&mut text, tables.words)?;
     text.push_str(LOOK_UP)?;
     Ok(text)
 }

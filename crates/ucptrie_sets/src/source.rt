@@ -1,22 +1,9 @@
 //! What the sources in C and in Rust have in common.
-ghost use Rattle.std.specs.Prelude.{◌<◌, ◌^◌};
-
 use icu_invlist::codepointinvlist::CodePointInversionList;
 use std::alloc::AllocError;
 
 /// How many cells a line has.
 const CELLS_IN_LINE: usize = 8;
-
-/// Appends a text in which each `@` stands for the name.
-pub(crate) fn push_named(text: &mut String, pattern: &str, name: &str) -> Result<(), AllocError> {
-    for (i, piece) in pattern.split('@').enumerate() {
-        if i > 0 {
-            text.push_str(name)?;
-        }
-        text.push_str(piece)?;
-    }
-    Ok(())
-}
 
 /// Appends a comment with the number of ranges.
 pub(crate) fn push_title(
@@ -60,31 +47,27 @@ pub(crate) fn push_indices(text: &mut String, indices: &[u16]) -> Result<(), All
     Ok(())
 }
 
-/// Appends words of 64 bits. `first` is the index of the first one.
-pub(crate) fn push_words(text: &mut String, first: usize, words: &[u64]) -> Result<(), AllocError> {
+/// Appends words of 64 bits.
+pub(crate) fn push_words(text: &mut String, words: &[u64]) -> Result<(), AllocError> {
     for (i, word) in words.iter().enumerate() {
-        push_cell(text, first.saturating_add(i), *word)?;
+        push_cell(text, i, *word)?;
     }
     Ok(())
 }
 
-/// Returns the index at a position, or 0 if there is none.
-fn index_at(indices: &[u16], i: usize) -> u64
-    ensures { result < 2 ^ 16 }
-{
-    match indices.get(i) {
-        Some(index) => u64::from(*index),
-        None => 0,
+/// Returns the word of up to four indices of 16 bits, the first one in the lowest bits.
+fn word_of(indices: &[u16]) -> u64 {
+    let mut word = 0u64;
+    for index in indices.iter().rev() {
+        word = (word << 16) | u64::from(*index);
     }
+    word
 }
 
 /// Appends indices of 16 bits in words of 64 bits, four in each, the first one in the lowest bits.
 pub(crate) fn push_packed_indices(text: &mut String, indices: &[u16]) -> Result<(), AllocError> {
-    for i in 0..indices.len() / 4 {
-        let (a, b) = (index_at(indices, 4 * i), index_at(indices, 4 * i + 1));
-        let (c, d) = (index_at(indices, 4 * i + 2), index_at(indices, 4 * i + 3));
-        let word = a + 0x1_0000 * (b + 0x1_0000 * (c + 0x1_0000 * d));
-        push_cell(text, i, word)?;
+    for (i, four) in indices.chunks(4).enumerate() {
+        push_cell(text, i, word_of(four))?;
     }
     Ok(())
 }

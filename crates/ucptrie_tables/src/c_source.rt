@@ -6,7 +6,8 @@ use crate::source::{header_numbers, index1_offset, push_sizes};
 use crate::table::Table;
 use std::alloc::{AllocError, Global};
 
-/// The look-up in the three stages of the format, without ICU. Each `@` stands for the name.
+/// The look-up in the three stages of the format, without ICU. Each `@` is replaced by the
+/// name.
 const LOOK_UP: &str = "\
 // The value of c, and the error value above 10FFFF. It needs no ICU.
 static inline uint32_t @_get(uint32_t c) {

@@ -1,5 +1,7 @@
 //! How a look-up goes, cell by cell.
 
+use crate::pattern::Number::Decimal;
+use crate::pattern::push_pattern;
 use crate::shown::answered;
 use crate::source::{index1_offset, type_name};
 use crate::table::Table;
@@ -15,10 +17,13 @@ fn push_cell(
     value: Option<u32>,
     what: &str,
 ) -> Result<(), AllocError> {
+    push_pattern(text, "# @[%]", array, &[Decimal(index)])?;
     match value {
-        Some(value) => write!(text, "# {array}[{index}] = {value}: {what}\n"),
-        None => write!(text, "# {array}[{index}] is missing: {what}\n"),
+        Some(value) => push_pattern(text, " = %: ", "", &[Decimal(value as usize)])?,
+        None => text.push_str(" is missing: ")?,
     }
+    text.push_str(what)?;
+    text.push('\n')
 }
 
 /// Appends the line about a cell of the index, and returns its value, or 0 if it is missing.

@@ -17,20 +17,29 @@ pub struct Bounds {
 fn values_of(alloc: Global, trie: &CodePointTrie<'_, u32>) -> Result<Vec<u32>, AllocError>
     ensures { IfOk result (λ values. vec_len values ≡ 0x110000) }
 {
+    let (header, _, _) = trie.parts();
+    // From here on, each code point has the value of the last one.
+    let start = header.high_start.max(header.trie_type.fast_limit());
+    let end = start.min(CODE_POINT_LIMIT);
     let mut values = Vec::with_capacity(alloc, CODE_POINT_LIMIT as usize)?;
-    for c in 0..CODE_POINT_LIMIT {
+    for c in 0..end {
         values.push(trie.get32(c))?;
     }
+    values.resize(CODE_POINT_LIMIT as usize, trie.get32(CODE_POINT_LIMIT - 1))?;
     Ok(values)
 }
 
 /// Returns the lists of 16 neighbours in an aligned block of 64.
 fn windows_of(alloc: Global, values: &[u32]) -> Result<BTreeSet<&[u32]>, AllocError> {
     let mut windows = BTreeSet::new(alloc);
+    let mut before: &[u32] = &[];
     for block in values.chunks(64) {
-        for window in block.windows(16) {
-            windows.insert(window)?;
+        if block != before {
+            for window in block.windows(16) {
+                windows.insert(window)?;
+            }
         }
+        before = block;
     }
     Ok(windows)
 }
@@ -45,10 +54,13 @@ fn count_different(
     requires { 0 < size }
 {
     let mut blocks = BTreeSet::new(alloc);
+    let mut before: &[u32] = &[];
     for block in values.chunks(size) {
-        if !known.contains(block) {
+        // Most blocks are equal to the one before, and this is faster than to look them up.
+        if block != before && !known.contains(block) {
             blocks.insert(block)?;
         }
+        before = block;
     }
     Ok(blocks.len())
 }

@@ -1,4 +1,6 @@
 //! Names of values in source: an enum in C or in Rust.
+use crate::pattern::Number::Decimal;
+use crate::pattern::{push_named, push_number, push_pattern};
 use crate::written::Form;
 use std::alloc::{AllocError, Global};
 use ucd_files::names::Name;
@@ -60,29 +62,97 @@ fn push_value_name(text: &mut String, name: &[u8], has_capitals: bool) -> Result
     push_identifier(text, name, has_capitals)
 }
 
-/// Appends the variants of an enum in Rust, and then the arms of a `match` over their numbers.
-fn push_rust_values(
+/// Appends the line of a value in an enum: a prefix, its name and its number.
+fn push_value(
     text: &mut String,
+    prefix: &str,
+    name: &Name<'_>,
+    has_capitals: bool,
+) -> Result<(), AllocError> {
+    text.push_str(prefix)?;
+    push_value_name(text, name.text, has_capitals)?;
+    text.push_str(" = ")?;
+    push_number(text, Decimal(name.number))?;
+    text.push_str(",\n")
+}
+
+/// Appends the lines of the values in an enum, each with a prefix.
+fn push_values(
+    text: &mut String,
+    prefix: &str,
     names: &[Name<'_>],
-    front: &str,
-    back: &str,
+    has_capitals: bool,
 ) -> Result<(), AllocError> {
     for (i, name) in names.iter().enumerate() {
-        if !is_chosen(names, i) {
-            continue;
-        }
-        let number = name.number;
-        if front.is_empty() {
-            text.push_str("    ")?;
-            push_value_name(text, name.text, true)?;
-            write!(text, " = {number},\n")?;
-        } else {
-            write!(text, "            {number} => {front}::")?;
-            push_value_name(text, name.text, true)?;
-            text.push_str(back)?;
+        if is_chosen(names, i) {
+            push_value(text, prefix, name, has_capitals)?;
         }
     }
     Ok(())
+}
+
+/// Appends an arm of a `match` over the numbers of the values of an enum in Rust.
+fn push_arm(text: &mut String, title: &str, name: &Name<'_>) -> Result<(), AllocError> {
+    let number = [Decimal(name.number)];
+    push_pattern(text, "            % => @::", title, &number)?;
+    push_value_name(text, name.text, true)?;
+    text.push_str(",\n")
+}
+
+/// Appends the arms of a `match` over the numbers of the values of an enum in Rust.
+fn push_arms(text: &mut String, title: &str, names: &[Name<'_>]) -> Result<(), AllocError> {
+    for (i, name) in names.iter().enumerate() {
+        if is_chosen(names, i) {
+            push_arm(text, title, name)?;
+        }
+    }
+    Ok(())
+}
+
+/// What precedes the enum in Rust. `@` is replaced by the name of the module, and `%` by the number
+/// of bits.
+const MODULE: &str = "
+/// The values of `@`, by name.
+#[allow(dead_code)]
+#[rustfmt::skip]
+#[derive(Clone, Copy, Debug, PartialEq, Eq, PartialOrd, Ord, Hash)]
+#[repr(u%)]
+";
+
+/// What follows the variants in Rust. Each `@` is replaced by the name of the enum, and each `%` by
+/// the number of bits.
+const TRY_FROM: &str = "\
+}
+
+impl TryFrom<u%> for @ {
+    type Error = u%;
+
+    #[rustfmt::skip]
+    fn try_from(value: u%) -> Result<@, u%> {
+        Ok(match value {
+";
+
+/// What follows the arms in Rust.
+const END: &str = "            \
+_ => return Err(value),
+        })
+    }
+}
+";
+
+/// Appends the values as an enum in Rust with this title, and the `match` over their numbers.
+fn push_rust_enum(
+    text: &mut String,
+    title: &str,
+    bits: u32,
+    names: &[Name<'_>],
+) -> Result<(), AllocError> {
+    push_named(text, "pub enum @ {\n", title)?;
+    push_values(text, "    ", names, true)?;
+    let bits = Decimal(bits as usize);
+    push_pattern(text, TRY_FROM, title, &[bits, bits, bits, bits])?;
+    push_arms(text, title, names)?;
+    text.push_str(END)
 }
 
 /// Returns the values as an enum in Rust, named after the module.
@@ -95,38 +165,19 @@ fn rust_names(
     let mut title = String::new(alloc);
     push_identifier(&mut title, module.as_bytes(), true)?;
     let mut text = String::new(alloc);
-    write!(text, "\n/// The values of `{module}`, by name.\n")?;
-    text.push_str("#[allow(dead_code)]\n#[rustfmt::skip]\n")?;
-    text.push_str("#[derive(Clone, Copy, Debug, PartialEq, Eq, PartialOrd, Ord, Hash)]\n")?;
-    write!(text, "#[repr(u{bits})]\npub enum {title} {{\n")?;
-    push_rust_values(&mut text, names, "", "")?;
-    write!(text, "}}\n\nimpl TryFrom<u{bits}> for {title} {{\n")?;
-    write!(text, "    type Error = u{bits};\n\n    #[rustfmt::skip]\n")?;
-    write!(
-        text,
-        "    fn try_from(value: u{bits}) -> Result<{title}, u{bits}> {{\n"
-    )?;
-    text.push_str("        Ok(match value {\n")?;
-    push_rust_values(&mut text, names, title.as_str(), ",\n")?;
-    text.push_str("            _ => return Err(value),\n        })\n    }\n}\n")?;
+    push_pattern(&mut text, MODULE, module, &[Decimal(bits as usize)])?;
+    push_rust_enum(&mut text, title.as_str(), bits, names)?;
     Ok(text)
 }
 
 /// Returns the values as an enum in C, whose names start with the table's.
 fn c_names(alloc: Global, table: &str, names: &[Name<'_>]) -> Result<String, AllocError> {
+    let mut prefix = String::new(alloc);
+    push_named(&mut prefix, "    @_", table)?;
     let mut text = String::new(alloc);
-    write!(
-        text,
-        "\n// The values of {table}, by name.\nenum {table}_value {{\n"
-    )?;
-    for (i, name) in names.iter().enumerate() {
-        if is_chosen(names, i) {
-            let number = name.number;
-            write!(text, "    {table}_")?;
-            push_value_name(&mut text, name.text, false)?;
-            write!(text, " = {number},\n")?;
-        }
-    }
+    let start = "\n// The values of @, by name.\nenum @_value {\n";
+    push_named(&mut text, start, table)?;
+    push_values(&mut text, prefix.as_str(), names, false)?;
     text.push_str("};\n")?;
     Ok(text)
 }

@@ -49,8 +49,8 @@ impl ValueWidth {
         ensures { result ≡ nat_lt value (2 ^ bits_of self) }
     {
         match self {
-            ValueWidth::Bits8 => value <= 0xff,
-            ValueWidth::Bits16 => value <= 0xffff,
+            ValueWidth::Bits8 => value < 0x100,
+            ValueWidth::Bits16 => value < 0x1_0000,
             ValueWidth::Bits32 => true,
         }
     }

@@ -4,9 +4,8 @@ use crate::host::{HostRuntime, Text};
 use crate::support::AllocError;
 #[allow(unused_imports)]
 use crate::support::prelude::*;
-use crate::ucptrie_sets::source::{
-    push_boundaries, push_named, push_packed_indices, push_title, push_words,
-};
+use crate::ucptrie_sets::source::{push_boundaries, push_packed_indices, push_title, push_words};
+use crate::ucptrie_tables::pattern::push_named;
 use bekstaudi::codepointinvlist::CodePointInversionList;
 use bekstaudi::codepointinvlist::FrozenCodePointSet;
 
@@ -22,7 +21,7 @@ const BOUNDARIES: &str = "\
 // The set starts at the first boundary, ends before the second one, and so on.
 ";
 
-/// The search in the boundaries. Each `@` stands for the name.
+/// The search in the boundaries. Each `@` is replaced by the name.
 const SEARCH: &str = "
 };
 
@@ -70,7 +69,7 @@ const WORDS: &str = "\
 // each code point of a block, 64 in each word.
 ";
 
-/// The look-up in the words. Each `@` stands for the name.
+/// The look-up in the words. Each `@` is replaced by the name.
 const LOOK_UP: &str = "
 };
 
@@ -104,7 +103,7 @@ pub(crate) fn frozen_c_text(
     )?;
     push_packed_indices(&mut text, tables.index)?;
     text.try_push_str(",\n")?;
-    push_words(&mut text, 0, tables.words)?;
+    push_words(&mut text, tables.words)?;
     push_named(&mut text, LOOK_UP, name)?;
     Ok(text)
 }

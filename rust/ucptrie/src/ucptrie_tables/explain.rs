@@ -5,6 +5,8 @@ use crate::host::{HostRuntime, Text};
 use crate::support::AllocError;
 #[allow(unused_imports)]
 use crate::support::prelude::*;
+use crate::ucptrie_tables::pattern::Number::Decimal;
+use crate::ucptrie_tables::pattern::push_pattern;
 use crate::ucptrie_tables::shown::answered;
 use crate::ucptrie_tables::source::{index1_offset, type_name};
 use crate::ucptrie_tables::table::Table;
@@ -19,10 +21,13 @@ fn push_cell(
     value: Option<u32>,
     what: &str,
 ) -> Result<(), AllocError> {
+    push_pattern(text, "# @[%]", array, &[Decimal(index)])?;
     match value {
-        Some(value) => write!(text, "# {array}[{index}] = {value}: {what}\n"),
-        None => write!(text, "# {array}[{index}] is missing: {what}\n"),
+        Some(value) => push_pattern(text, " = %: ", "", &[Decimal(value as usize)])?,
+        None => text.try_push_str(" is missing: ")?,
     }
+    text.try_push_str(what)?;
+    text.try_push('\n')
 }
 
 /// Appends the line about a cell of the index, and returns its value, or 0 if it is missing.

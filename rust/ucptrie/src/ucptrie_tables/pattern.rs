@@ -1,4 +1,4 @@
-//! Texts with places for a name and for numbers.
+//! Texts with a name and numbers in them.
 #[allow(unused_imports)]
 use crate::host::{HostRuntime, Text};
 use crate::support::AllocError;
@@ -21,8 +21,11 @@ pub(crate) fn push_number(text: &mut String, number: Number) -> Result<(), Alloc
     }
 }
 
-/// Appends a text in which each `@` stands for the name.
-pub(crate) fn push_named(text: &mut String, pattern: &str, name: &str) -> Result<(), AllocError> {
+/// Appends a text in which each `@` is replaced by the name.
+///
+/// # Errors
+/// Returns [`AllocError`] if an allocation fails.
+pub fn push_named(text: &mut String, pattern: &str, name: &str) -> Result<(), AllocError> {
     for (i, piece) in pattern.split('@').enumerate() {
         if i > 0 {
             text.try_push_str(name)?;
@@ -32,7 +35,7 @@ pub(crate) fn push_named(text: &mut String, pattern: &str, name: &str) -> Result
     Ok(())
 }
 
-/// Appends a text in which each `@` stands for the name, and each `%` for the next number.
+/// Appends a text in which each `@` is replaced by the name, and each `%` by the next number.
 pub(crate) fn push_pattern(
     text: &mut String,
     pattern: &str,

@@ -43,8 +43,8 @@ impl ValueWidth {
     /// Returns whether a value has at most this many bits.
     pub fn fits(self, value: u32) -> bool {
         match self {
-            ValueWidth::Bits8 => value <= 0xff,
-            ValueWidth::Bits16 => value <= 0xffff,
+            ValueWidth::Bits8 => value < 0x100,
+            ValueWidth::Bits16 => value < 0x1_0000,
             ValueWidth::Bits32 => true,
         }
     }
