@@ -3,11 +3,11 @@ use crate::fault::{Fault, about, plain, said};
 use crate::heading::with_heading;
 use crate::streams::{bytes_at, input_name};
 use crate::tables::{form, trie_type, width};
-use crate::unicode_files::build_file;
+use crate::unicode_files::{build_file, found_kind, has_columns, named_kind};
 use clap::ArgMatches;
 use icu_trie_core::header::TrieType;
 use std::alloc::Global;
-use ucd_files::kind::{FileKind, kind_of};
+use ucd_files::kind::FileKind;
 use ucptab_table::fault::TableError;
 use ucptab_table::message::row_message;
 use ucptrie_tables::built;
@@ -59,30 +59,6 @@ fn build_rows(
     }
 }
 
-/// Returns whether the arguments say where values are or what they are, as only for files of the
-/// Unicode Character Database.
-fn has_properties(matches: &ArgMatches<'_>) -> bool {
-    ["property", "values", "aliases"]
-        .iter()
-        .any(|id| matches.get_str(id).is_some())
-        || matches.get_one::<u32>("field").is_some()
-}
-
-/// Returns the kind of a file: what the arguments say, or what the file's start says.
-fn kind(matches: &ArgMatches<'_>, file: &[u8]) -> FileKind {
-    match matches.get_str("format") {
-        Some("rows") => FileKind::Rows,
-        Some("properties") => FileKind::Properties,
-        Some("unicode-data") => FileKind::UnicodeData,
-        Some("code-points") => FileKind::CodePoints,
-        Some("unihan") => FileKind::Unihan,
-        _ => match kind_of(file) {
-            FileKind::Rows if has_properties(matches) => FileKind::Properties,
-            kind => kind,
-        },
-    }
-}
-
 /// Builds a table of a file, or of standard input, in the form that the arguments name.
 /// `words` are the command.
 pub fn build(
@@ -92,7 +68,12 @@ pub fn build(
 ) -> Result<Vec<u8>, Fault> {
     let path = matches.get_str("file").unwrap_or("-");
     let file = bytes_at(rt, path)?;
-    let bytes = match kind(matches, &file) {
+    let has_values = matches.get_str("values").is_some();
+    let kind = match named_kind(matches) {
+        Some(kind) => kind,
+        None => found_kind(&file, has_values || has_columns(matches)),
+    };
+    let bytes = match kind {
         FileKind::Rows => build_rows(rt, matches, path, &file)?,
         kind => build_file(rt, matches, path, &file, kind)?,
     };

@@ -30,11 +30,13 @@ use crate::word_lists::word_list;
 use crate::words::program_words;
 use clap::ArgMatches;
 use clap::error::ErrorKind;
+use std::alloc::AllocError;
 use std::process::ExitCode;
 use std::{env, io};
 use ucptrie_tables::diff::differences_text;
 use ucptrie_tables::explain::explained;
 use ucptrie_tables::shown::{answered, shown};
+use ucptrie_tables::table::Table;
 
 /// Makes a table by `build` or `convert`, a set by `set` or a trie by `words`, and sends it to its
 /// target.
@@ -55,37 +57,43 @@ fn make(
     deliver(rt, target, &bytes, is_binary)
 }
 
+/// Prints a text.
+fn put_text(rt: &HostRuntime, text: Result<String, AllocError>) -> Result<(), Fault> {
+    let text = text?;
+    put(rt, text.as_bytes())
+}
+
 /// Prints what a table is, in lines.
 fn show(rt: &HostRuntime, matches: &ArgMatches<'_>) -> Result<(), Fault> {
     let table = table_at(rt, matches, "file", matches.get_one("offset"))?;
-    let text = shown(rt.alloc(), &table)?;
-    put(rt, text.as_bytes())
+    put_text(rt, shown(rt.alloc(), &table))
 }
 
-/// Prints the value of each asked number in a table, in lines.
-fn get(rt: &HostRuntime, matches: &ArgMatches<'_>) -> Result<(), Fault> {
+/// Prints by `get` the value of each asked number in a table, or by `explain` how its look-up goes,
+/// in lines.
+fn get(rt: &HostRuntime, name: &str, matches: &ArgMatches<'_>) -> Result<(), Fault> {
     let asked = asked(rt, matches)?;
     let table = table_at(rt, matches, "file", matches.get_one("offset"))?;
-    let text = answered(rt.alloc(), &table, &asked)?;
-    put(rt, text.as_bytes())
-}
-
-/// Prints how the look-up of each asked number goes, in lines.
-fn explain(rt: &HostRuntime, matches: &ArgMatches<'_>) -> Result<(), Fault> {
-    let asked = asked(rt, matches)?;
-    let table = table_at(rt, matches, "file", matches.get_one("offset"))?;
-    let text = explained(rt.alloc(), &table, &asked)?;
-    put(rt, text.as_bytes())
+    let text = match name {
+        "get" => answered(rt.alloc(), &table, &asked),
+        _ => explained(rt.alloc(), &table, &asked),
+    };
+    put_text(rt, text)
 }
 
 /// Prints the ranges in which two tables differ, in lines. Returns 1 if there is a line, and 0 if
 /// there is none.
-fn diff(rt: &HostRuntime, matches: &ArgMatches<'_>) -> Result<u8, Fault> {
-    let first = table_at(rt, matches, "first", None)?;
-    let second = table_at(rt, matches, "second", None)?;
+fn print_differences(rt: &HostRuntime, first: &Table, second: &Table) -> Result<u8, Fault> {
     let text = differences_text(rt.alloc(), &first.trie, &second.trie)?;
     put(rt, text.as_bytes())?;
     Ok(if text.is_empty() { 0 } else { 1 })
+}
+
+/// Prints the ranges in which the tables of two files differ, and returns the status.
+fn diff(rt: &HostRuntime, matches: &ArgMatches<'_>) -> Result<u8, Fault> {
+    let first = table_at(rt, matches, "first", None)?;
+    let second = table_at(rt, matches, "second", None)?;
+    print_differences(rt, &first, &second)
 }
 
 /// Does what a command asks for, and returns the status.
@@ -98,8 +106,7 @@ fn run(
     match name {
         "build" | "convert" | "set" | "words" => make(rt, words, name, matches)?,
         "show" => show(rt, matches)?,
-        "get" => get(rt, matches)?,
-        "explain" => explain(rt, matches)?,
+        "get" | "explain" => get(rt, name, matches)?,
         _ => return diff(rt, matches),
     }
     Ok(0)

@@ -9,7 +9,7 @@ const SIGNATURES: [&[u8]; 2] = [b"Tri3", b"3irT"];
 const LISTED: usize = 32;
 
 /// Returns whether bytes start with a signature.
-fn starts_trie(bytes: &[u8]) -> bool {
+pub fn starts_trie(bytes: &[u8]) -> bool {
     SIGNATURES
         .iter()
         .any(|signature| bytes.starts_with(signature))

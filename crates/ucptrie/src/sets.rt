@@ -3,16 +3,19 @@ use crate::build::unbuilt;
 use crate::fault::{Fault, about};
 use crate::heading::with_heading;
 use crate::names::{module_name, name_of};
+use crate::offsets::starts_trie;
 use crate::streams::{bytes_at, input_name};
 use crate::tables::table_in;
-use crate::unicode_files::{columns, is_set, named_file, names, unread};
+use crate::unicode_files::{
+    columns, found_kind, has_columns, is_set, named_file, named_kind, names, unread,
+};
 use clap::ArgMatches;
 use icu_invlist::codepointinvlist::CodePointInversionList;
 use icu_invlist_binary::serialized::SerializedSetError;
 use icu_trie_core::header::TrieType;
 use std::alloc::Global;
 use std::str;
-use ucd_files::kind::{FileKind, kind_of};
+use ucd_files::kind::FileKind;
 use ucd_files::names::{Name, Numbering, is_same_name, number_of};
 use ucd_files::statement::Columns;
 use ucptab_table::rows::content_of;
@@ -62,36 +65,18 @@ fn is_json(file: &[u8]) -> bool {
     }
 }
 
-/// Returns the kind of lines: that of the file's start, but no rows if the arguments say where
-/// values are.
-fn kind(matches: &ArgMatches<'_>, file: &[u8]) -> FileKind {
-    let has_properties = matches.get_str("property").is_some()
-        || matches.get_str("aliases").is_some()
-        || matches.get_one::<u32>("field").is_some();
-    match kind_of(file) {
-        FileKind::Rows if has_properties => FileKind::Properties,
-        kind => kind,
-    }
-}
-
 /// Returns what a file is: what the arguments say, or what its first bytes say.
 fn source_of(matches: &ArgMatches<'_>, file: &[u8]) -> Source {
-    match matches.get_str("format") {
-        Some("rows") => return Source::Lines(FileKind::Rows),
-        Some("properties") => return Source::Lines(FileKind::Properties),
-        Some("unicode-data") => return Source::Lines(FileKind::UnicodeData),
-        Some("code-points") => return Source::Lines(FileKind::CodePoints),
-        Some("unihan") => return Source::Lines(FileKind::Unihan),
-        Some("table") => return Source::Table,
-        Some("toml") => return Source::Toml,
-        Some("serialized") => return Source::Serialized,
-        _ => {}
+    if let Some(kind) = named_kind(matches) {
+        return Source::Lines(kind);
     }
-    match file {
-        [b'3', b'i', b'r', b'T', ..] | [b'T', b'r', b'i', b'3', ..] => Source::Table,
-        _ if is_json(file) => Source::Table,
+    match matches.get_str("format") {
+        Some("table") => Source::Table,
+        Some("toml") => Source::Toml,
+        Some("serialized") => Source::Serialized,
+        _ if starts_trie(file) || is_json(file) => Source::Table,
         _ if is_toml(file) => Source::Toml,
-        _ => Source::Lines(kind(matches, file)),
+        _ => Source::Lines(found_kind(file, has_columns(matches))),
     }
 }
 

@@ -62,11 +62,33 @@ const FILE: Argument = Argument {
     ..OPTION
 };
 
+/// What the input is.
+const FORMAT: Argument = Argument {
+    id: "format",
+    help: "What FILE is; if left out, its start decides",
+    ..OPTION
+};
+
 /// The property of a TOML file.
 const PROPERTY: Argument = Argument {
     id: "property",
     value_name: &["NAME"],
     help: "The property in TOML: its key, long_name or short_name",
+    ..OPTION
+};
+
+/// The field of a file with several in each line.
+const FIELD: Argument = Argument {
+    id: "field",
+    help: "The field with the value, counted from 0",
+    ..NUMBER
+};
+
+/// The file with the names of values.
+const ALIASES: Argument = Argument {
+    id: "aliases",
+    value_name: &["FILE"],
+    help: "PropertyValueAliases.txt: the names of the property's values",
     ..OPTION
 };
 
@@ -142,7 +164,6 @@ const BUILD: [Argument; 14] = [
         ..FILE
     },
     Argument {
-        id: "format",
         values: ValueParser::Names(&[
             "rows",
             "properties",
@@ -150,18 +171,13 @@ const BUILD: [Argument; 14] = [
             "unicode-data",
             "unihan",
         ]),
-        help: "What FILE is; if left out, its start decides",
-        ..OPTION
+        ..FORMAT
     },
     Argument {
         help: "The property: in a file of several, its lines; with --aliases, its values",
         ..PROPERTY
     },
-    Argument {
-        id: "field",
-        help: "The field with the value, counted from 0",
-        ..NUMBER
-    },
+    FIELD,
     Argument {
         id: "values",
         values: ValueParser::Names(&["names", "decimal", "hexadecimal", "set"]),
@@ -169,10 +185,8 @@ const BUILD: [Argument; 14] = [
         ..OPTION
     },
     Argument {
-        id: "aliases",
-        value_name: &["FILE"],
         help: "PropertyValueAliases.txt: the names of the property's values, in its order",
-        ..OPTION
+        ..ALIASES
     },
     Argument {
         default: &["fast"],
@@ -211,11 +225,10 @@ const WORDS: [Argument; 6] = [
         ..FILE
     },
     Argument {
-        id: "format",
         values: ValueParser::Names(&["words", "icu"]),
         default: &["words"],
         help: "What FILE is: lines, or the units of a trie",
-        ..OPTION
+        ..FORMAT
     },
     Argument {
         values: ValueParser::Names(&["icu", "c", "rust", "rows"]),
@@ -274,7 +287,6 @@ const SET: [Argument; 11] = [
         ..FILE
     },
     Argument {
-        id: "format",
         values: ValueParser::Names(&[
             "rows",
             "properties",
@@ -286,29 +298,20 @@ const SET: [Argument; 11] = [
             "serialized",
         ]),
         help: "What FILE is; if left out, its start decides, but not for serialized",
-        ..OPTION
+        ..FORMAT
     },
     Argument {
         help: "The property, as in build and in convert",
         ..PROPERTY
     },
     OFFSET,
-    Argument {
-        id: "field",
-        help: "The field with the value, counted from 0",
-        ..NUMBER
-    },
+    FIELD,
     Argument {
         id: "value",
         help: "The value whose code points are the set; 1 if left out, or a property's own",
         ..OPTION
     },
-    Argument {
-        id: "aliases",
-        value_name: &["FILE"],
-        help: "PropertyValueAliases.txt: the names of the property's values",
-        ..OPTION
-    },
+    ALIASES,
     Argument {
         values: ValueParser::Names(&[
             "rows",

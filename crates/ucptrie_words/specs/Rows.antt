@@ -9,7 +9,7 @@ use Rattle.ucptab_table.specs.TableText.{trimmed}
 use Rattle.ucptrie_words.specs.Lines.{is_silent}
 
 -- A text that a line can have as its key: it has no blank at an end and no line feed, and is
--- neither empty nor the start of a comment. It has no U+FFFD either, which may stand for a lone
+-- neither empty nor the start of a comment. It has no U+FFFD either, which may replace a lone
 -- surrogate.
 unfoldable pub can_be_key : List ℕ → Bool
 can_be_key text = (length (trimmed text) == length text && not (is_silent text))

@@ -3,14 +3,14 @@
 use crate::host::{HostRuntime, Text};
 #[allow(unused_imports)]
 use crate::support::prelude::*;
-use crate::ucd_files::kind::{FileKind, kind_of};
+use crate::ucd_files::kind::FileKind;
 use crate::ucptab_table::fault::TableError;
 use crate::ucptab_table::message::row_message;
 use crate::ucptrie::fault::{Fault, about, plain, said};
 use crate::ucptrie::heading::with_heading;
 use crate::ucptrie::streams::{bytes_at, input_name};
 use crate::ucptrie::tables::{form, trie_type, width};
-use crate::ucptrie::unicode_files::build_file;
+use crate::ucptrie::unicode_files::{build_file, found_kind, has_columns, named_kind};
 use crate::ucptrie_tables::built;
 use crate::ucptrie_tables::fault::BuildFault;
 use crate::ucptrie_tables::table::TableOptions;
@@ -60,30 +60,6 @@ fn build_rows(
     }
 }
 
-/// Returns whether the arguments say where values are or what they are, as only for files of the
-/// Unicode Character Database.
-fn has_properties(matches: &ArgMatches) -> bool {
-    ["property", "values", "aliases"]
-        .iter()
-        .any(|id| matches.get_one::<String>(id).map(String::as_str).is_some())
-        || matches.get_one::<u32>("field").is_some()
-}
-
-/// Returns the kind of a file: what the arguments say, or what the file's start says.
-fn kind(matches: &ArgMatches, file: &[u8]) -> FileKind {
-    match matches.get_one::<String>("format").map(String::as_str) {
-        Some("rows") => FileKind::Rows,
-        Some("properties") => FileKind::Properties,
-        Some("unicode-data") => FileKind::UnicodeData,
-        Some("code-points") => FileKind::CodePoints,
-        Some("unihan") => FileKind::Unihan,
-        _ => match kind_of(file) {
-            FileKind::Rows if has_properties(matches) => FileKind::Properties,
-            kind => kind,
-        },
-    }
-}
-
 /// Builds a table of a file, or of standard input, in the form that the arguments name.
 /// `words` are the command.
 pub fn build(rt: &HostRuntime, words: &[String], matches: &ArgMatches) -> Result<Vec<u8>, Fault> {
@@ -92,7 +68,15 @@ pub fn build(rt: &HostRuntime, words: &[String], matches: &ArgMatches) -> Result
         .map(String::as_str)
         .unwrap_or("-");
     let file = bytes_at(rt, path)?;
-    let bytes = match kind(matches, &file) {
+    let has_values = matches
+        .get_one::<String>("values")
+        .map(String::as_str)
+        .is_some();
+    let kind = match named_kind(matches) {
+        Some(kind) => kind,
+        None => found_kind(&file, has_values || has_columns(matches)),
+    };
+    let bytes = match kind {
         FileKind::Rows => build_rows(rt, matches, path, &file)?,
         kind => build_file(rt, matches, path, &file, kind)?,
     };

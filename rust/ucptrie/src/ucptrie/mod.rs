@@ -23,6 +23,7 @@ mod words;
 
 use crate::host::process::ExitCode;
 use crate::host::{env, io};
+use crate::support::AllocError;
 use crate::ucptrie::asked::asked;
 use crate::ucptrie::build::build;
 use crate::ucptrie::convert::convert;
@@ -36,6 +37,7 @@ use crate::ucptrie::words::program_words;
 use crate::ucptrie_tables::diff::differences_text;
 use crate::ucptrie_tables::explain::explained;
 use crate::ucptrie_tables::shown::{answered, shown};
+use crate::ucptrie_tables::table::Table;
 use clap::ArgMatches;
 
 /// Makes a table by `build` or `convert`, a set by `set` or a trie by `words`, and sends it to its
@@ -52,6 +54,12 @@ fn make(rt: &HostRuntime, words: &[String], name: &str, matches: &ArgMatches) ->
     deliver(rt, target, &bytes, is_binary)
 }
 
+/// Prints a text.
+fn put_text(rt: &HostRuntime, text: Result<String, AllocError>) -> Result<(), Fault> {
+    let text = text?;
+    put(rt, text.as_bytes())
+}
+
 /// Prints what a table is, in lines.
 fn show(rt: &HostRuntime, matches: &ArgMatches) -> Result<(), Fault> {
     let table = table_at(
@@ -60,12 +68,12 @@ fn show(rt: &HostRuntime, matches: &ArgMatches) -> Result<(), Fault> {
         "file",
         matches.get_one::<u32>("offset").copied(),
     )?;
-    let text = shown(&table)?;
-    put(rt, text.as_bytes())
+    put_text(rt, shown(&table))
 }
 
-/// Prints the value of each asked number in a table, in lines.
-fn get(rt: &HostRuntime, matches: &ArgMatches) -> Result<(), Fault> {
+/// Prints by `get` the value of each asked number in a table, or by `explain` how its look-up goes,
+/// in lines.
+fn get(rt: &HostRuntime, name: &str, matches: &ArgMatches) -> Result<(), Fault> {
     let asked = asked(rt, matches)?;
     let table = table_at(
         rt,
@@ -73,31 +81,26 @@ fn get(rt: &HostRuntime, matches: &ArgMatches) -> Result<(), Fault> {
         "file",
         matches.get_one::<u32>("offset").copied(),
     )?;
-    let text = answered(&table, &asked)?;
-    put(rt, text.as_bytes())
-}
-
-/// Prints how the look-up of each asked number goes, in lines.
-fn explain(rt: &HostRuntime, matches: &ArgMatches) -> Result<(), Fault> {
-    let asked = asked(rt, matches)?;
-    let table = table_at(
-        rt,
-        matches,
-        "file",
-        matches.get_one::<u32>("offset").copied(),
-    )?;
-    let text = explained(&table, &asked)?;
-    put(rt, text.as_bytes())
+    let text = match name {
+        "get" => answered(&table, &asked),
+        _ => explained(&table, &asked),
+    };
+    put_text(rt, text)
 }
 
 /// Prints the ranges in which two tables differ, in lines. Returns 1 if there is a line, and 0 if
 /// there is none.
-fn diff(rt: &HostRuntime, matches: &ArgMatches) -> Result<u8, Fault> {
-    let first = table_at(rt, matches, "first", None)?;
-    let second = table_at(rt, matches, "second", None)?;
+fn print_differences(rt: &HostRuntime, first: &Table, second: &Table) -> Result<u8, Fault> {
     let text = differences_text(&first.trie, &second.trie)?;
     put(rt, text.as_bytes())?;
     Ok(if text.is_empty() { 0 } else { 1 })
+}
+
+/// Prints the ranges in which the tables of two files differ, and returns the status.
+fn diff(rt: &HostRuntime, matches: &ArgMatches) -> Result<u8, Fault> {
+    let first = table_at(rt, matches, "first", None)?;
+    let second = table_at(rt, matches, "second", None)?;
+    print_differences(rt, &first, &second)
 }
 
 /// Does what a command asks for, and returns the status.
@@ -105,8 +108,7 @@ fn run(rt: &HostRuntime, words: &[String], name: &str, matches: &ArgMatches) -> 
     match name {
         "build" | "convert" | "set" | "words" => make(rt, words, name, matches)?,
         "show" => show(rt, matches)?,
-        "get" => get(rt, matches)?,
-        "explain" => explain(rt, matches)?,
+        "get" | "explain" => get(rt, name, matches)?,
         _ => return diff(rt, matches),
     }
     Ok(0)

@@ -3,7 +3,7 @@
 use crate::host::{HostRuntime, Text};
 #[allow(unused_imports)]
 use crate::support::prelude::*;
-use crate::ucd_files::kind::{FileKind, kind_of};
+use crate::ucd_files::kind::FileKind;
 use crate::ucd_files::names::{Name, Numbering, is_same_name, number_of};
 use crate::ucd_files::statement::Columns;
 use crate::ucptab_table::rows::content_of;
@@ -11,9 +11,12 @@ use crate::ucptrie::build::unbuilt;
 use crate::ucptrie::fault::{Fault, about};
 use crate::ucptrie::heading::with_heading;
 use crate::ucptrie::names::{module_name, name_of};
+use crate::ucptrie::offsets::starts_trie;
 use crate::ucptrie::streams::{bytes_at, input_name};
 use crate::ucptrie::tables::table_in;
-use crate::ucptrie::unicode_files::{columns, is_set, named_file, names, unread};
+use crate::ucptrie::unicode_files::{
+    columns, found_kind, has_columns, is_set, named_file, named_kind, names, unread,
+};
 use crate::ucptrie_sets::fault::{SetFileFault, SetWriteFault, ValueSetFault};
 use crate::ucptrie_sets::of_value::set_of_value;
 use crate::ucptrie_sets::serialized::set_of_bytes;
@@ -64,42 +67,18 @@ fn is_json(file: &[u8]) -> bool {
     }
 }
 
-/// Returns the kind of lines: that of the file's start, but no rows if the arguments say where
-/// values are.
-fn kind(matches: &ArgMatches, file: &[u8]) -> FileKind {
-    let has_properties = matches
-        .get_one::<String>("property")
-        .map(String::as_str)
-        .is_some()
-        || matches
-            .get_one::<String>("aliases")
-            .map(String::as_str)
-            .is_some()
-        || matches.get_one::<u32>("field").is_some();
-    match kind_of(file) {
-        FileKind::Rows if has_properties => FileKind::Properties,
-        kind => kind,
-    }
-}
-
 /// Returns what a file is: what the arguments say, or what its first bytes say.
 fn source_of(matches: &ArgMatches, file: &[u8]) -> Source {
-    match matches.get_one::<String>("format").map(String::as_str) {
-        Some("rows") => return Source::Lines(FileKind::Rows),
-        Some("properties") => return Source::Lines(FileKind::Properties),
-        Some("unicode-data") => return Source::Lines(FileKind::UnicodeData),
-        Some("code-points") => return Source::Lines(FileKind::CodePoints),
-        Some("unihan") => return Source::Lines(FileKind::Unihan),
-        Some("table") => return Source::Table,
-        Some("toml") => return Source::Toml,
-        Some("serialized") => return Source::Serialized,
-        _ => {}
+    if let Some(kind) = named_kind(matches) {
+        return Source::Lines(kind);
     }
-    match file {
-        [b'3', b'i', b'r', b'T', ..] | [b'T', b'r', b'i', b'3', ..] => Source::Table,
-        _ if is_json(file) => Source::Table,
+    match matches.get_one::<String>("format").map(String::as_str) {
+        Some("table") => Source::Table,
+        Some("toml") => Source::Toml,
+        Some("serialized") => Source::Serialized,
+        _ if starts_trie(file) || is_json(file) => Source::Table,
         _ if is_toml(file) => Source::Toml,
-        _ => Source::Lines(kind(matches, file)),
+        _ => Source::Lines(found_kind(file, has_columns(matches))),
     }
 }
 

@@ -6,11 +6,12 @@ use crate::support::prelude::*;
 use crate::ucd_files::aliases::alias_names;
 use crate::ucd_files::fault::FileFault;
 use crate::ucd_files::kind::{
-    FileKind, are_code_points, are_decimal, has_missing_lines, has_property,
+    FileKind, are_code_points, are_decimal, has_missing_lines, has_property, kind_of,
 };
 use crate::ucd_files::names::{Name, Numbering, is_same_name};
 use crate::ucd_files::order::names_in_order;
 use crate::ucd_files::statement::Columns;
+use crate::ucd_files::title::title_of;
 use crate::ucptab_table::input::line_at;
 use crate::ucptab_table::message::line_message;
 use crate::ucptrie::build::{options, unbuilt};
@@ -23,6 +24,40 @@ use crate::ucptrie_tables::unicode_file::table_of_file;
 use crate::ucptrie_tables::value_names::names_source;
 use crate::ucptrie_tables::written::{Form, written};
 use clap::ArgMatches;
+
+/// Returns the kind of lines that the arguments name.
+pub fn named_kind(matches: &ArgMatches) -> Option<FileKind> {
+    match matches.get_one::<String>("format").map(String::as_str) {
+        Some("rows") => Some(FileKind::Rows),
+        Some("properties") => Some(FileKind::Properties),
+        Some("unicode-data") => Some(FileKind::UnicodeData),
+        Some("code-points") => Some(FileKind::CodePoints),
+        Some("unihan") => Some(FileKind::Unihan),
+        _ => None,
+    }
+}
+
+/// Returns whether the arguments say where values are or what they are called, as only for files of
+/// the Unicode Character Database.
+pub fn has_columns(matches: &ArgMatches) -> bool {
+    matches
+        .get_one::<String>("property")
+        .map(String::as_str)
+        .is_some()
+        || matches
+            .get_one::<String>("aliases")
+            .map(String::as_str)
+            .is_some()
+        || matches.get_one::<u32>("field").is_some()
+}
+
+/// Returns the kind of lines that the file's start shows, but no rows if the lines have properties.
+pub fn found_kind(file: &[u8], has_properties: bool) -> FileKind {
+    match kind_of(file) {
+        FileKind::Rows if has_properties => FileKind::Properties,
+        kind => kind,
+    }
+}
 
 /// The properties of `UnicodeData.txt` with one value for each code point: the short and the long
 /// name, and the field.
@@ -48,6 +83,14 @@ fn unicode_data_field(property: &str) -> Result<usize, Fault> {
     }
     let why = "UnicodeData.txt has no such property; --field names a field by its number";
     Err(about(property, why))
+}
+
+/// Returns whether a file is `CaseFolding.txt`.
+fn is_case_folding(file: &[u8]) -> bool {
+    match title_of(file) {
+        Some(title) => title.starts_with(b"CaseFolding".as_slice()),
+        None => false,
+    }
 }
 
 /// Returns where the lines of a file have their values. `name` is what it was read from.
@@ -82,6 +125,9 @@ pub fn columns<'a>(
         (None, None) if is_unicode_data => {
             let why = "the file has many properties: name one by --property or --field";
             Err(about("UnicodeData.txt", why))
+        }
+        (None, None | Some("scf" | "Simple_Case_Folding")) if is_case_folding(file) => {
+            Ok(Columns::SimpleFolding)
         }
         (None, None) if has_overlap(file)? => {
             let why = "a code point has two values: choose by --property or by --field";
@@ -167,6 +213,7 @@ fn numbering<'n>(
         Some("decimal") => Numbering::Decimal,
         Some("hexadecimal") => Numbering::Hexadecimal,
         Some("set") => Numbering::One,
+        None if matches!(columns, Columns::SimpleFolding) => Numbering::Hexadecimal,
         None if is_set(columns, names) => Numbering::One,
         None if matches
             .get_one::<String>("aliases")
