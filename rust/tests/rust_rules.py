@@ -2,10 +2,11 @@
 they need that the code doesn't, and forms that rust/make has to refuse."""
 
 # Our crates of tests, and what they test beside the library.
-TESTS = "packed_tests set_tests trie_tests built_trie_tests ucptab_table uses".split()
+TESTS = "packed_tests trie_tests built_trie_tests ucptab_table uses".split()
 # Modules that need JSON or TOML.
 FORM_MODULES = (
-    "set_tests/tests/code_points/json set_tests/tests/texts/json packed_tests/tests/unit_tries/json"
+    "packed_tests/tests/json_values packed_tests/tests/sets/code_points/json"
+    " packed_tests/tests/sets/texts/json packed_tests/tests/unit_tries/json"
     " packed_tests/tests/unit_tries/written trie_tests/tests/formats/json"
     " trie_tests/tests/formats/toml_keys trie_tests/tests/formats/trie_toml"
 ).split()
@@ -30,6 +31,8 @@ TEST_RULES = [
     (r"(String::from_utf16_lossy\()(?:rt\.alloc\(\)|alloc), (\w+)\)\?", r"\1\2)"),
     (r"use std::(?:test::Fail|process::Abort);\n", ""),
     (r"use std::hash::\{DefaultHasher, ", "use std::hash::{"),
+    # The counter of reads is a ghost in the code, and a type of the tests' ledger.
+    (r"use icu_trie::cells::\{Cells, Steps\};", "use icu_trie::cells::Cells;\nuse crate::ledger::Steps;"),
     (r"\bstd::convert\b", "core::convert"),
     (r"\.to_string\((?=rt)", ".try_to_string("),
     (r"\.push_str\(", ".try_push_str("),

@@ -7,7 +7,6 @@ mod callers;
 mod compaction;
 mod getters;
 mod mapped;
-mod random_maps;
 mod ranges;
 mod refused_memory;
 mod sizes;

@@ -1,5 +1,5 @@
-//! Tests of packed vectors, and of the unit tries that are stored in them, through their public
-//! functions.
+//! Tests of packed vectors, and of the unit tries and sets that are stored in them, through their
+//! public functions.
 #![tactic(auto)]
 
 #[cfg(test)]

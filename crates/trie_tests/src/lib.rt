@@ -1,5 +1,5 @@
 //! Tests of code point tries that are made of their parts, and of their serialized forms, through
-//! the public API.
+//! public functions.
 #![tactic(auto)]
 
 #[cfg(test)]

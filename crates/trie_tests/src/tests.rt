@@ -5,7 +5,6 @@
 //! Each assert is in a small helper without a contract, and values that own memory are passed to
 //! it. A test that asserts and holds such values at the same time would take long to prove.
 
-mod built_tries;
 mod constants;
 mod error_texts;
 mod formats;
@@ -19,8 +18,10 @@ mod refused_parts;
 mod texts;
 mod values;
 
-use icu_collections::codepointtrie::{CodePointTrie, CodePointTrieHeader, TrieType, TrieValue};
-use icu_collections::zerovec::ZeroVec;
+use icu_trie::cptrie::CodePointTrie;
+use icu_trie::header::{CodePointTrieHeader, TrieType};
+use icu_trie::value::TrieValue;
+use icu_zerovec::ZeroVec;
 use std::fmt::{Debug, Display};
 use std::process::Abort;
 

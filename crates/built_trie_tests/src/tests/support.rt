@@ -14,12 +14,6 @@ use std::process::Abort;
 
 pub const BOTH: [TrieType; 2] = [TrieType::Fast, TrieType::Small];
 
-/// The next random number, of 24 bits: the upper bits of a linear congruential generator.
-pub fn random_number(state: &mut u32) -> u32 {
-    *state = state.wrapping_mul(1_664_525).wrapping_add(1_013_904_223);
-    *state >> 8
-}
-
 /// Prints the line.
 pub fn say(rt: &(impl Abort + Print), line: &str) {
     if rt.println(line).is_err() {

@@ -24,10 +24,15 @@ pub fn given<T, E: Drop>(rt: &impl Abort, answer: Result<T, E>) -> T {
     }
 }
 
+/// Expects the text to be `want`.
+pub fn expect_string(rt: &impl Abort, text: String, want: &str) {
+    expect_same(rt, text.as_str(), want, "the text");
+}
+
 /// Expects the text to be `want`. Panics if an allocation failed.
 pub fn expect_text<E>(rt: &impl Abort, text: Result<String, E>, want: &str) {
     match text {
-        Ok(text) => expect_same(rt, text.as_str(), want, "the text"),
+        Ok(text) => expect_string(rt, text, want),
         Err(_) => rt.panic("no text"),
     }
 }
@@ -46,6 +51,14 @@ pub fn expect_shown<T: Debug>(rt: &(impl Abort + AllocGlobal), shown: &T, want: 
 pub fn say(rt: &(impl Abort + Print), line: &str) {
     if rt.println(line).is_err() {
         rt.panic("nothing can be printed");
+    }
+}
+
+/// Prints `done` for the call since the line `call`, and `refused` if an allocation failed in it.
+pub fn tell(rt: &(impl Abort + Print), refused: bool) {
+    say(rt, "done");
+    if refused {
+        say(rt, "refused");
     }
 }
 

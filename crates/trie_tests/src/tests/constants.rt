@@ -1,6 +1,6 @@
 //! The constants of the format, as in ICU's `ucptrie_impl.h` and in the Rust crate.
 use super::expect_same;
-use icu_collections::codepointtrie::impl_const::{
+use icu_trie::impl_const::{
     BMP_INDEX_LENGTH, CODE_POINT_MAX, CP_PER_INDEX_2_ENTRY, ERROR_VALUE_NEG_DATA_OFFSET,
     FAST_TYPE_DATA_BLOCK_LENGTH, FAST_TYPE_DATA_MASK, FAST_TYPE_FAST_INDEXING_MAX, FAST_TYPE_SHIFT,
     HIGH_VALUE_NEG_DATA_OFFSET, INDEX_2_BLOCK_LENGTH, INDEX_2_MASK, INDEX_3_BLOCK_LENGTH,

@@ -3,7 +3,8 @@ use super::{
     Cells, ONES, SEVENS, ZEROS, data, expect, expect_at, expect_same, say, small_header,
     small_trie, trie_of,
 };
-use icu_collections::codepointtrie::{CodePointTrie, CodePointTrieHeader};
+use icu_trie::cptrie::CodePointTrie;
+use icu_trie::header::CodePointTrieHeader;
 
 /// A question to a trie, with the expected result.
 enum Asked {

@@ -1,6 +1,6 @@
-//! Functions that allocate nothing: all reads of a trie, of its ranges and of its cells, and its
-//! conversions. The script `tests/refused_memory` checks that a test whose name ends in `_quiet`
-//! allocates nothing between the lines `call` and `done`.
+//! Functions that allocate nothing: reads of a trie's ranges and of typed tries, and conversions.
+//! The script `tests/refused_memory` checks that a test whose name ends in `_quiet` allocates nothing
+//! between the lines `call` and `done`.
 use super::values::Side;
 use super::{ONES, ZEROS, data, expect_same, say, small_header, trie_of};
 use icu_trie::cptrie::CodePointTrie;
@@ -14,37 +14,6 @@ use std::process::Abort;
 /// The trie with 1 below 0x1000, 2 from there on, and the error value 3.
 fn trie_of_two<'a>(rt: &impl Abort, cells: &'a [u8; 66]) -> CodePointTrie<'a, u8> {
     trie_of(rt, small_header(0x1000, 1), &ZEROS, cells)
-}
-
-/// The results of the getters, and the numbers of index cells and data cells.
-fn reads_of(trie: CodePointTrie<'_, u8>) -> ([u8; 5], u32, (usize, usize)) {
-    let values = [
-        trie.get('A'),
-        trie.get16(0x42),
-        trie.get32_supplementary(0x1_0000),
-        trie.error_value(),
-        trie.null_value(),
-    ];
-    let (_, index, cells) = trie.parts();
-    let lengths = (index.len(), cells.len());
-    (values, trie.get32_u32(0x11_0000), lengths)
-}
-
-/// Calls: `CodePointTrie::get`, `CodePointTrie::get16`, `CodePointTrie::get32_supplementary`,
-/// `CodePointTrie::get32_u32`, `CodePointTrie::error_value`, `CodePointTrie::null_value`,
-/// `CodePointTrie::parts`.
-#[test]
-fn reads_quiet(rt: HostRuntime) {
-    let cells = data(ONES);
-    say(&rt, "call");
-    let reads = reads_of(trie_of_two(&rt, &cells));
-    say(&rt, "done");
-    expect_same(
-        &rt,
-        reads,
-        ([1, 1, 2, 3, 1], 3, (64, 66)),
-        "values, and lengths",
-    );
 }
 
 /// Calls: `TrieType::fast_limit`, `TrieType::fast_index_len`.
@@ -198,6 +167,16 @@ fn signed_value(trie: CodePointTrie<'_, u8>) -> Option<i8> {
     Some(signed.get32(0x41))
 }
 
+/// The error of converting a trie with the null value 7 to sides.
+fn fault_of_null(rt: &impl Abort, cells: &[u8; 66]) -> Option<ConvertError> {
+    let header = CodePointTrieHeader {
+        shifted12_high_start: 0,
+        ..small_header(0, 7)
+    };
+    let trie = trie_of::<u8>(rt, header, &ZEROS, cells);
+    trie.try_into_converted::<Side>().err()
+}
+
 /// Calls: `CodePointTrie::try_into_converted`, `TrieValue::to_u32`, `TrieValue::try_from_u32`.
 #[test]
 fn conversions_quiet(rt: HostRuntime) {
@@ -206,6 +185,7 @@ fn conversions_quiet(rt: HostRuntime) {
     let signed = signed_value(trie_of_two(&rt, &cells));
     let wide = trie_of_two(&rt, &cells).try_into_converted::<u16>().err();
     let sides = trie_of_two(&rt, &cells).try_into_converted::<Side>().err();
+    let null = fault_of_null(&rt, &[0; 66]);
     let numbers = [
         7_u8.to_u32(),
         7_u16.to_u32(),
@@ -228,6 +208,8 @@ fn conversions_quiet(rt: HostRuntime) {
         (Some(1), faults),
         "converted tries",
     );
+    let fault = ConvertError::ErrorOrNull;
+    expect_same(&rt, null, Some(fault), "a null value that is no side");
     let want = [7, 7, 7, u32::MAX, u32::MAX, u32::MAX, 0x41];
     let want = (want, (Some(7), Some(7), Some('A')));
     expect_same(&rt, (numbers, read), want, "numbers, and read back");

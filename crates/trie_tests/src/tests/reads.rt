@@ -3,13 +3,15 @@ ghost use Rattle.std.specs.Prelude.{◌≡◌, ◌<◌};
 ghost use Rattle.icu_trie_core.specs.Contents.{contents_of};
 ghost use Rattle.icu_zerovec.specs.Slice.{slice_values};
 
-use super::built_tries::built;
 use super::{ONES, ZEROS, data, expect_at, say, small_header, trie_of};
-use icu_collections::codepointtrie::{
-    Cells, CodePointMapRange, CodePointTrie, Steps, TrieType, TrieValue, Write, is_coherent,
-    look_up, look_up_whole, walk,
-};
-use icu_collections::zerovec::ZeroSlice;
+use icu_trie::cells::{Cells, Steps};
+use icu_trie::coherent::is_coherent;
+use icu_trie::cptrie::CodePointTrie;
+use icu_trie::lookup::{look_up, look_up_whole};
+use icu_trie::ranges::CodePointMapRange;
+use icu_trie::value::TrieValue;
+use icu_trie::walk::walk;
+use icu_zerovec::ZeroSlice;
 use std::marker::Brand;
 use std::sync::ledger::{Blank, Ledger};
 
@@ -127,24 +129,4 @@ fn cells_quiet(rt: HostRuntime) {
     say(&rt, "done");
     let found = (range.is_some(), whole, value, coherent);
     expect_at(&rt, found, (true, Some(1), Some(1), true), 0x41);
-}
-
-/// The greatest number of cells that one walk over a built trie reads.
-const MOST_READS: u64 = 6_000;
-
-/// The first and the last code point of a range, and its value.
-fn ends_of(range: Option<CodePointMapRange<u8>>) -> Option<(u32, u32, u8)> {
-    let range = range?;
-    Some((*range.range.start(), *range.range.end(), range.value))
-}
-
-/// The last code point has 1 and all others have 0, so no high start ends the walk early.
-#[test]
-fn reads_of_one_walk(rt: HostRuntime) {
-    for trie_type in [TrieType::Fast, TrieType::Small] {
-        let trie = built(&rt, rt.alloc(), trie_type, &[Write::One(0x10FFFF, 1)]);
-        let ((range, reads), _, _, _) = asked(trie, 0);
-        let found = (ends_of(range), 0 < reads && reads <= MOST_READS);
-        expect_at(&rt, found, (Some((0, 0x10FFFE, 0)), true), 0);
-    }
 }

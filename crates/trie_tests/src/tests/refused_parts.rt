@@ -1,7 +1,8 @@
 //! Which parts are rejected when a trie is made of them.
 use super::{ZEROS, expect_at, expect_same, say, small_header};
-use icu_collections::codepointtrie::{CodePointTrie, CodePointTrieError, PartsError};
-use icu_collections::zerovec::ZeroVec;
+use icu_trie::cptrie::CodePointTrie;
+use icu_trie::error::{CodePointTrieError, PartsError};
+use icu_zerovec::ZeroVec;
 use std::alloc::Global;
 use std::process::Abort;
 

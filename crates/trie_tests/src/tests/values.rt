@@ -2,7 +2,7 @@
 //! several bytes encode the same value.
 ghost use Rattle.std.specs.Prelude.{◌≡◌, ◌<◌, Some, Bool, ℕ};
 
-use icu_collections::codepointtrie::{NotAValue, TrieValue};
+use icu_trie::value::{NotAValue, TrieValue};
 use icu_zerovec::ule::AsULE;
 use std::marker::Model;
 

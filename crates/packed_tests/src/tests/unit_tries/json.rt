@@ -1,16 +1,12 @@
 //! Conversion of tries to and from JSON.
 use super::support::{are_same, made_trie, some_trie};
-use crate::tests::support::{expect_same, expect_text, given, say, say_refused};
+use crate::tests::json_values::{expect_value, made_value, value_of_text};
+use crate::tests::support::{expect_same, say, say_refused};
 use icu_char16trie::char16trie::{Char16JsonError, Char16Trie};
 use icu_zerovec::MemoryError;
 use serde_json::Value;
 use std::alloc::Global;
 use std::process::Abort;
-
-/// Parses a JSON text.
-fn value_of_text(alloc: Global, text: &str) -> Option<Value> {
-    Value::from_str(alloc, text).ok()
-}
 
 /// Returns the trie in a JSON value.
 fn read(alloc: Global, value: &Value) -> Result<Char16Trie<'static>, Char16JsonError> {
@@ -31,9 +27,7 @@ fn is_read(
 
 /// Expects a JSON text to have these units or this error.
 fn expect_read(rt: &(impl Abort + AllocGlobal), text: &str, want: Result<&[u16], Char16JsonError>) {
-    let Some(value) = value_of_text(rt.alloc(), text) else {
-        rt.panic("no JSON")
-    };
+    let value = made_value(rt, text);
     match want {
         Ok(units) => expect_same(rt, is_read(rt, &value, units), Ok(true), text),
         Err(fault) => expect_same(rt, is_read(rt, &value, &[]), Err(fault), text),
@@ -78,16 +72,7 @@ fn json_texts(rt: HostRuntime) {
 fn expect_written(rt: &(impl Abort + AllocGlobal + Print), written: Result<Value, MemoryError>) {
     say(rt, "done");
     match written {
-        Ok(value) => {
-            if let Ok(text) = value.to_string(rt.alloc()) {
-                expect_same(
-                    rt,
-                    text.as_str(),
-                    r#"{"data":[49,97,98,32771]}"#,
-                    "the text",
-                );
-            }
-        }
+        Ok(value) => expect_value(rt, &value, r#"{"data":[49,97,98,32771]}"#),
         Err(error) => say_refused(rt, error),
     }
 }

@@ -4,7 +4,6 @@ use crate::tests::{expect_same, say};
 use icu_trie_binary::binary::{BinaryError, SwappedError, from_binary_swapped, to_binary};
 use std::alloc::Global;
 use std::process::Abort;
-use std::test::Fail;
 
 /// The header of `SMALL_8` and the first two cells of its index, in big-endian order. The other
 /// index cells are zero, and the values take one byte each. So the rest is the same in both byte
@@ -21,25 +20,25 @@ fn swapped_8(alloc: Global) -> Option<Vec<u8>> {
     Some(bytes)
 }
 
-/// Appends groups of `width` bytes, each in reverse order.
-fn append_reversed(bytes: &mut Vec<u8>, groups: &[u8], width: usize) -> Result<(), Fail> {
+/// Appends groups of `width` bytes, each in reverse order. Returns `None` if an allocation fails.
+fn append_reversed(bytes: &mut Vec<u8>, groups: &[u8], width: usize) -> Option<()> {
     if width > 0 {
         for group in groups.chunks(width) {
             for byte in group.iter().rev() {
-                bytes.push(*byte)?;
+                bytes.push(*byte).ok()?;
             }
         }
     }
-    Ok(())
+    Some(())
 }
 
-/// `SMALL_32` in big-endian order. Its index has 186 cells.
-fn swapped_32(alloc: Global) -> Result<Vec<u8>, Fail> {
+/// `SMALL_32` in big-endian order, or `None` if an allocation fails. Its index has 186 cells.
+fn swapped_32(alloc: Global) -> Option<Vec<u8>> {
     let mut bytes = Vec::new(alloc);
     append_reversed(&mut bytes, &SMALL_32[..4], 4)?;
     append_reversed(&mut bytes, &SMALL_32[4..16 + 2 * 186], 2)?;
     append_reversed(&mut bytes, &SMALL_32[16 + 2 * 186..], 4)?;
-    Ok(bytes)
+    Some(bytes)
 }
 
 /// How many of the bytes the 32-bit trie takes, and the bytes as which it is written. `None` if
@@ -67,10 +66,11 @@ fn expect_rewritten(rt: &impl Abort, found: Option<(usize, Vec<u8>)>) {
 
 /// A trie whose cells have several bytes is the one that ICU wrote.
 #[test]
-fn trie_of_32_bits(rt: HostRuntime) -> Result<(), Fail> {
-    let bytes = swapped_32(rt.alloc())?;
-    expect_rewritten(&rt, rewritten(rt.alloc(), bytes.as_slice()));
-    Ok(())
+fn trie_of_32_bits(rt: HostRuntime) {
+    match swapped_32(rt.alloc()) {
+        Some(bytes) => expect_rewritten(&rt, rewritten(rt.alloc(), bytes.as_slice())),
+        None => rt.panic("no memory"),
+    }
 }
 
 /// The number of bytes of the 8-bit trie, or the error.

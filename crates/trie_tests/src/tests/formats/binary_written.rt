@@ -7,9 +7,7 @@ use icu_trie::header::{CodePointTrieHeader, TrieType};
 use icu_trie::value::TrieValue;
 use icu_trie_binary::binary::{WriteError, binary_len, from_binary, to_binary, write_binary};
 use icu_zerovec::ZeroVec;
-use std::alloc::Global;
 use std::process::Abort;
-use std::test::Fail;
 
 /// The number of bytes of the trie, if `binary_len` and `write_binary`, which writes it into
 /// `room`, agree on it.
@@ -109,17 +107,34 @@ const OTHER_NULL: CodePointTrieHeader = CodePointTrieHeader {
     ..PLAIN
 };
 
+/// The index of this many zeros.
+fn index_of_zeros(rt: &(impl Abort + AllocGlobal), count: usize) -> ZeroVec<'static, u16> {
+    match ZeroVec::alloc_from_iter(rt.alloc(), std::iter::repeat_n(0u16, count)) {
+        Ok(cells) => cells,
+        Err(_) => rt.panic("no memory"),
+    }
+}
+
+/// The data of this many zeros.
+fn data_of_zeros(rt: &(impl Abort + AllocGlobal), count: usize) -> ZeroVec<'static, u8> {
+    match ZeroVec::alloc_from_iter(rt.alloc(), std::iter::repeat_n(0u8, count)) {
+        Ok(cells) => cells,
+        Err(_) => rt.panic("no memory"),
+    }
+}
+
 /// The result of `binary_len` for a trie with this many index cells and data cells, all of them
 /// zero.
 fn len_of_zeros(
-    alloc: Global,
+    rt: &(impl Abort + AllocGlobal),
     header: CodePointTrieHeader,
-    cells: (usize, usize),
-) -> Result<Result<usize, WriteError>, Fail> {
-    let index = ZeroVec::alloc_from_iter(alloc, std::iter::repeat_n(0u16, cells.0))?;
-    let values = ZeroVec::alloc_from_iter(alloc, std::iter::repeat_n(0u8, cells.1))?;
-    let trie = CodePointTrie::try_new(header, index, values)?;
-    Ok(binary_len(&trie))
+    (index, data): (usize, usize),
+) -> Result<usize, WriteError> {
+    let (index, data) = (index_of_zeros(rt, index), data_of_zeros(rt, data));
+    match CodePointTrie::try_new(header, index, data) {
+        Ok(trie) => binary_len(&trie),
+        Err(_) => rt.panic("no trie"),
+    }
 }
 
 /// Headers, the numbers of index cells and of data cells, and the result of `binary_len`.
@@ -141,12 +156,11 @@ static LENGTHS: [(
 
 /// The length at the limits of the binary form, and the errors beyond them.
 #[test]
-fn lengths_of_tries(rt: HostRuntime) -> Result<(), Fail> {
+fn lengths_of_tries(rt: HostRuntime) {
     for (header, cells, want) in LENGTHS.iter() {
-        let found = len_of_zeros(rt.alloc(), *header, *cells)?;
+        let found = len_of_zeros(&rt, *header, *cells);
         expect_same(&rt, (*cells, found), (*cells, *want), "the length");
     }
-    Ok(())
 }
 
 /// Three-byte values are an error, since the binary form has values of one, two and four bytes.

@@ -9,7 +9,6 @@ use icu_zerovec::MemoryError;
 use serde_json::Value;
 use std::alloc::Global;
 use std::process::Abort;
-use std::test::Fail;
 
 /// The start of an object: a header up to the value of its type.
 const HEADER: &str =
@@ -36,10 +35,14 @@ fn value_of(alloc: Global, parts: &[&str]) -> Option<Value> {
     Value::from_str(alloc, text.as_str()).ok()
 }
 
-/// The error of reading such a value.
-fn fault_of(alloc: Global, parts: &[&str]) -> Result<Option<TrieJsonError>, Fail> {
-    let value = value_of(alloc, parts).ok_or("no value")?;
-    Ok(from_json::<u8>(alloc, &value).err())
+/// The JSON value of a text in parts.
+fn made_value(rt: &(impl Abort + AllocGlobal), parts: &[&str]) -> Value {
+    value_of(rt.alloc(), parts).expect(rt, "a value")
+}
+
+/// The error of reading a trie from a value.
+fn fault_of(alloc: Global, value: &Value) -> Option<TrieJsonError> {
+    from_json::<u8>(alloc, value).err()
 }
 
 /// The parts of values that are no tries, with the error: faults of the header, of the arrays, and
@@ -88,11 +91,11 @@ static FAULTS: [(&[&str], TrieJsonError); 15] = [
 
 /// The error is the first fault of the value.
 #[test]
-fn values_of_no_trie(rt: HostRuntime) -> Result<(), Fail> {
+fn values_of_no_trie(rt: HostRuntime) {
     for (parts, fault) in FAULTS.iter() {
-        expect_same(&rt, fault_of(rt.alloc(), parts)?, Some(*fault), "the fault");
+        let found = fault_of(rt.alloc(), &made_value(&rt, parts));
+        expect_same(&rt, found, Some(*fault), "the fault");
     }
-    Ok(())
 }
 
 /// True if the trie is written as this value.
@@ -114,10 +117,7 @@ fn is_written_again(alloc: Global, value: &Value) -> bool {
 /// A trie is written as the value from which it was read.
 #[test]
 fn there_and_back(rt: HostRuntime) {
-    let Some(value) = value_of(rt.alloc(), &WHOLE) else {
-        rt.panic("no value");
-    };
-    let same = is_written_again(rt.alloc(), &value);
+    let same = is_written_again(rt.alloc(), &made_value(&rt, &WHOLE));
     expect(&rt, same, "the value");
 }
 

@@ -1,10 +1,9 @@
 //! Tries in TOML, key by key: the error names the first number that is missing or out of range, and
 //! all numbers before it are accepted.
-use super::support::joined;
+use super::trie_toml::made_table;
 use crate::tests::expect_same;
 use icu_trie_formats::trie_toml::{CodePointTrieToml, TomlError};
-use std::alloc::Global;
-use std::test::Fail;
+use std::process::Abort;
 
 /// An empty index, which is enough if a number is rejected first.
 const INDEX: &str = "index = []\n";
@@ -41,35 +40,28 @@ const NUMBERS: [(&str, &str, &str); 7] = [
     ),
 ];
 
-/// The result of reading a table that has the index and a line for each number, with `line` instead
-/// of the line of number `place`.
-fn read_with(
-    alloc: Global,
-    place: usize,
-    line: &str,
-) -> Result<Result<CodePointTrieToml, TomlError>, Fail> {
+/// The index and a line for each number, with `line` instead of the line of number `place`.
+fn lines_with(place: usize, line: &'static str) -> [&'static str; 8] {
     let mut lines = [INDEX; 8];
     for (i, number) in NUMBERS.iter().enumerate() {
         lines[i + 1] = if i == place { line } else { number.1 };
     }
-    let text = joined(alloc, &lines).ok_or("no memory")?;
-    let table = toml::table_from_str(alloc, text.as_str())?;
-    Ok(CodePointTrieToml::from_table(alloc, &table))
+    lines
+}
+
+/// The error of reading a table of these lines.
+fn fault_of(rt: &(impl Abort + AllocGlobal), lines: &[&str]) -> Option<TomlError> {
+    CodePointTrieToml::from_table(rt.alloc(), &made_table(rt, lines)).err()
 }
 
 /// One number is missing or too large, and all the others are accepted.
 #[test]
-fn numbers_that_are_missing_or_too_large(rt: HostRuntime) -> Result<(), Fail> {
+fn numbers_that_are_missing_or_too_large(rt: HostRuntime) {
     for (i, number) in NUMBERS.iter().enumerate() {
-        let fault = read_with(rt.alloc(), i, "")?.err();
+        let fault = fault_of(&rt, &lines_with(i, ""));
         expect_same(&rt, fault, Some(TomlError::Missing(number.0)), "missing");
-        let fault = read_with(rt.alloc(), i, number.2)?.err();
-        expect_same(
-            &rt,
-            fault,
-            Some(TomlError::OutOfRange(number.0)),
-            "too large",
-        );
+        let fault = fault_of(&rt, &lines_with(i, number.2));
+        let want = Some(TomlError::OutOfRange(number.0));
+        expect_same(&rt, fault, want, "too large");
     }
-    Ok(())
 }

@@ -9,7 +9,6 @@ use icu_trie_formats::trie_toml::{
 };
 use std::alloc::Global;
 use std::process::Abort;
-use std::test::Fail;
 use toml::Table;
 
 /// 64 cells of 0.
@@ -58,10 +57,9 @@ fn trie_of_table(
     CodePointTrie::try_from(&read)
 }
 
-/// The error of reading a trie from such a table.
-fn fault_of(alloc: Global, parts: &[&str]) -> Result<Option<TrieFromTomlError>, Fail> {
-    let table = table_of(alloc, parts).ok_or("no table")?;
-    Ok(trie_of_table(alloc, &table).err())
+/// The table of a text in parts.
+pub fn made_table(rt: &(impl Abort + AllocGlobal), parts: &[&str]) -> Table {
+    table_of(rt.alloc(), parts).expect(rt, "a table")
 }
 
 /// The parts of tables that have no trie, with the error: the first fault of the table, or the
@@ -145,11 +143,11 @@ static FAULTS: [(&[&str], TrieFromTomlError); 17] = [
 
 /// A fault of the table is returned as such, and `?` converts it into an error of the trie.
 #[test]
-fn tables_of_no_trie(rt: HostRuntime) -> Result<(), Fail> {
+fn tables_of_no_trie(rt: HostRuntime) {
     for (parts, fault) in FAULTS.iter() {
-        expect_same(&rt, fault_of(rt.alloc(), parts)?, Some(*fault), "the fault");
+        let found = trie_of_table(rt.alloc(), &made_table(&rt, parts)).err();
+        expect_same(&rt, found, Some(*fault), "the fault");
     }
-    Ok(())
 }
 
 static TABLE_TEXTS: [(TomlError, &str); 3] = [

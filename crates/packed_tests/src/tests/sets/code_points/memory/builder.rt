@@ -1,7 +1,7 @@
 //! Changes of a builder.
 use super::*;
-use crate::tests::code_points::changes::{Addition, Change, Operation, Removal, Turn};
-use crate::tests::points::set_of;
+use crate::tests::sets::code_points::changes::{Addition, Change, Operation, Removal, Turn};
+use crate::tests::sets::points::set_of;
 
 /// Changes a builder of A to Z without spare capacity. Expects its set to be `after`, or still A to
 /// Z if an allocation failed.

@@ -1,10 +1,10 @@
 //! Functions that make sets and lists.
 use super::*;
-use crate::tests::code_points::errors::expect_points;
-use crate::tests::expect_same;
-use crate::tests::points::{
+use crate::tests::sets::code_points::errors::expect_points;
+use crate::tests::sets::points::{
     all, basic, counts_of, expect_ends, list_of, list_of_ends, set_of, set_of_range, set_over,
 };
+use crate::tests::support::expect_same;
 use icu_invlist::codepointinvlist::SetError;
 use std::ops::RangeInclusive;
 

@@ -1,6 +1,6 @@
 //! Frozen sets: that they are made and return what the set returns, and failed allocations.
 use super::points::{expect_listed, set_of};
-use super::{expect, expect_same, say, tell};
+use crate::tests::support::{expect, expect_same, say, tell};
 use icu_frozen_sets::frozen::{FrozenCodePointSet, FrozenTables};
 use icu_frozen_sets::spans::Spans;
 use icu_invlist::codepointinvlist::CodePointInversionList;

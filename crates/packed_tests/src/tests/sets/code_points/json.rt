@@ -1,29 +1,10 @@
 //! Conversion of sets to and from JSON.
 use super::*;
-use crate::tests::points::{basic, expect_listed, expect_set, set_of};
-use crate::tests::{expect_same, expect_text, expect_told, say, tell};
+use crate::tests::json_values::{expect_value, made_value, value_of_text};
+use crate::tests::sets::points::{basic, expect_listed, expect_set, set_of};
+use crate::tests::support::{expect_same, expect_told, say, tell};
 use icu_invlist::codepointinvlist::SetJsonError;
 use serde_json::Value;
-
-/// Parses a JSON text. Returns `None` if an allocation fails.
-pub fn value_of(alloc: Global, text: &str) -> Option<Value> {
-    Value::from_str(alloc, text).ok()
-}
-
-/// Parses a JSON text. Panics if an allocation fails.
-pub fn made_value(rt: &(impl Abort + AllocGlobal), text: &str) -> Value {
-    match value_of(rt.alloc(), text) {
-        Some(value) => value,
-        None => rt.panic("no value"),
-    }
-}
-
-/// Expects the value to have this text. Checks nothing if an allocation fails.
-pub fn expect_value(rt: &(impl Abort + AllocGlobal), value: &Value, want: &str) {
-    if let Ok(text) = value.to_string(rt.alloc()) {
-        expect_text(rt, text, want);
-    }
-}
 
 /// Expects a value with this text. Panics if there is no value or an allocation fails.
 pub fn expect_written(rt: &(impl Abort + AllocGlobal), value: Option<Value>, want: &str) {
@@ -135,7 +116,7 @@ fn expect_read_or_refused(
 /// Calls: `CodePointInversionList::from_json`.
 #[test]
 fn from_json_refused(rt: HostRuntime) {
-    let Some(value) = value_of(rt.alloc(), "[\"A-Z\", \"a-z\"]") else {
+    let Some(value) = value_of_text(rt.alloc(), "[\"A-Z\", \"a-z\"]") else {
         return;
     };
     say(&rt, "call");

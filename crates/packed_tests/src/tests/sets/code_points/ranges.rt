@@ -1,6 +1,6 @@
 //! The bounds of each type of range.
 use super::*;
-use crate::tests::{expect_same, say};
+use crate::tests::support::{expect_same, say};
 use icu_invlist::codepointinvlist::{RangeOf, RangePoint, deconstruct_range};
 use std::ops::{Range, RangeFull};
 

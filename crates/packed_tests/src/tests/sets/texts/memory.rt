@@ -1,7 +1,7 @@
 //! Failed allocations. Each function that may allocate returns an error as soon as an allocation
 //! fails. Functions that do not allocate request no memory.
 use super::*;
-use crate::tests::{expect, expect_same, say, tell};
+use crate::tests::support::{expect, expect_same, say, tell};
 
 /// Expects the set to be all code points and "ab". Checks nothing if making another one fails to
 /// allocate.

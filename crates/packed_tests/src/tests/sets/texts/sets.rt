@@ -1,7 +1,7 @@
 //! Sets and their queries.
 use super::*;
-use crate::tests::expect_same;
-use crate::tests::points::{basic, made_set};
+use crate::tests::sets::points::{basic, made_set};
+use crate::tests::support::expect_same;
 
 /// Invalid lists of strings, and the texts of the errors.
 static REFUSED: [(&[&str], &str); 5] = [

@@ -1,6 +1,6 @@
 //! How tests make and query sets of code points. A function of the library that several tests call
 //! is called only here.
-use super::expect_same;
+use crate::tests::support::expect_same;
 use icu_invlist::codepointinvlist::{CodePointInversionList, RangeOf, SetError, TryRangeError};
 use icu_zerovec::{PotentialCodePoint, ZeroVec};
 use std::alloc::Global;

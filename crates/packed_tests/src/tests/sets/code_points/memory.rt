@@ -7,8 +7,8 @@ mod quiet;
 
 use super::changes::{builder_of, copy_of_builder, set_built};
 use super::*;
-use crate::tests::points::expect_listed;
-use crate::tests::{say, tell};
+use crate::tests::sets::points::expect_listed;
+use crate::tests::support::{say, tell};
 use icu_invlist::codepointinvlist::CodePointInversionListBuilder;
 
 /// The boundaries of the set that the builders start with: A to Z.

@@ -1,7 +1,7 @@
 //! Queries of sets.
 use super::*;
-use crate::tests::points::{all, basic, counts_of, ends_of, set_of};
-use crate::tests::{expect_same, hash_of, say};
+use crate::tests::sets::points::{all, basic, counts_of, ends_of, set_of};
+use crate::tests::support::{expect_same, hash_of, say};
 
 const GREATER: [u32; 8] = [0xA, 0x14, 0x28, 0x32, 0x46, 0x50, 0x64, 0x6E];
 

@@ -1,8 +1,10 @@
 //! Functions that do not allocate.
 use super::*;
-use crate::tests::code_points::changes::{Addition, Change, Keeping, Operation, Removal, Turn};
-use crate::tests::points::{basic, list_of, set_of, set_over};
-use crate::tests::{expect, expect_same};
+use crate::tests::sets::code_points::changes::{
+    Addition, Change, Keeping, Operation, Removal, Turn,
+};
+use crate::tests::sets::points::{basic, list_of, set_of, set_over};
+use crate::tests::support::{expect, expect_same};
 use icu_invlist::codepointinvlist::is_valid_zv;
 use icu_zerovec::{PotentialCodePoint, ZeroVec};
 

@@ -1,8 +1,8 @@
 //! Frozen sets with strings: that they are made and return what the set returns, and failed
 //! allocations.
 use super::*;
-use crate::tests::points::set_of;
-use crate::tests::{expect, expect_same, say, tell};
+use crate::tests::sets::points::set_of;
+use crate::tests::support::{expect, expect_same, say, tell};
 use icu_frozen_sets::text_sets::FrozenCodePointSetAndStrings;
 
 /// Returns a set of the ASCII letters, the empty string and other strings, one of which has two Han

@@ -1,5 +1,5 @@
 //! The builder's methods as values, for tables of test cases.
-use crate::tests::points::set_of;
+use crate::tests::sets::points::set_of;
 use icu_invlist::codepointinvlist::{CodePointInversionList, CodePointInversionListBuilder};
 use icu_zerovec::MemoryError;
 use std::alloc::Global;

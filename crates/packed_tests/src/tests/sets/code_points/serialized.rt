@@ -1,8 +1,8 @@
 //! Sets in ICU's serialized form. The units are those that `uset_serialize` of ICU4C 72 writes;
 //! invalid ones are made by hand.
 use super::*;
-use crate::tests::points::{basic, expect_listed, expect_set, made_set, set_of};
-use crate::tests::{expect_same, say, tell};
+use crate::tests::sets::points::{basic, expect_listed, expect_set, made_set, set_of};
+use crate::tests::support::{expect_same, say, tell};
 use icu_invlist_binary::serialized::{
     SerializeError, SerializedSetError, WriteError, from_serialized, serialized_len, to_serialized,
     write_serialized,

@@ -1,7 +1,7 @@
 //! The ranges, the gaps and the characters of sets.
 use super::*;
-use crate::tests::points::{ends_of, set_of};
-use crate::tests::{expect_same, say};
+use crate::tests::sets::points::{ends_of, set_of};
+use crate::tests::support::{expect_same, say};
 
 /// Expects the set to have exactly these ranges, given by their first and their last number.
 fn expect_ranges(rt: &impl Abort, set: &CodePointInversionList<'_>, want: &[(u32, u32)]) {

@@ -1,7 +1,7 @@
 //! Invalid lists and ranges, and the texts of errors.
 use super::*;
-use crate::tests::points::{set_of_range, set_or_fault};
-use crate::tests::{expect_same, expect_told};
+use crate::tests::sets::points::{set_of_range, set_or_fault};
+use crate::tests::support::{expect_same, expect_told};
 use icu_invlist::codepointinvlist::{
     InvalidSetError, RangeError, RangeOf, SetError, SetJsonError, TryRangeError,
 };

@@ -5,8 +5,8 @@ mod json;
 mod memory;
 mod sets;
 
-use super::expect_told;
 use super::points::all;
+use crate::tests::support::expect_told;
 use icu_invlist::codepointinvlist::CodePointInversionList;
 use icu_text_sets::codepointinvliststringlist::{
     CodePointInversionListAndStringList, InvalidStringList,

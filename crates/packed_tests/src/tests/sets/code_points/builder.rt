@@ -3,8 +3,8 @@ use super::changes::{
     Addition, Change, Keeping, Removal, Turn, builder_of, copy_of_builder, set_built,
 };
 use super::*;
-use crate::tests::expect;
-use crate::tests::points::expect_set;
+use crate::tests::sets::points::expect_set;
+use crate::tests::support::expect;
 use icu_invlist::codepointinvlist::CodePointInversionListBuilder;
 
 /// Returns the set that the builder has so far, or `None` if an allocation fails.

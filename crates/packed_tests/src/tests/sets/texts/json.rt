@@ -1,8 +1,9 @@
 //! Conversion of sets to and from JSON.
 use super::*;
-use crate::tests::code_points::json::{expect_value, expect_written, made_value, value_of};
-use crate::tests::texts::memory::{expect_all_and_ab, expect_gathered};
-use crate::tests::{say, tell};
+use crate::tests::json_values::{expect_value, made_value, value_of_text};
+use crate::tests::sets::code_points::json::expect_written;
+use crate::tests::sets::texts::memory::{expect_all_and_ab, expect_gathered};
+use crate::tests::support::{say, tell};
 use icu_text_sets::codepointinvliststringlist::StringListJsonError;
 use serde_json::Value;
 
@@ -94,7 +95,7 @@ fn expect_read(
 #[test]
 fn from_json_refused(rt: HostRuntime) {
     let text = "{\"cp_inv_list\":[\"a\"],\"str_list\":[\"abc\",\"xyz\"]}";
-    let Some(value) = value_of(rt.alloc(), text) else {
+    let Some(value) = value_of_text(rt.alloc(), text) else {
         return;
     };
     say(&rt, "call");
