@@ -14,5 +14,8 @@ pub use Rattle.icu_trie_text.proofs.Utf16Lemmas.{length-code_points}
 pub use Rattle.icu_trie_text.proofs.CopiedItems.{text_next}
 -- The code points that have their values at their own index in the data.
 pub use Rattle.icu_trie_text.proofs.AsciiLemmas.{ascii_known}
--- The first character of bytes that start with a lead byte of two and a trail byte.
-pub use Rattle.icu_trie_text.proofs.Utf8Parts.{two_bytes_found}
+-- The first character of bytes, by its own bytes.
+pub use Rattle.icu_trie_text.proofs.Utf8Parts.{part_of_ascii, two_bytes_found}
+pub use Rattle.icu_trie_text.proofs.Utf8Bytes.{four_bytes_found, three_bytes_found}
+-- The bytes of a character at the start, by its size.
+pub use Rattle.icu_trie_text.proofs.Utf8Bytes.{HasHigh, byte_of_one, bytes_of_four, bytes_of_three, bytes_of_two}

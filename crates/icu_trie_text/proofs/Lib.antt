@@ -8,6 +8,7 @@ pub mod IndexLemmas
 pub mod NearLemmas
 pub mod Utf16Lemmas
 pub mod Utf8Absent
+pub mod Utf8Bytes
 pub mod Utf8Parts
 pub mod Utf8Table
 pub mod Utf8ValueLemmas

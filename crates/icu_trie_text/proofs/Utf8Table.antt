@@ -79,7 +79,7 @@ four a b d e lb ld le high =
     }
 
 -- ---- each character has such bytes
-data Row (c : ℕ) : Type 0 where
+pub data Row (c : ℕ) : Type 0 where
   of_one : c < 128 → encode_utf8 c ≡ c ∷ [] → Row c
   of_two : (a b : ℕ) → 2 ≤ a → a < 32 → b < 64 → encode_utf8 c ≡ (192 + a) ∷ (128 + b) ∷ [] → Row c
   of_three : (a b d : ℕ) → a < 16 → b < 64 → d < 64 → IsHighOfThree (a * 64 + b)
@@ -100,7 +100,7 @@ high_of_four c s l = elim s [
   | inr far ↦ (omega arith, omega (arith, far.1))
 ]
 
-row : (c : ℕ) → IsScalar c → Row c
+pub row : (c : ℕ) → IsScalar c → Row c
 row c s = elim (cases_lt c 128) [
   | inl h ↦ of_one h (encode_ascii c h)
   | inr l ↦ elim (cases_lt c 2048) [
