@@ -1,25 +1,20 @@
--- Characters of one, two and three bytes at the start of bytes, and the loops that pass them.
-use Rattle.std.proofs.Common.{◌≡◌, ◌∙◌, sym, subst, ℕ, ◌+◌, ◌-◌, ◌*◌, ◌/◌, ◌%◌, ◌<◌, ◌≤◌, Bool, true, false, List, length, drop, get_or, arith, inl, inr, Some}
+-- Characters of one to four bytes at the start of bytes, and the loops that pass them.
+use Rattle.std.proofs.Common.{◌≡◌, ◌∙◌, sym, ap, subst, ℕ, ◌+◌, ◌-◌, ◌*◌, ◌/◌, ◌%◌, ◌<◌, ◌≤◌, Bool, true, false, List, length, drop, get_or, arith, inl, inr, Some}
+use Rattle.std.specs.Prelude.{◌⊎◌}
 use mathlib.Core.Bool.{beq, not}
 use Rattle.std.proofs.lemmas.Bool.{cases_lt}
-use Rattle.std.proofs.lemmas.Str.{length-encode}
+use Rattle.std.proofs.lemmas.Str.{encode_same}
 use Rattle.icu_trie_text.specs.Utf8.{IsFirstPart}
-use Rattle.icu_trie_text.proofs.CallerLemmas.{two_bytes_found}
+use Rattle.icu_trie_text.proofs.CallerLemmas.{four_bytes_found, three_bytes_found, two_bytes_found}
 use Rattle.icu_collections_c.specs.Frozen.{is_held}
-use Rattle.icu_collections_c.specs.Inside.WideCharacters.{AreOfThree, IsPassed, IsThree}
+use Rattle.icu_collections_c.specs.Inside.WideCharacters.{IsPassed}
 use Rattle.icu_collections_c.specs.declared.wide_characters.Passed.{Passed}
-use Rattle.icu_collections_c.proofs.WideLemmas.{Starts, Walks, ascii_starts, other_of, passed_end, same_of, three_starts, walks_more}
+use Rattle.icu_collections_c.proofs.WideLemmas.{Walks, other_of, passed_end, same_of, walks_more}
 
 -- ---- the first character
-part_of : (bytes : List ℕ) (c size : ℕ) → Starts bytes c size → IsFirstPart bytes (Some c) size
-part_of bytes c size s = (s.scalar, s.size_is ∙ length-encode c, s.parts)
-
-starts_of : (bytes : List ℕ) (c size : ℕ) → IsFirstPart bytes (Some c) size → size ≤ length bytes → Starts bytes c size
-starts_of bytes c size p there =
-    record { scalar = p.0; size_is = p.1 ∙ sym (length-encode c); there = there; parts = p.2 }
-
-pub one_part : (bytes : List ℕ) → 1 ≤ length bytes → get_or bytes 0 0 < 128 → IsFirstPart bytes (Some (get_or bytes 0 0)) 1
-one_part bytes some l = part_of bytes (get_or bytes 0 0) 1 (ascii_starts bytes some l)
+-- There is one at most.
+pub same_part : (bytes : List ℕ) (c d size : ℕ) → IsFirstPart bytes (Some c) size → IsFirstPart bytes (Some d) size → Some c ≡ Some d
+same_part bytes c d size p q = ap (λ (x : ℕ). Some x) ((encode_same c d _ _ (sym p.2 ∙ q.2)).0)
 
 pub two_part : (bytes : List ℕ) → 2 ≤ length bytes → 0xC2 ≤ get_or bytes 0 0 → get_or bytes 0 0 < 0xE0 → get_or bytes 1 0 / 64 ≡ 2
     → IsFirstPart bytes (Some (64 * (get_or bytes 0 0 % 32) + get_or bytes 1 0 % 64)) 2
@@ -38,34 +33,29 @@ pub three_part : (bytes : List ℕ) (both : ℕ) → 3 ≤ length bytes → get_
     → both ≡ 64 * get_or bytes 0 0 + get_or bytes 1 0 → 0x38A0 ≤ both → both < 0x3C80 → (both / 32 ≡ 0x1DF → ⊥)
     → IsFirstPart bytes (Some (64 * (both - 0x3880) + get_or bytes 2 0 % 64)) 3
 three_part bytes both many second third e least most other =
-    let x : ℕ = get_or bytes 0 0 in
-    let y : ℕ = get_or bytes 1 0 in
     let high : ℕ = both - 0x3880 in
-    let t : IsThree bytes high = record {
-      most = omega (arith, least, most);
-      lead = omega (arith, second, e, least);
-      first = omega (arith, second, e, least);
-      second = third;
-    } in
-    let low : 0x20 ≤ high = omega (arith, least) in
-    let o : AreOfThree high = (
-      low,
-      elim (cases_lt high 0x360) [
-        | inl l ↦ inl l
-        | inr l ↦ elim (cases_lt high 0x380) [ inl m ↦ absurd (other (omega (arith, least, l, m))) | inr m ↦ inr m ]
-      ],
-    ) in
-    part_of bytes (64 * high + get_or bytes 2 0 % 64) 3 (three_starts bytes high many t o)
+    let allowed : (high < 0x360) ⊎ (0x380 ≤ high) = elim (cases_lt high 0x360) [
+      | inl l ↦ inl l
+      | inr l ↦ elim (cases_lt high 0x380) [ inl m ↦ absurd (other (omega (arith, least, l, m))) | inr m ↦ inr m ]
+    ] in
+    three_bytes_found bytes high many (omega (arith, second, e, least)) (omega (arith, second, e, least)) third
+    (omega (arith, least)) (omega (arith, least, most)) allowed
+
+pub four_part : (bytes : List ℕ) (both : ℕ) → 4 ≤ length bytes → get_or bytes 1 0 / 64 ≡ 2 → get_or bytes 2 0 / 64 ≡ 2
+    → get_or bytes 3 0 / 64 ≡ 2 → both ≡ 64 * get_or bytes 0 0 + get_or bytes 1 0 → 0x3C90 ≤ both → both < 0x3D90
+    → IsFirstPart bytes (Some (4096 * (both - 0x3C80) + (64 * (get_or bytes 2 0 % 64) + get_or bytes 3 0 % 64))) 4
+four_part bytes both many second third fourth e least most =
+    four_bytes_found bytes (both - 0x3C80) many (omega (arith, second, e, least)) (omega (arith, second, e, least)) third fourth
+    (omega (arith, least)) (omega (arith, least, most))
 
 -- ---- what the loops have passed
 module _ (table : List ℕ) (held : Bool) (bytes : List ℕ) (start : ℕ) (rest : List ℕ)
     (w : Walks (Unit {0}) (is_held table) held bytes start rest) (c size : ℕ) (p : IsFirstPart rest (Some c) size)
-    (there : size ≤ length rest) (b : Bool) (e : b ≡ is_held table c) where
+    (b : Bool) (e : b ≡ is_held table c) where
   pub near_more : not (beq b held) ≡ false → Walks (Unit {0}) (is_held table) held bytes start (drop size rest)
-  near_more n = walks_more (Unit {0}) (is_held table) held bytes start rest w c size (starts_of rest c size p there)
-      (λ u. same_of _ _ _ e n)
+  near_more n = walks_more (Unit {0}) (is_held table) held bytes start rest w c size p (λ u. same_of _ _ _ e n)
 
   pub near_end : not (beq b held) ≡ true → (passed : Passed) → passed.end ≡ length bytes - length rest
       → IsPassed (Unit {0}) (is_held table) held bytes start passed
-  near_end n passed at = passed_end (Unit {0}) (is_held table) held bytes start rest w c size (starts_of rest c size p there) passed at
+  near_end n passed at = passed_end (Unit {0}) (is_held table) held bytes start rest w c size p passed at
       (λ u. other_of _ _ _ e n)

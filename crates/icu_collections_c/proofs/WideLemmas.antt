@@ -1,73 +1,38 @@
 -- Characters of three bytes by the upper bits of their code points, and what has passed them.
-use Rattle.std.proofs.Common.{◌≡◌, ◌∙◌, sym, ap, subst, refl, ℕ, zero, suc, ◌+◌, ◌-◌, ◌*◌, ◌/◌, ◌%◌, ◌^◌, ◌<◌, ◌≤◌, Bool, true, false, List, [], ◌∷◌, ◌++◌, length, take, drop, get_or, arith, inl, inr, to_z, w64, Some}
+use Rattle.std.proofs.Common.{◌≡◌, ◌∙◌, sym, ap, subst, refl, ℕ, zero, suc, ◌+◌, ◌-◌, ◌*◌, ◌/◌, ◌%◌, ◌^◌, ◌<◌, ◌≤◌, Bool, true, false, List, ◌++◌, length, take, drop, get_or, arith, inl, inr, to_z, w64, Some}
 use Rattle.std.specs.Prelude.{◌⊎◌, ◌==◌, ◌&&◌, ◌||◌}
-use Rattle.std.specs.Char.{IsScalar, encode_utf8}
+use Rattle.std.specs.Char.{encode_utf8}
 use Rattle.std.specs.Int.{bit_at}
 use mathlib.Core.Bool.{beq, not}
-use Rattle.std.proofs.lemmas.Bool.{cases_lt, cond-false, cond-true, eq-eqb, le-leb, le-ltb, lt-ltb, or_from, or_left, or_parts, or_right, ne_eqb, true≢false}
-use Rattle.std.proofs.lemmas.List.{drop-drop, length-drop}
-use Rattle.std.proofs.lemmas.Str.{encode_ascii, length-encode}
+use Rattle.std.proofs.lemmas.Bool.{cases_lt, cond-false, cond-true, eq-eqb, lt-ltb, or_from, or_left, or_parts, or_right, ne_eqb, true≢false}
+use Rattle.std.proofs.lemmas.List.{drop-drop, length-append, length-drop}
+use Rattle.std.proofs.lemmas.Str.{length-encode}
 use Rattle.icu_zerovec.specs.CodePoints.{code_point_limit}
 use Rattle.icu_trie_text.specs.Utf8.{IsFirstPart}
+use Rattle.icu_trie_text.proofs.CallerLemmas.{three_bytes_found}
 use Rattle.icu_collections_c.specs.Frozen.{bit_in, is_held, place_in}
 use Rattle.icu_collections_c.specs.Spans.{AllHeld, AnswersSpan}
 use Rattle.icu_collections_c.specs.Inside.WideCharacters.{AreBitsOf, AreOfThree, IsPassed, IsThree, wide_place}
 use Rattle.icu_collections_c.specs.declared.wide_characters.Passed.{Passed}
 use Rattle.icu_collections_c.proofs.SpanLemmas.{answers_other, as_returned, is_alike, is_other, one_more}
 
--- ---- the bytes of a character
-encode_three : (c : ℕ) → 2048 ≤ c → c < 65536 → encode_utf8 c ≡ (224 + c / 4096) ∷ (128 + c / 64 % 64) ∷ (128 + c % 64) ∷ []
-unfolding encode_utf8
-encode_three c l h = rw (le-ltb c 128 (omega arith), le-ltb c 2048 l, lt-ltb c 65536 h) refl
-
-scalar_low : (c : ℕ) → c < 0xD800 → IsScalar c
-scalar_low c h = rw (lt-ltb c 0xD800 h) refl
-
-scalar_high : (c : ℕ) → 0xE000 ≤ c → c < 0x110000 → IsScalar c
-scalar_high c l h = rw (le-ltb c 0xD800 (omega arith), le-leb 0xE000 c l, lt-ltb c 0x110000 h) refl
-
--- The bytes start with a character.
-pub record Starts (bytes : List ℕ) (c size : ℕ) : Type 0 where
-  pub scalar : IsScalar c
-  pub size_is : size ≡ length (encode_utf8 c)
-  pub there : size ≤ length bytes
-  pub parts : bytes ≡ encode_utf8 c ++ drop size bytes
-
-pub ascii_starts : (bytes : List ℕ) → 0 < length bytes → get_or bytes 0 0 < 128 → Starts bytes (get_or bytes 0 0) 1
-ascii_starts [] some l = absurd (omega arith)
-ascii_starts (x ∷ rest) some l = record {
-  scalar = scalar_low x (omega arith);
-  size_is = sym (ap (λ (bs : List ℕ). length bs) (encode_ascii x l));
-  there = omega arith;
-  parts = ap (λ (bs : List ℕ). bs ++ rest) (sym (encode_ascii x l));
-}
+-- ---- a character at the start of bytes
+-- It is within them.
+pub part_there : (bytes : List ℕ) (c size : ℕ) → IsFirstPart bytes (Some c) size → size ≤ length bytes
+part_there bytes c size p =
+    omega (arith, p.1, length-encode c, ap (λ (bs : List ℕ). length bs) p.2, length-append (encode_utf8 c) (drop size bytes))
 
 pub three_starts : (bytes : List ℕ) (high : ℕ) → 3 ≤ length bytes → IsThree bytes high → AreOfThree high
-    → Starts bytes (64 * high + get_or bytes 2 0 % 64) 3
-three_starts [] high n t o = absurd (omega arith)
-three_starts (x ∷ []) high n t o = absurd (omega arith)
-three_starts (x ∷ y ∷ []) high n t o = absurd (omega arith)
-three_starts (x ∷ y ∷ z ∷ rest) high n t o =
-    let c : ℕ = 64 * high + z % 64 in
-    let least = o.0 in
-    let most = t.most in
-    let second : z / 64 ≡ 2 = t.second in
-    let first : y ≡ 128 + high % 64 = t.first in
-    let lead : x ≡ 224 + high / 64 = t.lead in
-    let upper : c / 64 ≡ high = omega arith in
-    let a : 224 + c / 4096 ≡ x = omega (arith, lead, upper) in
-    let b : 128 + c / 64 % 64 ≡ y = rw upper (sym first) in
-    let d : 128 + c % 64 ≡ z = omega (arith, second) in
-    let e : encode_utf8 c ≡ x ∷ y ∷ z ∷ [] = encode_three c (omega arith) (omega arith) ∙ rw (a, b, d) refl in
-    record {
-      scalar = elim o.1 [
-        | inl low ↦ scalar_low c (omega (arith, low))
-        | inr far ↦ scalar_high c (omega (arith, far)) (omega arith)
-      ];
-      size_is = sym (ap (λ (bs : List ℕ). length bs) e);
-      there = omega arith;
-      parts = ap (λ (bs : List ℕ). bs ++ rest) (sym e);
-    }
+    → IsFirstPart bytes (Some (64 * high + get_or bytes 2 0 % 64)) 3
+three_starts bytes high n t o = three_bytes_found bytes high n t.lead t.first t.second o.0 t.most o.1
+
+-- One more character of the kind, which is the first part of the rest.
+pub next_held : (is_in : ℕ → Bool) (held : Bool) (bytes : List ℕ) (n : ℕ) → n ≤ length bytes → AllHeld is_in held (take n bytes)
+    → (c size : ℕ) → IsFirstPart (drop n bytes) (Some c) size → n + size ≤ length bytes → beq (is_in c) held ≡ true
+    → AllHeld is_in held (take (n + size) bytes)
+next_held is_in held bytes n within alike c size part there is =
+    one_more is_in held bytes n within alike c size part.0 (part.1 ∙ sym (length-encode c))
+    (part.2 ∙ ap (λ (bs : List ℕ). encode_utf8 c ++ bs) (drop-drop size n bytes)) there (is_alike _ _ is)
 
 -- ---- what has passed characters
 pub record Walks (sound : Type 0) (is_in : ℕ → Bool) (held : Bool) (bytes : List ℕ) (start : ℕ) (rest : List ℕ) : Type 0 where
@@ -88,26 +53,25 @@ module _ (sound : Type 0) (is_in : ℕ → Bool) (held : Bool) (bytes : List ℕ
         alike = λ s all. subst (λ (k : ℕ). AllHeld is_in held (take k bytes)) at all;
       }
 
-  module _ (rest : List ℕ) (w : Walks sound is_in held bytes start rest) (c size : ℕ) (h : Starts rest c size) where
+  module _ (rest : List ℕ) (w : Walks sound is_in held bytes start rest) (c size : ℕ) (p : IsFirstPart rest (Some c) size) where
     pub walks_more : (sound → beq (is_in c) held ≡ true) → Walks sound is_in held bytes start (drop size rest)
     walks_more alike =
         let few = w.few in
         let order = w.order in
-        let there = h.there in
+        let there = part_there rest c size p in
         let n : ℕ = length bytes - length rest in
         let left = length-drop size rest in
         let next : n + size ≡ length bytes - length (drop size rest) = omega (arith, left, few, there) in
         let at : drop size rest ≡ drop (n + size) bytes =
         ap (λ (bs : List ℕ). drop size bs) w.rest_is ∙ drop-drop size n bytes in
-        let parts : drop n bytes ≡ encode_utf8 c ++ drop (n + size) bytes =
-        sym w.rest_is ∙ (h.parts ∙ ap (λ (bs : List ℕ). encode_utf8 c ++ bs) at) in
+        let here : IsFirstPart (drop n bytes) (Some c) size =
+        subst (λ (bs : List ℕ). IsFirstPart bs (Some c) size) w.rest_is p in
         record {
           few = omega (arith, left, few);
           order = omega (arith, next, order);
           rest_is = at ∙ ap (λ (k : ℕ). drop k bytes) next;
           alike = λ s all. subst (λ (k : ℕ). AllHeld is_in held (take k bytes)) next
-              (one_more is_in held bytes n (omega arith) (w.alike s all) c size h.scalar h.size_is parts (omega (arith, few, there))
-              (is_alike _ _ (alike s)));
+              (next_held is_in held bytes n (omega arith) (w.alike s all) c size here (omega (arith, few, there)) (alike s));
         }
 
     pub passed_end : (passed : Passed) → passed.end ≡ length bytes - length rest → (sound → beq (is_in c) held ≡ false)
@@ -119,8 +83,8 @@ module _ (sound : Type 0) (is_in : ℕ → Bool) (held : Bool) (bytes : List ℕ
       ends = λ s is. (
         c,
         drop size rest,
-        h.scalar,
-        ap (λ (k : ℕ). drop k bytes) e ∙ (sym w.rest_is ∙ h.parts),
+        p.0,
+        ap (λ (k : ℕ). drop k bytes) e ∙ (sym w.rest_is ∙ p.2),
         differs s,
       );
     }
@@ -141,14 +105,6 @@ module _ (sound : Type 0) (is_in : ℕ → Bool) (held : Bool) (bytes : List ℕ
       let d = p.ends s e in
       as_returned is_in held bytes passed.end small
       (answers_other is_in held bytes passed.end p.within (p.alike s all) d.0 d.1 d.2 d.3 (is_other _ _ d.4))
-
--- One more character of the kind, which is the first part of the rest.
-pub next_held : (is_in : ℕ → Bool) (held : Bool) (bytes : List ℕ) (n : ℕ) → n ≤ length bytes → AllHeld is_in held (take n bytes)
-    → (c size : ℕ) → IsFirstPart (drop n bytes) (Some c) size → n + size ≤ length bytes → beq (is_in c) held ≡ true
-    → AllHeld is_in held (take (n + size) bytes)
-next_held is_in held bytes n within alike c size part there is =
-    one_more is_in held bytes n within alike c size part.0 (part.1 ∙ sym (length-encode c))
-    (part.2 ∙ ap (λ (bs : List ℕ). encode_utf8 c ++ bs) (drop-drop size n bytes)) there (is_alike _ _ is)
 
 -- ---- the bits of 64 code points
 -- Those of a frozen set.

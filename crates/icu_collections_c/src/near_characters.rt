@@ -1,6 +1,6 @@
-//! The characters of a span as long as it is short, without tables. Those of one, two and three
-//! bytes have a loop each: in a text, a character mostly has the size of the one before it.
-ghost use Rattle.std.specs.Prelude.{◌≡◌, ℕ, ◌<◌, ◌≤◌, Some, length};
+//! The characters of a span as long as it is short, without tables. Those of each size have a loop
+//! of their own: in a text, a character mostly has the size of the one before it.
+ghost use Rattle.std.specs.Prelude.{◌≡◌, ℕ, ◌+◌, ◌<◌, ◌≤◌, Some, false, length, drop};
 ghost use Rattle.icu_trie_text.specs.Utf8.{IsFirstPart};
 ghost use Rattle.icu_collections_c.specs.Frozen.{is_held};
 ghost use Rattle.icu_collections_c.specs.Inside.WideCharacters.{IsPassed};
@@ -8,11 +8,12 @@ ghost use Rattle.icu_collections_c.specs.Inside.WideCharacters.{IsPassed};
 use crate::frozen::contains;
 use crate::wide_characters::Passed;
 
-/// Returns the ASCII character at the start of the bytes, or `None` if there is none.
+/// Returns the character of one byte at the start of the bytes, or `None` if there is none.
 #[inline(always)]
 fn of_one(bytes: &[u8]) -> Option<u32>
     requires { 1 ≤ length bytes.now }
-    ensures { (c : ℕ) → result ≡ Some c → IsFirstPart bytes.now (Some c) 1 }
+    ensures found { (c : ℕ) → result ≡ Some c → IsFirstPart bytes.now (Some c) 1 }
+    ensures all { (c : ℕ) → IsFirstPart bytes.now (Some c) 1 → result ≡ Some c }
 {
     if bytes[0] >= 0x80 {
         return None;
@@ -24,7 +25,8 @@ fn of_one(bytes: &[u8]) -> Option<u32>
 #[inline(always)]
 fn of_two(bytes: &[u8]) -> Option<u32>
     requires { 2 ≤ length bytes.now }
-    ensures { (c : ℕ) → result ≡ Some c → IsFirstPart bytes.now (Some c) 2 }
+    ensures found { (c : ℕ) → result ≡ Some c → IsFirstPart bytes.now (Some c) 2 }
+    ensures all { (c : ℕ) → IsFirstPart bytes.now (Some c) 2 → result ≡ Some c }
 {
     if bytes[0] < 0xC2 || bytes[0] >= 0xE0 || bytes[1] / 64 != 2 {
         return None;
@@ -36,7 +38,8 @@ fn of_two(bytes: &[u8]) -> Option<u32>
 #[inline(always)]
 fn of_three(bytes: &[u8]) -> Option<u32>
     requires { 3 ≤ length bytes.now }
-    ensures { (c : ℕ) → result ≡ Some c → IsFirstPart bytes.now (Some c) 3 }
+    ensures found { (c : ℕ) → result ≡ Some c → IsFirstPart bytes.now (Some c) 3 }
+    ensures all { (c : ℕ) → IsFirstPart bytes.now (Some c) 3 → result ≡ Some c }
 {
     if bytes[1] / 64 != 2 || bytes[2] / 64 != 2 {
         return None;
@@ -48,47 +51,70 @@ fn of_three(bytes: &[u8]) -> Option<u32>
     Some(64 * (both - 0x3880) + u32::from(bytes[2] % 64))
 }
 
-/// Passes ASCII characters of the kind.
+/// Returns the character of four bytes at the start of the bytes, or `None` if there is none.
 #[inline(always)]
-fn past_ones(table: &[u64], held: bool, bytes: &[u8], start: usize) -> Passed
-    requires { start ≤ length bytes.now }
-    ensures { IsPassed (Unit {0}) (is_held table.now) held bytes.now start result }
+fn of_four(bytes: &[u8]) -> Option<u32>
+    requires { 4 ≤ length bytes.now }
+    ensures found { (c : ℕ) → result ≡ Some c → IsFirstPart bytes.now (Some c) 4 }
+    ensures all { (c : ℕ) → IsFirstPart bytes.now (Some c) 4 → result ≡ Some c }
 {
-    let mut rest = &bytes[start..];
-    while rest.len() > 0 {
-        let end = bytes.len() - rest.len();
-        let Some(c) = of_one(rest) else {
-            return Passed { end, is_end: false };
-        };
-        if contains(table, c) != held {
-            return Passed { end, is_end: true };
-        }
-        rest = &rest[1..];
+    if bytes[1] / 64 != 2 || bytes[2] / 64 != 2 || bytes[3] / 64 != 2 {
+        return None;
     }
-    Passed {
-        end: bytes.len() - rest.len(),
-        is_end: false,
+    let lead = u32::from(bytes[0]);
+    let both = 64 * lead + u32::from(bytes[1]);
+    if both < 0x3C90 || both >= 0x3D90 {
+        return None;
+    }
+    let last = 64 * u32::from(bytes[2] % 64) + u32::from(bytes[3] % 64);
+    Some(4096 * (both - 0x3C80) + last)
+}
+
+/// Returns the character of `SIZE` bytes at the start of the bytes, or `None` if there is none.
+#[inline(always)]
+fn character<const SIZE: usize>(bytes: &[u8]) -> Option<u32>
+    requires some { 1 ≤ SIZE }
+    requires most { SIZE ≤ 4 }
+    requires there { SIZE ≤ length bytes.now }
+    ensures found { (c : ℕ) → result ≡ Some c → IsFirstPart bytes.now (Some c) SIZE }
+    ensures all { (c : ℕ) → IsFirstPart bytes.now (Some c) SIZE → result ≡ Some c }
+{
+    match SIZE {
+        1 => of_one(bytes),
+        2 => of_two(bytes),
+        3 => of_three(bytes),
+        _ => of_four(bytes),
     }
 }
 
-/// Passes characters of two bytes that are of the kind and before the last `far` bytes. It may stop
-/// before the last of them.
+/// Passes characters of `SIZE` bytes that are of the kind and before the last `far` bytes.
 #[inline(always)]
-fn past_twos(table: &[u64], held: bool, bytes: &[u8], start: usize, far: usize) -> Passed
+fn past_alike<const SIZE: usize>(
+    table: &[u64],
+    held: bool,
+    bytes: &[u8],
+    start: usize,
+    far: usize,
+) -> Passed
+    requires some { 1 ≤ SIZE }
+    requires most { SIZE ≤ 4 }
     requires far { far ≤ length bytes.now }
     requires order { start ≤ length bytes.now }
-    ensures { IsPassed (Unit {0}) (is_held table.now) held bytes.now start result }
+    ensures passed { IsPassed (Unit {0}) (is_held table.now) held bytes.now start result }
+    ensures far { start + far ≤ length bytes.now → result.end + far ≤ length bytes.now }
+    ensures stops { result.is_end ≡ false → result.end + far + SIZE ≤ length bytes.now
+        → (c : ℕ) → ¬ (IsFirstPart (drop result.end bytes.now) (Some c) SIZE) }
 {
     let mut rest = &bytes[start..];
-    while rest.len() >= far + 2 {
+    while rest.len() >= far + SIZE {
         let end = bytes.len() - rest.len();
-        let Some(c) = of_two(rest) else {
+        let Some(c) = character::<SIZE>(rest) else {
             return Passed { end, is_end: false };
         };
         if contains(table, c) != held {
             return Passed { end, is_end: true };
         }
-        rest = &rest[2..];
+        rest = &rest[SIZE..];
     }
     Passed {
         end: bytes.len() - rest.len(),
@@ -96,45 +122,23 @@ fn past_twos(table: &[u64], held: bool, bytes: &[u8], start: usize, far: usize) 
     }
 }
 
-/// Passes characters of three bytes that are of the kind and before the last `far` bytes. It may
-/// stop before the last of them.
-#[inline(always)]
-fn past_threes(table: &[u64], held: bool, bytes: &[u8], start: usize, far: usize) -> Passed
-    requires far { far ≤ length bytes.now }
-    requires order { start ≤ length bytes.now }
-    ensures { IsPassed (Unit {0}) (is_held table.now) held bytes.now start result }
-{
-    let mut rest = &bytes[start..];
-    while rest.len() >= far + 3 {
-        let end = bytes.len() - rest.len();
-        let Some(c) = of_three(rest) else {
-            return Passed { end, is_end: false };
-        };
-        if contains(table, c) != held {
-            return Passed { end, is_end: true };
-        }
-        rest = &rest[3..];
-    }
-    Passed {
-        end: bytes.len() - rest.len(),
-        is_end: false,
-    }
-}
-
-/// Passes characters of the kind that have the size of the first one, if that is at most three
-/// bytes. Those of two and three bytes are before the last `far` bytes. It may stop before the last
-/// of them.
+/// Passes characters of the kind that have the size of the first one and are before the last `far`
+/// bytes.
 #[inline(always)]
 pub(crate) fn past_near(table: &[u64], held: bool, bytes: &[u8], start: usize, far: usize) -> Passed
     requires far { far ≤ length bytes.now }
     requires order { start < length bytes.now }
-    ensures { IsPassed (Unit {0}) (is_held table.now) held bytes.now start result }
+    ensures passed { IsPassed (Unit {0}) (is_held table.now) held bytes.now start result }
+    ensures far { start + far ≤ length bytes.now → result.end + far ≤ length bytes.now }
 {
     if bytes[start] < 0x80 {
-        return past_ones(table, held, bytes, start);
+        return past_alike::<1>(table, held, bytes, start, far);
     }
     if bytes[start] < 0xE0 {
-        return past_twos(table, held, bytes, start, far);
+        return past_alike::<2>(table, held, bytes, start, far);
     }
-    past_threes(table, held, bytes, start, far)
+    if bytes[start] < 0xF0 {
+        return past_alike::<3>(table, held, bytes, start, far);
+    }
+    past_alike::<4>(table, held, bytes, start, far)
 }

@@ -1,10 +1,10 @@
-//! The characters of a span as long as it is short, without tables. Those of one, two and three
-//! bytes have a loop each: in a text, a character mostly has the size of the one before it.
+//! The characters of a span as long as it is short, without tables. Those of each size have a loop
+//! of their own: in a text, a character mostly has the size of the one before it.
 
 use crate::icu_collections_c::frozen::contains;
 use crate::icu_collections_c::wide_characters::Passed;
 
-/// Returns the ASCII character at the start of the bytes, or `None` if there is none.
+/// Returns the character of one byte at the start of the bytes, or `None` if there is none.
 #[inline(always)]
 fn of_one(bytes: &[u8]) -> Option<u32> {
     if bytes[0] >= 0x80 {
@@ -35,19 +35,51 @@ fn of_three(bytes: &[u8]) -> Option<u32> {
     Some(64 * (both - 0x3880) + u32::from(bytes[2] % 64))
 }
 
-/// Passes ASCII characters of the kind.
+/// Returns the character of four bytes at the start of the bytes, or `None` if there is none.
 #[inline(always)]
-fn past_ones(table: &[u64], held: bool, bytes: &[u8], start: usize) -> Passed {
+fn of_four(bytes: &[u8]) -> Option<u32> {
+    if bytes[1] / 64 != 2 || bytes[2] / 64 != 2 || bytes[3] / 64 != 2 {
+        return None;
+    }
+    let lead = u32::from(bytes[0]);
+    let both = 64 * lead + u32::from(bytes[1]);
+    if both < 0x3C90 || both >= 0x3D90 {
+        return None;
+    }
+    let last = 64 * u32::from(bytes[2] % 64) + u32::from(bytes[3] % 64);
+    Some(4096 * (both - 0x3C80) + last)
+}
+
+/// Returns the character of `SIZE` bytes at the start of the bytes, or `None` if there is none.
+#[inline(always)]
+fn character<const SIZE: usize>(bytes: &[u8]) -> Option<u32> {
+    match SIZE {
+        1 => of_one(bytes),
+        2 => of_two(bytes),
+        3 => of_three(bytes),
+        _ => of_four(bytes),
+    }
+}
+
+/// Passes characters of `SIZE` bytes that are of the kind and before the last `far` bytes.
+#[inline(always)]
+fn past_alike<const SIZE: usize>(
+    table: &[u64],
+    held: bool,
+    bytes: &[u8],
+    start: usize,
+    far: usize,
+) -> Passed {
     let mut rest = &bytes[start..];
-    while rest.len() > 0 {
+    while rest.len() >= far + SIZE {
         let end = bytes.len() - rest.len();
-        let Some(c) = of_one(rest) else {
+        let Some(c) = character::<SIZE>(rest) else {
             return Passed { end, is_end: false };
         };
         if contains(table, c) != held {
             return Passed { end, is_end: true };
         }
-        rest = &rest[1..];
+        rest = &rest[SIZE..];
     }
     Passed {
         end: bytes.len() - rest.len(),
@@ -55,51 +87,8 @@ fn past_ones(table: &[u64], held: bool, bytes: &[u8], start: usize) -> Passed {
     }
 }
 
-/// Passes characters of two bytes that are of the kind and before the last `far` bytes. It may stop
-/// before the last of them.
-#[inline(always)]
-fn past_twos(table: &[u64], held: bool, bytes: &[u8], start: usize, far: usize) -> Passed {
-    let mut rest = &bytes[start..];
-    while rest.len() >= far + 2 {
-        let end = bytes.len() - rest.len();
-        let Some(c) = of_two(rest) else {
-            return Passed { end, is_end: false };
-        };
-        if contains(table, c) != held {
-            return Passed { end, is_end: true };
-        }
-        rest = &rest[2..];
-    }
-    Passed {
-        end: bytes.len() - rest.len(),
-        is_end: false,
-    }
-}
-
-/// Passes characters of three bytes that are of the kind and before the last `far` bytes. It may
-/// stop before the last of them.
-#[inline(always)]
-fn past_threes(table: &[u64], held: bool, bytes: &[u8], start: usize, far: usize) -> Passed {
-    let mut rest = &bytes[start..];
-    while rest.len() >= far + 3 {
-        let end = bytes.len() - rest.len();
-        let Some(c) = of_three(rest) else {
-            return Passed { end, is_end: false };
-        };
-        if contains(table, c) != held {
-            return Passed { end, is_end: true };
-        }
-        rest = &rest[3..];
-    }
-    Passed {
-        end: bytes.len() - rest.len(),
-        is_end: false,
-    }
-}
-
-/// Passes characters of the kind that have the size of the first one, if that is at most three
-/// bytes. Those of two and three bytes are before the last `far` bytes. It may stop before the last
-/// of them.
+/// Passes characters of the kind that have the size of the first one and are before the last `far`
+/// bytes.
 #[inline(always)]
 pub(crate) fn past_near(
     table: &[u64],
@@ -109,10 +98,13 @@ pub(crate) fn past_near(
     far: usize,
 ) -> Passed {
     if bytes[start] < 0x80 {
-        return past_ones(table, held, bytes, start);
+        return past_alike::<1>(table, held, bytes, start, far);
     }
     if bytes[start] < 0xE0 {
-        return past_twos(table, held, bytes, start, far);
+        return past_alike::<2>(table, held, bytes, start, far);
     }
-    past_threes(table, held, bytes, start, far)
+    if bytes[start] < 0xF0 {
+        return past_alike::<3>(table, held, bytes, start, far);
+    }
+    past_alike::<4>(table, held, bytes, start, far)
 }

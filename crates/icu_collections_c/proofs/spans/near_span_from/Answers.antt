@@ -13,7 +13,7 @@ returns-then-passed-ge-LONG c = λ all.
 pub returns-then-near : goal.returns-then-near
 returns-then-near c = λ all.
     let bytes : List ℕ = c.args.bytes.now in
-    let p = c.past_near-near.ensures in
+    let p = c.past_near-near.ensures.passed in
     let few : length bytes < 2 ^ 63 = search rules in
     let small : c.past_near-near.result.end < 2 ^ 63 = omega (arith, p.within, few) in
     answers_passed (Unit {0}) (is_held c.args.table.now) c.args.held bytes c.loop-passed.passed c.past_near-near.result p tt c.if-near.true
@@ -25,8 +25,8 @@ returns-then-near-passed c = λ all.
 
 pub loop-passed-preserved : goal.loop-passed-preserved
 loop-passed-preserved c = record {
-  within = c.past_near-near.ensures.within;
-  alike = λ all. c.past_near-near.ensures.alike tt (c.loop-passed.invariant.alike all);
+  within = c.past_near-near.ensures.passed.within;
+  alike = λ all. c.past_near-near.ensures.passed.alike tt (c.loop-passed.invariant.alike all);
 }
 
 pub returns : goal.returns

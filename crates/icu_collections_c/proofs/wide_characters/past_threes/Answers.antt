@@ -2,8 +2,9 @@
 use Rattle.std.proofs.Common.{◌≡◌, ◌∙◌, sym, refl, ℕ, ◌+◌, ◌*◌, ◌%◌, ◌<◌, ◌≤◌, List, arith, get_or, length}
 use Rattle.std.proofs.lemmas.List.{take_rest}
 use mathlib.Core.Bool.{beq}
+use Rattle.icu_trie_text.proofs.CallerLemmas.{part_of_ascii}
 use Rattle.icu_collections_c.specs.Frozen.{is_held}
-use Rattle.icu_collections_c.proofs.WideLemmas.{ascii_starts, bit_says, other_of, passed_end, same_of, three_starts, walks_more}
+use Rattle.icu_collections_c.proofs.WideLemmas.{bit_says, other_of, passed_end, same_of, three_starts, walks_more}
 use Rattle.icu_collections_c.proofs.wide_characters.past_threes.Goals as goal
 
 pub three_bits-requires-clause-most : goal.three_bits-requires-clause-most
@@ -49,7 +50,7 @@ returns-then-not-has_short c =
     let low : x < 128 = c.is_lone_ascii.ensures c.if-not-is_lone_ascii.false in
     let is : c.has_short.result ≡ beq (is_held table x) c.args.held =
     (rw c.from.ensures at c.has_short.ensures) ∙ c.requires.short.bits x (omega (arith, low)) in
-    passed_end (Unit {0}) (is_held table) c.args.held bytes c.args.start rest c.loop-rest.invariant x 1 (ascii_starts rest many low) _ refl
+    passed_end (Unit {0}) (is_held table) c.args.held bytes c.args.start rest c.loop-rest.invariant x 1 (part_of_ascii rest many low) _ refl
     (λ u. sym is ∙ c.if-not-has_short.true)
 
 pub loop-rest-preserved : goal.loop-rest-preserved
@@ -63,4 +64,4 @@ loop-rest-preserved c =
     let is : c.has_short.result ≡ beq (is_held table x) c.args.held =
     (rw c.from.ensures at c.has_short.ensures) ∙ c.requires.short.bits x (omega (arith, low)) in
     rw (take_rest rest 1) (walks_more (Unit {0}) (is_held table) c.args.held bytes c.args.start rest c.loop-rest.invariant x 1
-    (ascii_starts rest many low) (λ u. sym is ∙ c.if-not-has_short.false))
+    (part_of_ascii rest many low) (λ u. sym is ∙ c.if-not-has_short.false))
