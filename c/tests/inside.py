@@ -38,8 +38,8 @@ def checked_libraries(room):
 
 
 def alike(room):
-    """Compares the library in c/out with the one of the other way: each function, on the same
-    arguments, valid and damaged."""
+    """Compares the library with the one of the other way: each function, on the same arguments, valid
+    and damaged."""
     built = f"{room}/alike"
     calls = "-DCALLS=" + " ".join(f"X({it})" for it in functions())
     strict = [it for it in STRICT if it != "-pedantic"]

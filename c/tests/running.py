@@ -12,8 +12,8 @@ SANITIZED = ["-g", "-O1", "-fsanitize=address,undefined", "-fno-sanitize-recover
 CC, CXX = os.environ.get("CC", "cc"), os.environ.get("CXX", "c++")
 # Which library is tested: that of the kit, or without it or with --cargo that of cargo.
 IS_CARGO = "--cargo" in sys.argv or not shutil.which("rt")
-# The two libraries are tested side by side.
-OUT = f"{TOP}/c/out/by_cargo" if IS_CARGO else f"{TOP}/c/out"
+# The two libraries are tested side by side, and beside python/tests/run, which builds into c/out.
+OUT = f"{TOP}/c/out/{'by_cargo' if IS_CARGO else 'by_kit'}"
 BUILD = [f"{TOP}/c/build", "--cargo" if IS_CARGO else "--proved", "--out", OUT]
 
 
@@ -26,9 +26,9 @@ def functions():
 def passes(what, words, **more):
     """Whether a command succeeds. Prints what it was; if it fails, also what it printed."""
     ran = subprocess.run(words, stdout=subprocess.PIPE, stderr=subprocess.STDOUT, text=True, errors="replace", **more)
-    print(ran.stdout.rstrip() if ran.returncode else f"{what}: {ran.stdout.strip() or 'done'}", flush=True)
-    if ran.returncode:
-        print(f"{what}: FAILED")
+    good = f"{what}: {ran.stdout.strip() or 'done'}"
+    # In one piece, since others print at the same time.
+    print(f"{ran.stdout.rstrip()}\n{what}: FAILED\n" if ran.returncode else f"{good}\n", end="", flush=True)
     return ran.returncode == 0
 
 
