@@ -7,7 +7,7 @@ TESTS = "packed_tests trie_tests built_trie_tests ucptab_table uses".split()
 FORM_MODULES = (
     "packed_tests/tests/json_values packed_tests/tests/sets/code_points/json"
     " packed_tests/tests/sets/texts/json packed_tests/tests/unit_tries/json"
-    " packed_tests/tests/unit_tries/written trie_tests/tests/formats/json"
+    " trie_tests/tests/formats/json"
     " trie_tests/tests/formats/toml_keys trie_tests/tests/formats/trie_toml"
 ).split()
 # A test of memory becomes one that runs it by a function of `rust/tests/src/refusals.rs`.
@@ -36,7 +36,6 @@ TEST_RULES = [
     (r"\bstd::convert\b", "core::convert"),
     (r"\.to_string\((?=rt)", ".try_to_string("),
     (r"\.push_str\(", ".try_push_str("),
-    (r"\bformat!\(in (?:rt\.alloc\(\)|alloc);\s*", "try_format!("),
     (r"\bprintln!\(rt; \x02\d+\x03\)", "rt.println(line)"),
     (r"(\btrie|\btrie_of_two\([^()]*\)|clone\((?:alloc)?\)\??)(\.try_into_converted)\b", r"\1\2_explained"),
     # What is needed beside JSON and TOML.

@@ -10,4 +10,3 @@ mod sets;
 mod support;
 mod unit_tries;
 mod vectors;
-mod written;

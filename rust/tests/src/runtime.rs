@@ -61,12 +61,6 @@ pub(crate) fn text_of(parts: fmt::Arguments<'_>) -> Result<String, AllocError> {
     Ok(text)
 }
 
-/// A text that is made of parts.
-macro_rules! try_format {
-    ($($part:tt)*) => { crate::runtime::text_of(core::format_args!($($part)*)) };
-}
-pub(crate) use try_format;
-
 /// A value as a text.
 pub(crate) trait TryToString {
     fn try_to_string(&self) -> Result<String, AllocError>;

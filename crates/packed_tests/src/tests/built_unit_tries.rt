@@ -1,8 +1,5 @@
-//! Unit tries that are built. The added entries are read back as a user would read them. The
-//! entries are those of the format's description, or of ICU.
+//! Unit tries that are built.
 
 mod refused_memory;
-mod sizes;
+mod sorted;
 mod support;
-mod texts;
-mod worked_tries;

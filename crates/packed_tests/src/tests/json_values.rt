@@ -9,14 +9,6 @@ pub fn value_of_text(alloc: Global, text: &str) -> Option<Value> {
     Value::from_str(alloc, text).ok()
 }
 
-/// Parses a JSON text. Panics if an allocation fails.
-pub fn made_value(rt: &(impl Abort + AllocGlobal), text: &str) -> Value {
-    match value_of_text(rt.alloc(), text) {
-        Some(value) => value,
-        None => rt.panic("no value"),
-    }
-}
-
 /// Expects the value to have this text. Checks nothing if an allocation fails.
 pub fn expect_value(rt: &(impl Abort + AllocGlobal), value: &Value, want: &str) {
     if let Ok(text) = value.to_string(rt.alloc()) {

@@ -1,6 +1,6 @@
 //! How all tests compare and print.
 use icu_zerovec::MemoryError;
-use std::fmt::{Debug, Display};
+use std::fmt::Debug;
 use std::hash::{DefaultHasher, Hash, Hasher};
 use std::process::Abort;
 
@@ -27,24 +27,6 @@ pub fn given<T, E: Drop>(rt: &impl Abort, answer: Result<T, E>) -> T {
 /// Expects the text to be `want`.
 pub fn expect_string(rt: &impl Abort, text: String, want: &str) {
     expect_same(rt, text.as_str(), want, "the text");
-}
-
-/// Expects the text to be `want`. Panics if an allocation failed.
-pub fn expect_text<E>(rt: &impl Abort, text: Result<String, E>, want: &str) {
-    match text {
-        Ok(text) => expect_string(rt, text, want),
-        Err(_) => rt.panic("no text"),
-    }
-}
-
-/// Expects `Display` to print `want`.
-pub fn expect_told<T: Display>(rt: &(impl Abort + AllocGlobal), told: &T, want: &str) {
-    expect_text(rt, told.to_string(rt.alloc()), want);
-}
-
-/// Expects `Debug` to print `want`.
-pub fn expect_shown<T: Debug>(rt: &(impl Abort + AllocGlobal), shown: &T, want: &str) {
-    expect_text(rt, format!(in rt.alloc(); "{shown:?}"), want);
 }
 
 /// Prints the line.

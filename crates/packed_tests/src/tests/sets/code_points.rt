@@ -1,10 +1,8 @@
 //! Tests of what contracts do not state: texts, that functions succeed, and failed allocations.
 //! Expected values are those of ICU's UnicodeSet and of the Rust crate, or computed by hand.
-mod builder;
 mod changes;
-mod errors;
 mod iterators;
-pub mod json;
+mod json;
 mod memory;
 mod queries;
 mod ranges;

@@ -15,9 +15,17 @@ fn frozen(alloc: Global, set: &CodePointInversionList<'_>) -> Option<FrozenCodeP
     FrozenCodePointSet::freeze(alloc, set).ok()
 }
 
+/// Freezes the set, and drops it. Returns `None` if an allocation fails.
+fn frozen_alone(alloc: Global, set: CodePointInversionList<'_>) -> Option<FrozenCodePointSet> {
+    frozen(alloc, &set)
+}
+
 /// Freezes the set with these boundaries. Returns `None` if an allocation fails.
 fn frozen_of(alloc: Global, ends: &[u32]) -> Option<FrozenCodePointSet> {
-    frozen(alloc, &set_of(alloc, ends)?)
+    match set_of(alloc, ends) {
+        Some(set) => frozen_alone(alloc, set),
+        None => None,
+    }
 }
 
 /// A text, and the results of `span` for in the set and outside it, and of `span_back` for the

@@ -20,14 +20,6 @@ pub fn set_of(alloc: Global, ends: &[u32]) -> Option<CodePointInversionList<'sta
     set_or_fault(alloc, ends).ok()
 }
 
-/// Returns the set with these boundaries. Panics if an allocation fails.
-pub fn made_set(rt: &(impl Abort + AllocGlobal), ends: &[u32]) -> CodePointInversionList<'static> {
-    match set_of(rt.alloc(), ends) {
-        Some(set) => set,
-        None => rt.panic("no set"),
-    }
-}
-
 /// Returns the set of all code points.
 pub fn all() -> CodePointInversionList<'static> {
     CodePointInversionList::all()
@@ -70,21 +62,6 @@ pub fn list_of_ends(alloc: Global, set: &CodePointInversionList<'_>) -> Option<V
 /// Expects the boundaries to be `want`.
 pub fn expect_ends(rt: &impl Abort, ends: Vec<u32>, want: &[u32]) {
     expect_same(rt, ends.as_slice(), want, "the ends");
-}
-
-/// Expects a set with these boundaries. Panics if there is no set or an allocation fails.
-pub fn expect_set(
-    rt: &(impl Abort + AllocGlobal),
-    set: Option<CodePointInversionList<'_>>,
-    want: &[u32],
-) {
-    let Some(set) = set else {
-        rt.panic("no set");
-    };
-    match list_of_ends(rt.alloc(), &set) {
-        Some(ends) => expect_ends(rt, ends, want),
-        None => rt.panic("no memory"),
-    }
 }
 
 /// Expects the set to have these boundaries. Checks nothing if an allocation fails.

@@ -1,6 +1,6 @@
 //! Conversion of tries to and from JSON.
-use super::support::{are_same, made_trie, some_trie};
-use crate::tests::json_values::{expect_value, made_value, value_of_text};
+use super::support::some_trie;
+use crate::tests::json_values::{expect_value, value_of_text};
 use crate::tests::support::{expect_same, say, say_refused};
 use icu_char16trie::char16trie::{Char16JsonError, Char16Trie};
 use icu_zerovec::MemoryError;
@@ -11,60 +11,6 @@ use std::process::Abort;
 /// Returns the trie in a JSON value.
 fn read(alloc: Global, value: &Value) -> Result<Char16Trie<'static>, Char16JsonError> {
     Char16Trie::from_json(alloc, value)
-}
-
-/// Returns whether the trie in a JSON value has these units.
-fn is_read(
-    rt: &(impl Abort + AllocGlobal),
-    value: &Value,
-    units: &[u16],
-) -> Result<bool, Char16JsonError> {
-    match read(rt.alloc(), value) {
-        Ok(trie) => Ok(are_same(&trie, &made_trie(rt, units))),
-        Err(error) => Err(error),
-    }
-}
-
-/// Expects a JSON text to have these units or this error.
-fn expect_read(rt: &(impl Abort + AllocGlobal), text: &str, want: Result<&[u16], Char16JsonError>) {
-    let value = made_value(rt, text);
-    match want {
-        Ok(units) => expect_same(rt, is_read(rt, &value, units), Ok(true), text),
-        Err(fault) => expect_same(rt, is_read(rt, &value, &[]), Err(fault), text),
-    }
-}
-
-/// A JSON text, and its units or its error: a wrong shape, or the index of a wrong number.
-type Row = (&'static str, Result<&'static [u16], Char16JsonError>);
-
-static ROWS: [Row; 14] = [
-    (
-        r#"{"data":[49,97,98,32771]}"#,
-        Ok(&[0x31, 0x61, 0x62, 0x8003]),
-    ),
-    (r#"{"trie_data":[32775]}"#, Ok(&[0x8007])),
-    (r#"{"data":[],"other":1}"#, Ok(&[])),
-    (r#"{"data":[0,65535]}"#, Ok(&[0, 65535])),
-    (r#"{"data":[],"trie_data":[]}"#, Err(Char16JsonError::Shape)),
-    (
-        r#"{"data":[65536],"trie_data":1}"#,
-        Err(Char16JsonError::Shape),
-    ),
-    (r#"{"other":[]}"#, Err(Char16JsonError::Shape)),
-    (r#"[1,2]"#, Err(Char16JsonError::Shape)),
-    (r#"{"data":{"data":[]}}"#, Err(Char16JsonError::Shape)),
-    (r#"{"data":[1,65536]}"#, Err(Char16JsonError::Number(1))),
-    (r#"{"data":[-1,65536]}"#, Err(Char16JsonError::Number(0))),
-    (r#"{"data":[1,1.5]}"#, Err(Char16JsonError::Number(1))),
-    (r#"{"data":["1"]}"#, Err(Char16JsonError::Number(0))),
-    (r#"{"trie_data":[7,null]}"#, Err(Char16JsonError::Number(1))),
-];
-
-#[test]
-fn json_texts(rt: HostRuntime) {
-    for (text, want) in ROWS.iter() {
-        expect_read(&rt, text, *want);
-    }
 }
 
 /// Prints that the call is done. Expects the JSON value of "ab" with the value 3 to have this text,

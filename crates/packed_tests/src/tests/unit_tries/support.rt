@@ -1,10 +1,8 @@
 //! The tries that tests query. Each function that several tests call is called in one helper.
-use crate::tests::support::given;
 use crate::tests::vectors::support::{packed_of, view_of};
-use icu_char16trie::char16trie::{Char16Trie, Char16TrieCursor, Entries, Iter2, TrieResult};
+use icu_char16trie::char16trie::{Char16Trie, Char16TrieCursor, Entries, Iter2};
 use icu_zerovec::{MemoryError, ZeroSlice};
 use std::alloc::Global;
-use std::process::Abort;
 
 /// The units of a trie of six letters with the values 1 to 6.
 pub const SIX: [u16; 15] = [
@@ -29,11 +27,6 @@ pub fn some_trie(rt: &impl AllocGlobal, units: &[u16]) -> Option<Char16Trie<'sta
         Ok(trie) => Some(trie),
         Err(_) => None,
     }
-}
-
-/// Returns the trie with these units. Panics if an allocation fails.
-pub fn made_trie(rt: &(impl Abort + AllocGlobal), units: &[u16]) -> Char16Trie<'static> {
-    given(rt, trie_of(rt.alloc(), units))
 }
 
 /// Returns true if two tries are equal.
@@ -65,22 +58,6 @@ pub fn value_of(trie: &Char16Trie<'_>, key: &[u16]) -> Option<i32> {
     cursor_after(trie, key).value()
 }
 
-/// Returns the result for the last character of the text, or `NoValue` if the text is empty.
-pub fn last_result(trie: &Char16Trie<'_>, text: &str) -> TrieResult {
-    let mut iterator = trie.iter();
-    let mut result = TrieResult::NoValue;
-    for c in text.chars() {
-        result = iterator.next(c);
-    }
-    result
-}
-
-/// Appends an entry to a text, as `text=value;`.
-fn add_line(alloc: Global, said: &mut String, text: &str, value: i32) -> Result<(), MemoryError> {
-    let line = format!(in alloc; "{text}={value};")?;
-    Ok(said.push_str(line.as_str())?)
-}
-
 /// Returns the entries of a trie, each with a text of its own.
 pub fn items_of<'a>(alloc: Global, trie: &'a Char16Trie<'_>) -> Iter2<'a> {
     trie.iter2(alloc)
@@ -98,29 +75,6 @@ pub fn next_item(items: &mut Iter2<'_>) -> Result<Option<(String, i32)>, MemoryE
 /// Returns true if none of these entries is left.
 pub fn is_over(items: &mut Iter2<'_>) -> bool {
     matches!(next_item(items), Ok(None))
-}
-
-/// Appends the next of these entries to a text. Returns whether there was one.
-fn add_item(alloc: Global, said: &mut String, items: &mut Iter2<'_>) -> Result<bool, MemoryError> {
-    match next_item(items) {
-        Ok(Some((text, value))) => {
-            add_line(alloc, said, text.as_str(), value)?;
-            Ok(true)
-        }
-        Ok(None) => Ok(false),
-        Err(error) => Err(error),
-    }
-}
-
-/// Returns these entries as one text, at most 99 of them.
-pub fn items_listed(alloc: Global, items: &mut Iter2<'_>) -> Result<String, MemoryError> {
-    let mut said = String::new(alloc);
-    for _ in 0..99 {
-        if !add_item(alloc, &mut said, items)? {
-            return Ok(said);
-        }
-    }
-    Ok(said)
 }
 
 /// Returns the entries of a trie, with one buffer.
@@ -141,19 +95,6 @@ pub fn advanced(entries: &mut Entries<'_>) -> Result<bool, MemoryError> {
 /// Returns the current entry of a listing.
 pub fn told<'a>(entries: &'a Entries<'_>) -> (&'a str, i32) {
     (entries.key(), entries.value())
-}
-
-/// Returns the entries that are left in a listing as one text, at most 99 of them.
-pub fn listed(alloc: Global, entries: &mut Entries<'_>) -> Result<String, MemoryError> {
-    let mut said = String::new(alloc);
-    for _ in 0..99 {
-        if !advanced(entries)? {
-            return Ok(said);
-        }
-        let (text, value) = told(entries);
-        add_line(alloc, &mut said, text, value)?;
-    }
-    Ok(said)
 }
 
 /// Returns true if the units of a trie are valid.

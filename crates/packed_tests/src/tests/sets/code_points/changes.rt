@@ -3,15 +3,24 @@ use crate::tests::sets::points::set_of;
 use icu_invlist::codepointinvlist::{CodePointInversionList, CodePointInversionListBuilder};
 use icu_zerovec::MemoryError;
 use std::alloc::Global;
-use std::ops::Range;
+
+/// Returns a builder of this set, or `None` if an allocation fails.
+fn builder_of_set(
+    alloc: Global,
+    set: &CodePointInversionList<'_>,
+) -> Option<CodePointInversionListBuilder> {
+    let mut builder = CodePointInversionListBuilder::new(alloc);
+    match Operation::Union.apply(&mut builder, set) {
+        Ok(()) => Some(builder),
+        Err(_) => None,
+    }
+}
 
 /// Returns a builder of the set with these boundaries, or `None` if an allocation fails.
 pub fn builder_of(alloc: Global, ends: &[u32]) -> Option<CodePointInversionListBuilder> {
-    let set = set_of(alloc, ends)?;
-    let mut builder = CodePointInversionListBuilder::new(alloc);
-    match Operation::Union.apply(&mut builder, &set) {
-        Ok(()) => Some(builder),
-        Err(_) => None,
+    match set_of(alloc, ends) {
+        Some(set) => builder_of_set(alloc, &set),
+        None => None,
     }
 }
 
@@ -61,7 +70,6 @@ pub enum Addition {
     Chars(char, char),
     CharsBelow(char, char),
     Numbers(u32, u32),
-    All,
 }
 
 impl Addition {
@@ -73,7 +81,6 @@ impl Addition {
             Addition::Chars(first, last) => builder.add_range(*first..=*last),
             Addition::CharsBelow(start, end) => builder.add_range(*start..*end),
             Addition::Numbers(first, last) => builder.add_range32(*first..=*last),
-            Addition::All => builder.add_range32(..),
         }
     }
 }
@@ -84,7 +91,6 @@ pub enum Removal {
     Char(char),
     Number(u32),
     CharsBelow(char, char),
-    CharsFrom(char),
     Numbers(u32, u32),
     NumbersBelow(u32, u32),
 }
@@ -96,7 +102,6 @@ impl Removal {
             Removal::Char(c) => builder.remove_char(*c),
             Removal::Number(c) => builder.remove32(*c),
             Removal::CharsBelow(start, end) => builder.remove_range(*start..*end),
-            Removal::CharsFrom(start) => builder.remove_range(*start..),
             Removal::Numbers(first, last) => builder.remove_range32(*first..=*last),
             Removal::NumbersBelow(start, end) => builder.remove_range32(*start..*end),
         }
@@ -109,8 +114,6 @@ pub enum Keeping {
     Char(char),
     Number(u32),
     Chars(char, char),
-    CharsBelow(char, char),
-    Numbers(u32, u32),
     NumbersBelow(u32, u32),
 }
 
@@ -121,12 +124,7 @@ impl Keeping {
             Keeping::Char(c) => builder.retain_char(*c),
             Keeping::Number(c) => builder.retain32(*c),
             Keeping::Chars(first, last) => builder.retain_range(*first..=*last),
-            Keeping::CharsBelow(start, end) => builder.retain_range(*start..*end),
-            Keeping::Numbers(first, last) => builder.retain_range32(*first..=*last),
-            Keeping::NumbersBelow(start, end) => builder.retain_range32(Range {
-                start: *start,
-                end: *end,
-            }),
+            Keeping::NumbersBelow(start, end) => builder.retain_range32(*start..*end),
         }
     }
 }
@@ -138,8 +136,6 @@ pub enum Turn {
     Char(char),
     Number(u32),
     Chars(char, char),
-    CharsBelow(char, char),
-    Numbers(u32, u32),
     NumbersBelow(u32, u32),
 }
 
@@ -151,8 +147,6 @@ impl Turn {
             Turn::Char(c) => builder.complement_char(*c),
             Turn::Number(c) => builder.complement32(*c),
             Turn::Chars(first, last) => builder.complement_range(*first..=*last),
-            Turn::CharsBelow(start, end) => builder.complement_range(*start..*end),
-            Turn::Numbers(first, last) => builder.complement_range32(*first..=*last),
             Turn::NumbersBelow(start, end) => builder.complement_range32(*start..*end),
         }
     }

@@ -14,9 +14,17 @@ use icu_invlist::codepointinvlist::CodePointInversionListBuilder;
 /// The boundaries of the set that the builders start with: A to Z.
 const LETTERS: [u32; 2] = [0x41, 0x5B];
 
+/// Returns a copy of the builder, which is dropped.
+fn copied(builder: CodePointInversionListBuilder) -> Option<CodePointInversionListBuilder> {
+    copy_of_builder(&builder)
+}
+
 /// Returns a builder of the set with these boundaries that has no spare capacity.
 fn full_builder_of(alloc: Global, ends: &[u32]) -> Option<CodePointInversionListBuilder> {
-    copy_of_builder(&builder_of(alloc, ends)?)
+    match builder_of(alloc, ends) {
+        Some(builder) => copied(builder),
+        None => None,
+    }
 }
 
 /// Expects the set, if it was made, to have these boundaries. Checks nothing if listing them fails

@@ -1,28 +1,12 @@
 //! Sets in ICU's serialized form. The units are those that `uset_serialize` of ICU4C 72 writes;
 //! invalid ones are made by hand.
 use super::*;
-use crate::tests::sets::points::{basic, expect_listed, expect_set, made_set, set_of};
+use crate::tests::sets::points::{basic, expect_listed, set_of};
 use crate::tests::support::{expect_same, say, tell};
 use icu_invlist_binary::serialized::{
     SerializeError, SerializedSetError, WriteError, from_serialized, serialized_len, to_serialized,
     write_serialized,
 };
-
-/// Sets by their boundaries, and their units.
-static WRITTEN: [(&[u32], &[u16]); 9] = [
-    (&[], &[0]),
-    (&[0x61, 0x7B], &[2, 0x61, 0x7B]),
-    (
-        &[0x61, 0x7B, 0x1_F600, 0x11_0000],
-        &[0x8004, 2, 0x61, 0x7B, 1, 0xF600],
-    ),
-    (&[0, 0x11_0000], &[1, 0]),
-    (&[0x10_FFFF, 0x11_0000], &[0x8002, 0, 0x10, 0xFFFF]),
-    (&[0, 0x1_0000], &[0x8003, 1, 0, 1, 0]),
-    (&[0x1_0000, 0x11_0000], &[0x8002, 0, 1, 0]),
-    (&[0xD800, 0xE000], &[2, 0xD800, 0xE000]),
-    (&[0xFFFF, 0x1_0000], &[0x8003, 1, 0xFFFF, 1, 0]),
-];
 
 /// Expects the units to be `want`.
 fn expect_units(rt: &impl Abort, found: Vec<u16>, want: &[u16]) {
@@ -66,51 +50,6 @@ fn written_into_slices_quiet(rt: HostRuntime) {
     expect_same(&rt, short, [7, 7], "nothing written");
 }
 
-/// Expects the set with these boundaries to have these units.
-fn expect_written(rt: &(impl Abort + AllocGlobal), ends: &[u32], want: &[u16]) {
-    match units_of(rt.alloc(), &made_set(rt, ends)) {
-        Ok(units) => expect_units(rt, units, want),
-        Err(_) => rt.panic("no units"),
-    }
-}
-
-/// Expects the set at the start of the units to have these boundaries, and to take `len` units.
-fn expect_read(rt: &(impl Abort + AllocGlobal), units: &[u16], ends: &[u32], len: usize) {
-    match set_read(rt.alloc(), units) {
-        Ok((set, found)) => {
-            expect_set(rt, Some(set), ends);
-            expect_same(rt, found, len, "units");
-        }
-        Err(_) => rt.panic("no set"),
-    }
-}
-
-#[test]
-fn written_and_read(rt: HostRuntime) {
-    for (ends, units) in WRITTEN.iter() {
-        expect_written(&rt, ends, units);
-        expect_read(&rt, units, ends, units.len());
-    }
-}
-
-/// Units that `uset_serialize` does not write, with the ranges that `uset_getSerializedRange`
-/// returns for them: the end of the code space as a boundary, a boundary below 0x10000 in two
-/// units, and bit 15 although all boundaries take one unit. The last row has two units after the
-/// set.
-static OTHER: [(&[u16], &[u32], usize); 4] = [
-    (&[0x8003, 1, 0x61, 0x11, 0], &[0x61, 0x11_0000], 5),
-    (&[0x8002, 0, 0, 0x41], &[0x41, 0x11_0000], 4),
-    (&[0x8002, 2, 0x41, 0x5B], &[0x41, 0x5B], 4),
-    (&[2, 0x41, 0x5B, 7, 8], &[0x41, 0x5B], 3),
-];
-
-#[test]
-fn read_of_other_units(rt: HostRuntime) {
-    for (units, ends, len) in OTHER.iter() {
-        expect_read(&rt, units, ends, *len);
-    }
-}
-
 /// Invalid units, and the errors.
 static REFUSED: [(&[u16], SerializedSetError); 11] = [
     (&[], SerializedSetError::Short),
@@ -140,39 +79,6 @@ fn refused_units_quiet(rt: HostRuntime) {
         expect_same(&rt, fault, Some(*want), "the fault");
     }
     say(&rt, "done");
-}
-
-/// Returns the set of every second code point below `limit`, which is even. Its boundaries are all
-/// numbers below `limit`.
-fn every_second(rt: &(impl Abort + AllocGlobal), limit: u32) -> CodePointInversionList<'static> {
-    let mut ends = Vec::new(rt.alloc());
-    for end in 0..limit {
-        if ends.push(end).is_err() {
-            rt.panic("no memory");
-        }
-    }
-    made_set(rt, &ends)
-}
-
-/// A set whose boundaries take 0x7FFE units, and one whose boundaries take two more.
-#[test]
-fn longest_in_units(rt: HostRuntime) {
-    let longest = serialized_len(&every_second(&rt, 0x7FFE));
-    let longer = every_second(&rt, 0x8000);
-    let fault = units_of(rt.alloc(), &longer).err();
-    let found = (
-        longest,
-        serialized_len(&longer),
-        fault,
-        write_serialized(&longer, &mut []),
-    );
-    let want = (
-        Some(0x7FFF),
-        None,
-        Some(SerializeError::TooLong),
-        Err(WriteError::TooLong),
-    );
-    expect_same(&rt, found, want, "two lengths, and twice too long");
 }
 
 /// Expects the units, if they were written, to be those of the Basic Multilingual Plane.

@@ -1,15 +1,17 @@
 //! Failed allocations. Each function that may allocate returns an error as soon as an allocation
 //! fails. Functions that do not allocate request no memory.
 use super::*;
+use crate::tests::sets::points::all;
 use crate::tests::support::{expect, expect_same, say, tell};
+use icu_zerovec::MemoryError;
 
-/// Expects the set to be all code points and "ab". Checks nothing if making another one fails to
+/// Expects the set to be "a" and "ab". Checks nothing if making another one fails to
 /// allocate.
-pub fn expect_all_and_ab(
+pub fn expect_a_and_ab(
     rt: &(impl Abort + AllocGlobal),
     set: &CodePointInversionListAndStringList<'_>,
 ) {
-    if let Some(want) = all_and_ab(rt.alloc()) {
+    if let Some(want) = a_and_ab(rt.alloc()) {
         expect(rt, are_equal(set, &want), "as it was");
     }
 }
@@ -41,31 +43,44 @@ fn from_iter_refused(rt: HostRuntime) {
 /// Calls: `CodePointInversionListAndStringList::try_clone`.
 #[test]
 fn try_clone_refused(rt: HostRuntime) {
-    let Some(set) = all_and_ab(rt.alloc()) else {
+    let Some(set) = a_and_ab(rt.alloc()) else {
         return;
     };
     say(&rt, "call");
     let is_refused = set.try_clone(rt.alloc()).is_err();
     tell(&rt, is_refused);
-    expect_all_and_ab(&rt, &set);
+    expect_a_and_ab(&rt, &set);
 }
+
+/// Returns a list of one string.
+fn strings_of(alloc: Global, text: &str) -> Result<Vec<String>, MemoryError> {
+    let string = String::from_str(alloc, text)?;
+    let mut strings = Vec::new(alloc);
+    strings.push(string)?;
+    Ok(strings)
+}
+
+/// Returns whether all code points and these strings are a set.
+fn is_set(strings: Vec<String>) -> bool {
+    CodePointInversionListAndStringList::try_from(all(), strings).is_ok()
+}
+
+/// Strings, and whether they can be in the list of a set: one of a single character belongs among the
+/// code points.
+static STRINGS: [(&str, bool); 2] = [("abc", true), ("a", false)];
 
 /// Calls: `CodePointInversionListAndStringList::try_from`.
 #[test]
 fn try_from_quiet(rt: HostRuntime) {
-    let Ok(sorted) = strings_of(rt.alloc(), &["abc", "xyz"]) else {
-        return;
-    };
-    let Ok(unsorted) = strings_of(rt.alloc(), &["", "xyz", "abc"]) else {
-        return;
-    };
-    say(&rt, "call");
-    let answers = [
-        set_or_fault(all(), sorted).is_ok(),
-        set_or_fault(all(), unsorted).is_err(),
-    ];
-    say(&rt, "done");
-    expect_same(&rt, answers, [true, true], "sorted and unsorted strings");
+    for (text, want) in STRINGS.iter() {
+        let Ok(strings) = strings_of(rt.alloc(), text) else {
+            return;
+        };
+        say(&rt, "call");
+        let found = is_set(strings);
+        say(&rt, "done");
+        expect_same(&rt, found, *want, text);
+    }
 }
 
 /// Returns whether the set contains the text, and whether it contains the text of its bytes.

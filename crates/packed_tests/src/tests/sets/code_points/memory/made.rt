@@ -1,11 +1,11 @@
 //! Functions that make sets and lists.
 use super::*;
-use crate::tests::sets::code_points::errors::expect_points;
 use crate::tests::sets::points::{
     all, basic, counts_of, expect_ends, list_of, list_of_ends, set_of, set_of_range, set_over,
 };
 use crate::tests::support::expect_same;
 use icu_invlist::codepointinvlist::SetError;
+use icu_zerovec::PotentialCodePoint;
 use std::ops::RangeInclusive;
 
 /// Prints that the call is done. Expects the set, if it was made, to have these boundaries.
@@ -120,6 +120,19 @@ fn try_clone_refused(rt: HostRuntime) {
     let made = basic.try_clone(rt.alloc());
     expect_made(&rt, made.ok(), &[0, 0x1_0000]);
     expect_listed(&rt, &basic, &[0, 0x1_0000]);
+}
+
+/// Returns the number in an error at this index.
+fn shown_at(points: &[PotentialCodePoint], place: usize) -> Option<u32> {
+    Some(u32::from(*points.get(place)?))
+}
+
+/// Expects the numbers in an error to be `shown`.
+fn expect_points(rt: &impl Abort, points: &[PotentialCodePoint], shown: &[u32]) {
+    expect_same(rt, points.len(), shown.len(), "numbers shown");
+    for (place, want) in shown.iter().enumerate() {
+        expect_same(rt, shown_at(points, place), Some(*want), "a number shown");
+    }
 }
 
 /// Prints that the call is done. Expects an error for an invalid list that contains its two
