@@ -2,13 +2,13 @@
 they need that the code doesn't, and forms that rust/make has to refuse."""
 
 # Our crates of tests, and what they test beside the library.
-TESTS = "packed_tests trie_tests built_trie_tests ucptab_table uses".split()
+TESTS = "packed_tests trie_tests ucptab_table uses".split()
 # Modules that need JSON or TOML.
 FORM_MODULES = (
     "packed_tests/tests/json_values packed_tests/tests/sets/code_points/json"
     " packed_tests/tests/sets/texts/json packed_tests/tests/unit_tries/json"
     " trie_tests/tests/formats/json"
-    " trie_tests/tests/formats/toml_keys trie_tests/tests/formats/trie_toml"
+    " trie_tests/tests/formats/trie_toml"
 ).split()
 # A test of memory becomes one that runs it by a function of `rust/tests/src/refusals.rs`.
 RUN_BY = r"#[test]\nfn \1() {\n    %s(\1_once);\n}\n\nfn \1_once("

@@ -1,4 +1,4 @@
-//! Tests of code point tries that are made of their parts, and of their serialized forms, through
+//! Tests of code point tries, built or made of their parts, and of their serialized forms, through
 //! public functions.
 #![tactic(auto)]
 

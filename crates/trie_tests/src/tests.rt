@@ -1,20 +1,18 @@
-//! Tests of what no contract says about tries that are made of their parts: examples with results
-//! from outside, user-defined packed values, headers that are wrong, values along texts, and
-//! serialized forms.
+//! Tests of what no contract says about tries, built or made of their parts: examples with results
+//! from outside, user-defined packed values, headers that are wrong, values along texts, serialized
+//! forms, and failing allocations.
 //!
 //! Each assert is in a small helper without a contract, and values that own memory are passed to
 //! it. A test that asserts and holds such values at the same time would take long to prove.
 
-mod constants;
-mod error_texts;
+mod built;
+mod copied_parts;
 mod formats;
-mod joined_ranges;
 mod lying_headers;
 mod made_of_tries;
 mod packed_vectors;
 mod quiet_calls;
 mod reads;
-mod refused_parts;
 mod texts;
 mod values;
 
@@ -22,7 +20,7 @@ use icu_trie::cptrie::CodePointTrie;
 use icu_trie::header::{CodePointTrieHeader, TrieType};
 use icu_trie::value::TrieValue;
 use icu_zerovec::ZeroVec;
-use std::fmt::{Debug, Display};
+use std::fmt::Debug;
 use std::process::Abort;
 
 static ZEROS: [u8; 128] = [0; 128];
@@ -42,16 +40,6 @@ fn expect_same<T: PartialEq + Debug + Drop>(rt: &impl Abort, found: T, want: T, 
 /// Checks that what was found at the code point `c` equals `want`.
 fn expect_at<T: PartialEq + Debug + Drop>(rt: &impl Abort, found: T, want: T, c: u32) {
     expect_same(rt, (c, found), (c, want), "at a code point");
-}
-
-/// Checks that each error has this text.
-fn expect_told<E: Display>(rt: &(impl Abort + AllocGlobal), rows: &[(E, &str)]) {
-    for (error, want) in rows.iter() {
-        match error.to_string(rt.alloc()) {
-            Ok(text) => expect_same(rt, text.as_str(), *want, "the text"),
-            Err(_) => rt.panic("no text"),
-        }
-    }
 }
 
 /// Prints a word that says what the test is about to do, or has done. The script that runs the test

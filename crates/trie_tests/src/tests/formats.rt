@@ -6,5 +6,4 @@ mod binary_written;
 mod json;
 mod planes;
 mod support;
-mod toml_keys;
 mod trie_toml;

@@ -1,10 +1,6 @@
 //! Tries whose header may be wrong: which of them are coherent, and what the others return.
-use super::{
-    Cells, ONES, SEVENS, ZEROS, data, expect, expect_at, expect_same, say, small_header,
-    small_trie, trie_of,
-};
+use super::{Cells, ONES, SEVENS, ZEROS, data, expect_same, say, small_trie};
 use icu_trie::cptrie::CodePointTrie;
-use icu_trie::header::CodePointTrieHeader;
 
 /// A question to a trie, with the expected result.
 enum Asked {
@@ -128,84 +124,4 @@ fn headers_quiet(rt: HostRuntime) {
         expect_same(&rt, (row, *header, right), (row, *header, true), "a row");
     }
     say(&rt, "done");
-}
-
-/// The first sixteen cells of the null block of 64 are the null value, and the next one is not.
-#[test]
-fn null_block_of_sixteen_alone(rt: HostRuntime) {
-    let mut cells = data((0, 7, 9));
-    cells[16] = 1;
-    let coherent = small_trie(&rt, (0x1000, 0), &ZEROS, &cells).is_coherent();
-    expect(&rt, !coherent, "the seventeenth cell is another value");
-}
-
-/// The high start is inside a block of 16, and the index has no cell after that of this block.
-#[test]
-fn ranges_by_an_unaligned_high_start(rt: HostRuntime) {
-    let mut index = [0; 150];
-    index[128] = 65;
-    index[146] = 74;
-    let sevens = data(SEVENS);
-    for c in [0, 0x1000, 0x1001] {
-        let found = range_at(&small_trie(&rt, (0x1001, 0xfffff), &index, &sevens), c);
-        expect_at(&rt, found, Some((c, 0x10FFFF, 7)), c);
-    }
-}
-
-/// The bytes of an index whose index-2 block is at position 65. `cell` is its ninth cell, which is
-/// for 0x1000.
-fn index_of(cell: u16) -> [u8; 280] {
-    let mut index = [0; 280];
-    index[128] = 65;
-    let [low, high] = cell.to_le_bytes();
-    index[146] = low;
-    index[147] = high;
-    index
-}
-
-/// Index-2 cells, the null index-3 offset, data, and whether the trie is coherent. All data offsets
-/// are 0.
-static INDEX_2_CELLS: [(u16, u16, Cells, bool); 10] = [
-    // The block has the value 1, so it is not null. The trie is coherent if the header does not
-    // name the block as null (bit 15 counts) and the block's index cells exist.
-    (100, 0x7fff, ONES, true),
-    (0x8064, 0x7fff, ONES, true),
-    (100, 100, ONES, false),
-    (0x8064, 0x8064, ONES, false),
-    (0x8064, 100, ONES, true),
-    (100, 0x8064, ONES, true),
-    (130, 0x7fff, ONES, false),
-    (0x7ffe, 0x7fff, ONES, false),
-    // The block is named as null, and it is null.
-    (100, 100, (0, 2, 3), true),
-    (0x8064, 0x8064, (0, 2, 3), true),
-];
-
-/// Small tries with one block of 512 above their fast limit.
-#[test]
-fn coherence_by_index_2_cells(rt: HostRuntime) {
-    for (cell, null_cell, cells, want) in INDEX_2_CELLS.iter() {
-        let (index, cells) = (index_of(*cell), data(*cells));
-        let header = CodePointTrieHeader {
-            index3_null_offset: *null_cell,
-            ..small_header(0x1200, 0)
-        };
-        let coherent = trie_of::<u8>(&rt, header, &index, &cells).is_coherent();
-        expect_at(&rt, coherent, *want, u32::from(*cell));
-    }
-}
-
-/// There are no packed bytes if the index leads outside the data.
-#[test]
-fn packed_cells_outside_the_data(rt: HostRuntime) {
-    let mut index = [0; 196];
-    index[128] = 65;
-    index[132] = 51;
-    index[134] = 50;
-    index[146] = 66;
-    let ones = [1; 66];
-    for (c, want) in [(0x100F, None), (0x101F, Some(1))] {
-        let trie = trie_of::<u8>(&rt, small_header(0x1200, 0), &index, &ones);
-        expect_at(&rt, packed_at(&trie, c), want, c);
-    }
 }

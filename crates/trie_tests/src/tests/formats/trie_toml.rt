@@ -1,8 +1,7 @@
-//! Tries in TOML: faults, which array of data is used, texts of errors, and failing allocations.
+//! Tries in TOML: which array of data is used, and failing allocations.
 use super::support::{expect_answers, joined};
-use crate::tests::{expect, expect_same, expect_told, say};
+use crate::tests::{expect, expect_same, say};
 use icu_trie::cptrie::CodePointTrie;
-use icu_trie::error::CodePointTrieError;
 use icu_trie::header::{CodePointTrieHeader, TrieType};
 use icu_trie_formats::trie_toml::{
     CodePointDataSlice, CodePointTrieToml, TomlError, TrieFromTomlError,
@@ -46,136 +45,6 @@ const WHOLE: [&str; 5] = [
 fn table_of(alloc: Global, parts: &[&str]) -> Option<Table> {
     let text = joined(alloc, parts)?;
     toml::table_from_str(alloc, text.as_str()).ok()
-}
-
-/// The trie of a table.
-fn trie_of_table(
-    alloc: Global,
-    table: &Table,
-) -> Result<CodePointTrie<'static, u8>, TrieFromTomlError> {
-    let read = CodePointTrieToml::from_table(alloc, table)?;
-    CodePointTrie::try_from(&read)
-}
-
-/// The table of a text in parts.
-pub fn made_table(rt: &(impl Abort + AllocGlobal), parts: &[&str]) -> Table {
-    table_of(rt.alloc(), parts).expect(rt, "a table")
-}
-
-/// The parts of tables that have no trie, with the error: the first fault of the table, or the
-/// fault of the parts in it.
-static FAULTS: [(&[&str], TrieFromTomlError); 17] = [
-    (
-        &[FIELDS, "type = 1\n"],
-        TrieFromTomlError::Table(TomlError::Missing("index")),
-    ),
-    (
-        &["index = [65536]\ndata_8 = [256]"],
-        TrieFromTomlError::Table(TomlError::OutOfRange("index")),
-    ),
-    (
-        &["index = 7"],
-        TrieFromTomlError::Table(TomlError::OutOfRange("index")),
-    ),
-    (
-        &["index = [-1]"],
-        TrieFromTomlError::Table(TomlError::OutOfRange("index")),
-    ),
-    (
-        &["index = \"x\""],
-        TrieFromTomlError::Table(TomlError::OutOfRange("index")),
-    ),
-    (
-        &[INDEX, "data_8 = [256]"],
-        TrieFromTomlError::Table(TomlError::OutOfRange("data_8")),
-    ),
-    (
-        &[INDEX, "highStart = -1"],
-        TrieFromTomlError::Table(TomlError::OutOfRange("highStart")),
-    ),
-    (
-        &[INDEX, "highStart = 4294967296"],
-        TrieFromTomlError::Table(TomlError::OutOfRange("highStart")),
-    ),
-    (
-        &[INDEX, "data_8 = [255, 256]"],
-        TrieFromTomlError::Table(TomlError::OutOfRange("data_8")),
-    ),
-    (
-        &[INDEX, "data_32 = [4294967296]"],
-        TrieFromTomlError::Table(TomlError::OutOfRange("data_32")),
-    ),
-    (
-        &[INDEX],
-        TrieFromTomlError::Table(TomlError::Missing("highStart")),
-    ),
-    (
-        &[INDEX, FIELDS],
-        TrieFromTomlError::Table(TomlError::Missing("type")),
-    ),
-    (
-        &[INDEX, FIELDS, "type = 256"],
-        TrieFromTomlError::Table(TomlError::OutOfRange("type")),
-    ),
-    (
-        &[INDEX, FIELDS, "type = 2\n"],
-        TrieFromTomlError::Trie(CodePointTrieError::FromDeserialized {
-            reason: "Cannot parse value for trie_type",
-        }),
-    ),
-    (
-        &[INDEX, FIELDS, "type = 1\n"],
-        TrieFromTomlError::Trie(CodePointTrieError::FromDeserialized {
-            reason: "Did not find data array for CodePointTrie in TOML",
-        }),
-    ),
-    (
-        &[INDEX, FIELDS, "type = 1\ndata_16 = [300]\n"],
-        TrieFromTomlError::Trie(CodePointTrieError::FromDeserialized {
-            reason: "Could not parse data array to typed array",
-        }),
-    ),
-    (
-        &["index = []\n", FIELDS, "type = 1\ndata_16 = [5]\n"],
-        TrieFromTomlError::Trie(CodePointTrieError::IndexTooShortForFastAccess),
-    ),
-];
-
-/// A fault of the table is returned as such, and `?` converts it into an error of the trie.
-#[test]
-fn tables_of_no_trie(rt: HostRuntime) {
-    for (parts, fault) in FAULTS.iter() {
-        let found = trie_of_table(rt.alloc(), &made_table(&rt, parts)).err();
-        expect_same(&rt, found, Some(*fault), "the fault");
-    }
-}
-
-static TABLE_TEXTS: [(TomlError, &str); 3] = [
-    (TomlError::Missing("index"), "no value at the key `index`"),
-    (
-        TomlError::OutOfRange("type"),
-        "the value at the key `type` is of another kind or out of its range",
-    ),
-    (TomlError::Memory, "no memory"),
-];
-
-static TRIE_TEXTS: [(TrieFromTomlError, &str); 3] = [
-    (TrieFromTomlError::Memory, "no memory"),
-    (
-        TrieFromTomlError::Table(TomlError::Missing("index")),
-        "no value at the key `index`",
-    ),
-    (
-        TrieFromTomlError::Trie(CodePointTrieError::InvalidNullValue),
-        "The null value is not a valid `T`",
-    ),
-];
-
-/// Each error has its text.
-#[test]
-fn texts_of_errors(rt: HostRuntime) {
-    expect_told(&rt, &TABLE_TEXTS);
-    expect_told(&rt, &TRIE_TEXTS);
 }
 
 /// Checks that the table was read. If an allocation failed, checks the error and prints `refused`.

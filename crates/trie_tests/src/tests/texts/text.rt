@@ -3,7 +3,7 @@
 use super::support::{HIGH, six_bits, trie_of_bits};
 use crate::tests::{expect_same, say};
 use icu_trie::cptrie::CodePointTrie;
-use icu_trie_text::text::{Found, find_value, span_of_values, value_indices_of, values_of};
+use icu_trie_text::text::{find_value, span_of_values, value_indices_of, values_of};
 
 /// Characters of one to four bytes, and their values, which are the last six bits of their code
 /// points: U+0041, U+00E9, U+20AC, U+FFFD, U+1F600.
@@ -85,25 +85,4 @@ fn searches_quiet(rt: HostRuntime) {
         expect_same(&rt, first_one(&trie, text), (*want, *before), text);
     }
     say(&rt, "done");
-}
-
-/// True if the value is that of the code points from 0x10000 on.
-fn is_high(value: u8) -> bool {
-    value == HIGH
-}
-
-/// The search also returns the value it found.
-#[test]
-fn found_value(rt: HostRuntime) {
-    let found = find_value(
-        &trie_of_bits(&rt, &six_bits()),
-        "é\u{1F600}\u{1F601}",
-        is_high,
-    );
-    let want = Found {
-        offset: 2,
-        character: '\u{1F600}',
-        value: HIGH,
-    };
-    expect_same(&rt, found, Some(want), "the first one above 0xFFFF");
 }

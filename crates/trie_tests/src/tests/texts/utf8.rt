@@ -1,5 +1,5 @@
 //! The value of each character of bytes that may be ill-formed UTF-8.
-use super::support::{ERROR, HIGH, six_bits, trie_of_bits};
+use super::support::{six_bits, trie_of_bits};
 use crate::tests::{expect_same, say};
 use icu_trie::cptrie::CodePointTrie;
 use icu_trie_text::text::values_of_utf8;
@@ -60,43 +60,4 @@ fn ill_formed_quiet(rt: HostRuntime) {
         expect_same(&rt, (*bytes, right), (*bytes, true), "the characters");
     }
     say(&rt, "done");
-}
-
-/// Bytes, and the characters they become, with their values: the last and the first character of
-/// each length, a U+FFFD in the text, and one for an ill-formed sequence.
-static VALUES: [(&[u8], &[(char, u8)]); 5] = [
-    (b"", &[]),
-    (b"\x7F\xC2\x80", &[('\x7F', 0x3F), ('\u{80}', 0)]),
-    (
-        b"\xDF\xBF\xE0\xA0\x80",
-        &[('\u{7FF}', 0x3F), ('\u{800}', 0)],
-    ),
-    (
-        b"\xEF\xBF\xBF\xF0\x90\x80\x80\xF4\x8F\xBF\xBF",
-        &[
-            ('\u{FFFF}', 0x3F),
-            ('\u{10000}', HIGH),
-            ('\u{10FFFF}', HIGH),
-        ],
-    ),
-    (
-        b"\xEF\xBF\xBD\xEF\xBF\x41",
-        &[('\u{FFFD}', 0x3D), ('\u{FFFD}', ERROR), ('A', 1)],
-    ),
-];
-
-/// True if the bytes have these characters and these values.
-fn have_values(trie: &CodePointTrie<'_, u8>, bytes: &[u8], want: &[(char, u8)]) -> bool {
-    values_of_utf8(trie, bytes).eq(want.iter().copied())
-}
-
-/// Each character has its value, and each ill-formed sequence has the error value.
-#[test]
-fn values(rt: HostRuntime) {
-    let bits = six_bits();
-    let trie = trie_of_bits(&rt, &bits);
-    for (bytes, want) in VALUES.iter() {
-        let right = have_values(&trie, bytes, want);
-        expect_same(&rt, (*bytes, right), (*bytes, true), "the values");
-    }
 }

@@ -4,15 +4,17 @@
 //! `call` and `done`, the test must print `refused`. A test whose name ends in `_quiet` must not
 //! allocate between the two lines.
 
-use crate::tests::support::{
-    are_same, build, builder_of, expect, expect_numbers, expect_same, say, try_built, write_one,
-    write_range,
+use super::support::{
+    are_same, build, builder_of, expect_numbers, try_built, write_one, write_range,
 };
-use icu_collections::codepointinvlist::CodePointInversionList;
-use icu_collections::codepointtrie::{
-    ApplyRefused, BuildError, CodePointTrie, CodePointTrieBuilder, TrieType, Write,
-};
-use icu_collections::zerovec::MemoryError;
+use crate::tests::{expect, expect_same, say};
+use icu_invlist::codepointinvlist::CodePointInversionList;
+use icu_trie::cptrie::CodePointTrie;
+use icu_trie::header::TrieType;
+use icu_trie_builder::builder::CodePointTrieBuilder;
+use icu_trie_builder::error::BuildError;
+use icu_trie_builder::writes::{ApplyRefused, Write};
+use icu_zerovec::MemoryError;
 use std::alloc::Global;
 use std::process::Abort;
 

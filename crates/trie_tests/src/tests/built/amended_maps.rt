@@ -1,10 +1,12 @@
 //! Maps that are written to call by call, read back and built.
 
-use crate::tests::support::{
-    build, builder_of, expect_number, expect_numbers, expect_same, run_of, say, write_one,
-    write_range,
+use super::support::{
+    build, builder_of, expect_number, expect_numbers, run_of, write_one, write_range,
 };
-use icu_collections::codepointtrie::{CodePointTrieBuilder, TrieType, Write};
+use crate::tests::{expect_same, say};
+use icu_trie::header::TrieType;
+use icu_trie_builder::builder::CodePointTrieBuilder;
+use icu_trie_builder::writes::Write;
 use std::process::Abort;
 
 /// Writes 7 at a code point, 8 over it, over a reversed range, which writes nothing, and then a
