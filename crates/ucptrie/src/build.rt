@@ -1,8 +1,6 @@
 //! The command `build`: a table of rows, or of a file of the Unicode Character Database.
 use crate::fault::{Fault, about, plain, said};
-use crate::heading::with_heading;
-use crate::streams::{bytes_at, input_name};
-use crate::tables::{form, trie_type, width};
+use crate::tables::{form, number, trie_type, width};
 use crate::unicode_files::{build_file, found_kind, has_columns, named_kind};
 use clap::ArgMatches;
 use icu_trie_core::header::TrieType;
@@ -20,8 +18,8 @@ pub fn options(matches: &ArgMatches<'_>) -> TableOptions {
     TableOptions {
         trie_type: trie_type(matches).unwrap_or(TrieType::Fast),
         width: width(matches).unwrap_or(ValueWidth::Bits32),
-        default: matches.get_one("default").unwrap_or(0),
-        error: matches.get_one("error").unwrap_or(0),
+        default: number(matches, "default").unwrap_or(0),
+        error: number(matches, "error").unwrap_or(0),
     }
 }
 
@@ -41,41 +39,36 @@ pub fn unbuilt(alloc: Global, name: &str, rows: &[u8], fault: BuildFault) -> Fau
     }
 }
 
-/// Builds a table of rows, in the form that the arguments name. `path` is what they were read from.
+/// Builds a table of rows, in the form that the arguments name. `name` is what they were read from.
 fn build_rows(
-    rt: &HostRuntime,
+    alloc: Global,
     matches: &ArgMatches<'_>,
-    path: &str,
+    name: &str,
     rows: &[u8],
 ) -> Result<Vec<u8>, Fault> {
-    let form = form(rt.alloc(), matches)?;
-    match built(rt.alloc(), rows, options(matches), form) {
+    match built(alloc, rows, options(matches), form(matches)) {
         Ok(bytes) => Ok(bytes),
         // The value may be one of the arguments.
-        Err(BuildFault::Width(value, width)) => {
-            Err(plain(rt.alloc(), BuildFault::Width(value, width)))
-        }
-        Err(fault) => Err(unbuilt(rt.alloc(), input_name(path), rows, fault)),
+        Err(BuildFault::Width(value, width)) => Err(plain(alloc, BuildFault::Width(value, width))),
+        Err(fault) => Err(unbuilt(alloc, name, rows, fault)),
     }
 }
 
-/// Builds a table of a file, or of standard input, in the form that the arguments name.
-/// `words` are the command.
+/// Builds a table of a file in the form that the arguments name. `name` is what the file was read
+/// from.
 pub fn build(
     rt: &HostRuntime,
-    words: &[String],
     matches: &ArgMatches<'_>,
+    name: &str,
+    file: &[u8],
 ) -> Result<Vec<u8>, Fault> {
-    let path = matches.get_str("file").unwrap_or("-");
-    let file = bytes_at(rt, path)?;
     let has_values = matches.get_str("values").is_some();
     let kind = match named_kind(matches) {
         Some(kind) => kind,
-        None => found_kind(&file, has_values || has_columns(matches)),
+        None => found_kind(file, has_values || has_columns(matches)),
     };
-    let bytes = match kind {
-        FileKind::Rows => build_rows(rt, matches, path, &file)?,
-        kind => build_file(rt, matches, path, &file, kind)?,
-    };
-    Ok(with_heading(rt.alloc(), matches, words, path, &file, bytes)?)
+    match kind {
+        FileKind::Rows => build_rows(rt.alloc(), matches, name, file),
+        kind => build_file(rt, matches, name, file, kind),
+    }
 }

@@ -16,16 +16,17 @@ fn words_of_target(word: &str) -> usize {
 
 /// Returns whether a shell reads the word as it is.
 fn is_bare(word: &str) -> bool {
+    for byte in word.as_bytes() {
+        if !(byte.is_ascii_alphanumeric() || b"-_./:=,+@%".contains(byte)) {
+            return false;
+        }
+    }
     !word.is_empty()
-        && word.bytes().all(|byte| byte.is_ascii_alphanumeric() || b"-_./:=,+@%".contains(&byte))
 }
 
-/// Appends a text, with `?` for each character that could end a comment's line.
-fn push_in_line(text: &mut String, words: &str) -> Result<(), AllocError> {
-    for c in words.chars() {
-        text.push(if c.is_control() { '?' } else { c })?;
-    }
-    Ok(())
+/// Appends a character, or `?` for one that could end a comment's line.
+fn push_in_line(text: &mut String, c: char) -> Result<(), AllocError> {
+    text.push(if c.is_control() { '?' } else { c })
 }
 
 /// Appends a word of the command, between quotes if a shell would not read it as it is.
@@ -34,11 +35,12 @@ fn push_word(text: &mut String, word: &str) -> Result<(), AllocError> {
         return text.push_str(word);
     }
     text.push('\'')?;
-    for (i, piece) in word.split('\'').enumerate() {
-        if i > 0 {
+    for c in word.chars() {
+        if c == '\'' {
             text.push_str("'\\''")?;
+        } else {
+            push_in_line(text, c)?;
         }
-        push_in_line(text, piece)?;
     }
     text.push('\'')
 }
@@ -48,7 +50,7 @@ fn push_word(text: &mut String, word: &str) -> Result<(), AllocError> {
 fn push_command(text: &mut String, words: &[String]) -> Result<(), AllocError> {
     text.push_str("// ucptrie")?;
     let mut left_out = 0;
-    for word in words.iter().skip(1) {
+    for word in words.get(1..).unwrap_or(&[]) {
         if left_out == 0 {
             left_out = words_of_target(word);
         }
@@ -68,7 +70,10 @@ fn push_note(text: &mut String, mark: &str, note: &[u8]) -> Result<(), AllocErro
         return Ok(());
     };
     text.push_str(mark)?;
-    push_in_line(text, note)
+    for c in note.chars() {
+        push_in_line(text, c)?;
+    }
+    Ok(())
 }
 
 /// Appends what an input says of itself, as a list in one line: its title, or else the file's name,

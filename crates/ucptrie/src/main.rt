@@ -22,10 +22,12 @@ use crate::asked::asked;
 use crate::build::build;
 use crate::convert::convert;
 use crate::fault::{Fault, about, about_arguments};
+use crate::heading::with_heading;
+use crate::names::test_name;
 use crate::output::{deliver, target_of};
 use crate::sets::set;
-use crate::streams::{put, say};
-use crate::tables::table_at;
+use crate::streams::{bytes_at, input_name, put, say};
+use crate::tables::{number, table_at};
 use crate::word_lists::word_list;
 use crate::words::program_words;
 use clap::ArgMatches;
@@ -38,23 +40,39 @@ use ucptrie_tables::explain::explained;
 use ucptrie_tables::shown::{answered, shown};
 use ucptrie_tables::table::Table;
 
-/// Makes a table by `build` or `convert`, a set by `set` or a trie by `words`, and sends it to its
-/// target.
+/// Returns the table that `build` or `convert` makes of a file, the set that `set` makes of it, or
+/// the trie that `words` does. `name` is what the file was read from.
+fn made(
+    rt: &HostRuntime,
+    command: &str,
+    matches: &ArgMatches<'_>,
+    name: &str,
+    file: &[u8],
+) -> Result<Vec<u8>, Fault> {
+    match command {
+        "build" => build(rt, matches, name, file),
+        "set" => set(rt, matches, name, file),
+        "words" => word_list(rt.alloc(), matches, name, file),
+        _ => convert(rt.alloc(), matches, name, file),
+    }
+}
+
+/// Sends what a command makes of a file, or of standard input, to its target. `words` are the
+/// command.
 fn make(
     rt: &HostRuntime,
     words: &[String],
-    name: &str,
+    command: &str,
     matches: &ArgMatches<'_>,
 ) -> Result<(), Fault> {
     let target = target_of(rt.alloc(), matches)?;
-    let bytes = match name {
-        "build" => build(rt, words, matches)?,
-        "set" => set(rt, words, matches)?,
-        "words" => word_list(rt, words, matches)?,
-        _ => convert(rt, words, matches)?,
-    };
+    test_name(rt.alloc(), matches)?;
+    let path = matches.get_str("file").unwrap_or("-");
+    let file = bytes_at(rt, path)?;
+    let bytes = made(rt, command, matches, input_name(path), &file)?;
+    let whole = with_heading(rt.alloc(), matches, words, path, &file, bytes)?;
     let is_binary = matches.get_str("as") == Some("icu");
-    deliver(rt, target, &bytes, is_binary)
+    deliver(rt, target, &whole, is_binary)
 }
 
 /// Prints a text.
@@ -65,7 +83,7 @@ fn put_text(rt: &HostRuntime, text: Result<String, AllocError>) -> Result<(), Fa
 
 /// Prints what a table is, in lines.
 fn show(rt: &HostRuntime, matches: &ArgMatches<'_>) -> Result<(), Fault> {
-    let table = table_at(rt, matches, "file", matches.get_one("offset"))?;
+    let table = table_at(rt, matches, "file", number(matches, "offset"))?;
     put_text(rt, shown(rt.alloc(), &table))
 }
 
@@ -73,7 +91,7 @@ fn show(rt: &HostRuntime, matches: &ArgMatches<'_>) -> Result<(), Fault> {
 /// in lines.
 fn get(rt: &HostRuntime, name: &str, matches: &ArgMatches<'_>) -> Result<(), Fault> {
     let asked = asked(rt, matches)?;
-    let table = table_at(rt, matches, "file", matches.get_one("offset"))?;
+    let table = table_at(rt, matches, "file", number(matches, "offset"))?;
     let text = match name {
         "get" => answered(rt.alloc(), &table, &asked),
         _ => explained(rt.alloc(), &table, &asked),

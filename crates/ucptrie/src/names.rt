@@ -1,10 +1,11 @@
 //! Names in source.
 use crate::fault::{Fault, about};
+use clap::ArgMatches;
 use std::alloc::Global;
 use ucptrie_tables::source::is_name;
 
 /// The words that cannot name a module in Rust: its keywords, including the reserved ones, and `_`.
-const KEPT_BY_RUST: [&str; 53] = [
+static KEPT_BY_RUST: [&str; 53] = [
     "_", "abstract", "as", "async", "await", "become", "box", "break", "const", "continue",
     "crate", "do", "dyn", "else", "enum", "extern", "false", "final", "fn", "for", "gen", "if",
     "impl", "in", "let", "loop", "macro", "match", "mod", "move", "mut", "override", "priv", "pub",
@@ -12,19 +13,31 @@ const KEPT_BY_RUST: [&str; 53] = [
     "typeof", "unsafe", "unsized", "use", "virtual", "where", "while", "yield",
 ];
 
-/// Returns the word if each name in source can start with it.
-pub fn name_of(alloc: Global, word: &str) -> Result<&str, Fault> {
-    if !is_name(word) {
-        let why = "expected letters, digits and _, not starting with a digit";
-        return Err(about(alloc, word, why));
+/// Returns whether Rust keeps a word for itself.
+fn is_kept(word: &str) -> bool {
+    for kept in KEPT_BY_RUST.iter() {
+        if *kept == word {
+            return true;
+        }
     }
-    Ok(word)
+    false
 }
 
-/// Returns the name if it can be that of a module in Rust.
-pub fn module_name(alloc: Global, name: &str) -> Result<&str, Fault> {
-    if KEPT_BY_RUST.iter().any(|kept| *kept == name) {
+/// Returns the name in source that the arguments give.
+pub fn name_in<'a>(matches: &ArgMatches<'a>) -> &'a str {
+    matches.get_str("name").unwrap_or("table")
+}
+
+/// Tests whether each name in source can start with that of the arguments, and whether in Rust it
+/// can be that of a module.
+pub fn test_name(alloc: Global, matches: &ArgMatches<'_>) -> Result<(), Fault> {
+    let name = name_in(matches);
+    if !is_name(name) {
+        let why = "expected letters, digits and _, not starting with a digit";
+        return Err(about(alloc, name, why));
+    }
+    if matches!(matches.get_str("as"), Some("rust" | "rust-frozen")) && is_kept(name) {
         return Err(about(alloc, name, "a reserved word of Rust"));
     }
-    Ok(name)
+    Ok(())
 }

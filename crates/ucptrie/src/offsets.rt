@@ -2,17 +2,12 @@
 use crate::fault::{Fault, about, said};
 use std::alloc::{AllocError, Global};
 
-/// The signatures of the binary form in the two byte orders.
-const SIGNATURES: [&[u8]; 2] = [b"Tri3", b"3irT"];
-
 /// How many offsets a message lists at most.
 const LISTED: usize = 32;
 
-/// Returns whether bytes start with a signature.
+/// Returns whether bytes start with the signature of the binary form, in one of the byte orders.
 pub fn starts_trie(bytes: &[u8]) -> bool {
-    SIGNATURES
-        .iter()
-        .any(|signature| bytes.starts_with(signature))
+    bytes.starts_with(b"Tri3".as_slice()) || bytes.starts_with(b"3irT".as_slice())
 }
 
 /// Returns the offsets of signatures, which are multiples of four.
@@ -31,7 +26,7 @@ fn several_line(alloc: Global, name: &str, offsets: &[usize]) -> Result<String, 
     let mut line = String::new(alloc);
     let count = offsets.len();
     write!(line, "{name}: {count} tries, choose one by --offset:")?;
-    for offset in offsets.iter().take(LISTED) {
+    for offset in offsets.get(..LISTED).unwrap_or(offsets) {
         write!(line, " {offset}")?;
     }
     if count > LISTED {
@@ -50,10 +45,10 @@ pub fn from_trie<'b>(
     offset: Option<u32>,
 ) -> Result<&'b [u8], Fault> {
     if let Some(offset) = offset {
-        let why = "the offset is beyond the end";
-        return bytes
-            .get(offset as usize..)
-            .ok_or_else(|| about(alloc, name, why));
+        return match bytes.get(offset as usize..) {
+            Some(part) => Ok(part),
+            None => Err(about(alloc, name, "the offset is beyond the end")),
+        };
     }
     if starts_trie(bytes) || str::from_utf8(bytes).is_ok() {
         return Ok(bytes);

@@ -1,11 +1,9 @@
 //! The command `set`: the set of the code points with a value, or of a file of sets, in a form.
 use crate::build::unbuilt;
 use crate::fault::{Fault, about};
-use crate::heading::with_heading;
-use crate::names::{module_name, name_of};
+use crate::names::name_in;
 use crate::offsets::starts_trie;
-use crate::streams::{bytes_at, input_name};
-use crate::tables::table_in;
+use crate::tables::{number, table_in};
 use crate::unicode_files::{
     columns, found_kind, has_columns, is_set, named_file, named_kind, names, unread,
 };
@@ -47,14 +45,13 @@ fn is_toml(file: &[u8]) -> bool {
     let Ok(text) = str::from_utf8(file) else {
         return false;
     };
-    let first = text
-        .lines()
-        .map(|line| content_of(line.as_bytes()))
-        .find(|it| !it.is_empty());
-    match first {
-        Some(content) => content.starts_with(b"[".as_slice()) || content.contains(&b'='),
-        None => false,
+    for line in text.lines() {
+        let content = content_of(line.as_bytes());
+        if !content.is_empty() {
+            return content.starts_with(b"[".as_slice()) || content.contains(&b'=');
+        }
     }
+    false
 }
 
 /// Returns whether a file is taken for JSON: its first byte after white space is `{`.
@@ -90,17 +87,17 @@ fn options(default: u32) -> TableOptions {
     }
 }
 
-/// Returns the set of a value in a table. `path` is what it was read from.
+/// Returns the set of a value in a table. `name` is what it was read from.
 fn set_in_table(
     alloc: Global,
-    path: &str,
+    name: &str,
     table: &Table,
     value: u32,
 ) -> Result<CodePointInversionList<'static>, Fault> {
     match set_of_value(alloc, table, value) {
         Ok(set) => Ok(set),
         Err(ValueSetFault::Memory) => Err(Fault::Memory),
-        Err(fault) => Err(about(alloc, input_name(path), fault)),
+        Err(fault) => Err(about(alloc, name, fault)),
     }
 }
 
@@ -115,24 +112,20 @@ fn asked_number(alloc: Global, matches: &ArgMatches<'_>) -> Result<u32, Fault> {
     }
 }
 
-/// Returns the number of the value with this name.
+/// Returns the number of the value with this name. No value has an empty name.
 fn number_named(alloc: Global, names: &[Name<'_>], text: &str) -> Result<u32, Fault> {
-    for name in names {
-        if !name.text.is_empty()
-            && is_same_name(name.text, text.as_bytes())
-            && let Ok(number) = u32::try_from(name.number)
-        {
-            return Ok(number);
-        }
+    match number_of(Numbering::Names(names), text.as_bytes()) {
+        Some(number) if !is_same_name(&[], text.as_bytes()) => Ok(number),
+        _ => Err(about(alloc, text, "no value of the property has this name")),
     }
-    Err(about(alloc, text, "no value of the property has this name"))
 }
 
-/// Returns how the values of a file become numbers, and the number whose set is asked for.
+/// Returns how the values of a file become numbers, and the number whose set is asked for. `name`
+/// is what the file was read from.
 fn asked_value<'n>(
     alloc: Global,
     matches: &ArgMatches<'_>,
-    path: &str,
+    name: &str,
     columns: Columns<'_>,
     names: &'n [Name<'n>],
 ) -> Result<(Numbering<'n>, u32), Fault> {
@@ -141,7 +134,7 @@ fn asked_value<'n>(
         None if is_set(columns, names) => Ok((Numbering::One, 1)),
         None => {
             let why = "expected --value, or by --property a property that is true or false";
-            Err(about(alloc, input_name(path), why))
+            Err(about(alloc, name, why))
         }
     }
 }
@@ -151,32 +144,31 @@ fn asked_value<'n>(
 fn set_of_unicode_file(
     rt: &HostRuntime,
     matches: &ArgMatches<'_>,
-    path: &str,
+    name: &str,
     file: &[u8],
     kind: FileKind,
 ) -> Result<CodePointInversionList<'static>, Fault> {
-    let columns = columns(rt.alloc(), matches, kind, input_name(path), file)?;
+    let columns = columns(rt.alloc(), matches, kind, name, file)?;
     let named = named_file(rt, matches)?;
     let names = names(rt.alloc(), matches, file, columns, &named)?;
-    let (numbering, value) = asked_value(rt.alloc(), matches, path, columns, &names)?;
-    let table = match table_of_file(rt.alloc(), file, columns, numbering, options(u32::MAX)) {
-        Ok(table) => table,
-        Err(fault) => return Err(unread(rt.alloc(), path, file, fault)),
-    };
-    set_in_table(rt.alloc(), path, &table, value)
+    let (numbering, value) = asked_value(rt.alloc(), matches, name, columns, &names)?;
+    match table_of_file(rt.alloc(), file, columns, numbering, options(u32::MAX)) {
+        Ok(table) => set_in_table(rt.alloc(), name, &table, value),
+        Err(fault) => Err(unread(rt.alloc(), name, file, fault)),
+    }
 }
 
 /// Returns the set of a value in rows.
 fn set_of_rows(
     alloc: Global,
     matches: &ArgMatches<'_>,
-    path: &str,
+    name: &str,
     rows: &[u8],
 ) -> Result<CodePointInversionList<'static>, Fault> {
     let value = asked_number(alloc, matches)?;
     match table_of_rows(alloc, rows, options(0)) {
-        Ok(table) => set_in_table(alloc, path, &table, value),
-        Err(fault) => Err(unbuilt(alloc, input_name(path), rows, fault)),
+        Ok(table) => set_in_table(alloc, name, &table, value),
+        Err(fault) => Err(unbuilt(alloc, name, rows, fault)),
     }
 }
 
@@ -184,48 +176,48 @@ fn set_of_rows(
 fn set_of_table(
     alloc: Global,
     matches: &ArgMatches<'_>,
-    path: &str,
+    name: &str,
     file: &[u8],
 ) -> Result<CodePointInversionList<'static>, Fault> {
     let value = asked_number(alloc, matches)?;
-    let table = table_in(alloc, matches, path, file, matches.get_one("offset"))?;
-    set_in_table(alloc, path, &table, value)
+    let table = table_in(alloc, matches, name, file, number(matches, "offset"))?;
+    set_in_table(alloc, name, &table, value)
 }
 
 /// Returns the set of a TOML file: that of a property, or else that of a value in a table.
 fn set_of_toml(
     alloc: Global,
     matches: &ArgMatches<'_>,
-    path: &str,
+    name: &str,
     file: &[u8],
 ) -> Result<CodePointInversionList<'static>, Fault> {
     let Ok(text) = str::from_utf8(file) else {
-        return set_of_table(alloc, matches, path, file);
+        return set_of_table(alloc, matches, name, file);
     };
     match set_of_file(alloc, text, matches.get_str("property")) {
         Ok(_) if matches.get_str("value").is_some() => {
             let why = "the file has sets, and no table with values for --value";
-            Err(about(alloc, input_name(path), why))
+            Err(about(alloc, name, why))
         }
         Ok(set) => Ok(set),
         Err(SetFileFault::Memory) => Err(Fault::Memory),
         Err(SetFileFault::NotToml | SetFileFault::NoSets) => {
-            set_of_table(alloc, matches, path, file)
+            set_of_table(alloc, matches, name, file)
         }
-        Err(fault) => Err(about(alloc, input_name(path), fault)),
+        Err(fault) => Err(about(alloc, name, fault)),
     }
 }
 
 /// Returns the set of a file in ICU's serialized form.
 fn set_of_serialized(
     alloc: Global,
-    path: &str,
+    name: &str,
     file: &[u8],
 ) -> Result<CodePointInversionList<'static>, Fault> {
     match set_of_bytes(alloc, file) {
         Ok(set) => Ok(set),
         Err(SerializedSetError::Memory) => Err(Fault::Memory),
-        Err(fault) => Err(about(alloc, input_name(path), fault)),
+        Err(fault) => Err(about(alloc, name, fault)),
     }
 }
 
@@ -233,42 +225,45 @@ fn set_of_serialized(
 fn asked_set(
     rt: &HostRuntime,
     matches: &ArgMatches<'_>,
-    path: &str,
+    name: &str,
     file: &[u8],
 ) -> Result<CodePointInversionList<'static>, Fault> {
     match source_of(matches, file) {
-        Source::Lines(FileKind::Rows) => set_of_rows(rt.alloc(), matches, path, file),
-        Source::Lines(kind) => set_of_unicode_file(rt, matches, path, file, kind),
-        Source::Table => set_of_table(rt.alloc(), matches, path, file),
-        Source::Toml => set_of_toml(rt.alloc(), matches, path, file),
-        Source::Serialized => set_of_serialized(rt.alloc(), path, file),
+        Source::Lines(FileKind::Rows) => set_of_rows(rt.alloc(), matches, name, file),
+        Source::Lines(kind) => set_of_unicode_file(rt, matches, name, file, kind),
+        Source::Table => set_of_table(rt.alloc(), matches, name, file),
+        Source::Toml => set_of_toml(rt.alloc(), matches, name, file),
+        Source::Serialized => set_of_serialized(rt.alloc(), name, file),
     }
 }
 
 /// Returns the form that the arguments name.
-fn set_form<'a>(alloc: Global, matches: &ArgMatches<'a>) -> Result<SetForm<'a>, Fault> {
-    let name = name_of(alloc, matches.get_str("name").unwrap_or("set"))?;
-    Ok(match matches.get_str("as") {
+fn set_form<'a>(matches: &ArgMatches<'a>) -> SetForm<'a> {
+    let name = name_in(matches);
+    match matches.get_str("as") {
         Some("icu") => SetForm::Icu,
         Some("toml") => SetForm::Toml(name),
         Some("json") => SetForm::Json,
         Some("c") => SetForm::C(name),
         Some("c-frozen") => SetForm::FrozenC(name),
-        Some("rust") => SetForm::Rust(module_name(alloc, name)?),
-        Some("rust-frozen") => SetForm::FrozenRust(module_name(alloc, name)?),
+        Some("rust") => SetForm::Rust(name),
+        Some("rust-frozen") => SetForm::FrozenRust(name),
         _ => SetForm::Rows,
-    })
+    }
 }
 
-/// Returns the set that the arguments ask for, in the form that they name. `words` are the command.
-pub fn set(rt: &HostRuntime, words: &[String], matches: &ArgMatches<'_>) -> Result<Vec<u8>, Fault> {
-    let form = set_form(rt.alloc(), matches)?;
-    let path = matches.get_str("file").unwrap_or("-");
-    let file = bytes_at(rt, path)?;
-    let set = asked_set(rt, matches, path, &file)?;
-    match written(rt.alloc(), &set, form) {
-        Ok(bytes) => Ok(with_heading(rt.alloc(), matches, words, path, &file, bytes)?),
+/// Returns the set that the arguments ask for, in the form that they name. `name` is what the file
+/// was read from.
+pub fn set(
+    rt: &HostRuntime,
+    matches: &ArgMatches<'_>,
+    name: &str,
+    file: &[u8],
+) -> Result<Vec<u8>, Fault> {
+    let set = asked_set(rt, matches, name, file)?;
+    match written(rt.alloc(), &set, set_form(matches)) {
+        Ok(bytes) => Ok(bytes),
         Err(SetWriteFault::Memory) => Err(Fault::Memory),
-        Err(fault) => Err(about(rt.alloc(), input_name(path), fault)),
+        Err(fault) => Err(about(rt.alloc(), name, fault)),
     }
 }

@@ -1,6 +1,6 @@
 //! The tables of files, and how a table is to be written.
 use crate::fault::{Fault, about, said};
-use crate::names::{module_name, name_of};
+use crate::names::name_in;
 use crate::offsets::from_trie;
 use crate::streams::{bytes_at, input_name};
 use clap::ArgMatches;
@@ -11,6 +11,11 @@ use ucptrie_tables::properties::{PropertyFault, read_property};
 use ucptrie_tables::table::Table;
 use ucptrie_tables::width::ValueWidth;
 use ucptrie_tables::written::Form;
+
+/// Returns the number that the argument `id` gives.
+pub fn number(matches: &ArgMatches<'_>, id: &str) -> Option<u32> {
+    matches.get_one(id)
+}
 
 /// Returns the trie type that the arguments name.
 pub fn trie_type(matches: &ArgMatches<'_>) -> Option<TrieType> {
@@ -32,16 +37,16 @@ pub fn width(matches: &ArgMatches<'_>) -> Option<ValueWidth> {
 }
 
 /// Returns the form that the arguments name.
-pub fn form<'a>(alloc: Global, matches: &ArgMatches<'a>) -> Result<Form<'a>, Fault> {
-    let name = name_of(alloc, matches.get_str("name").unwrap_or("table"))?;
-    Ok(match matches.get_str("as") {
+pub fn form<'a>(matches: &ArgMatches<'a>) -> Form<'a> {
+    let name = name_in(matches);
+    match matches.get_str("as") {
         Some("icu") => Form::Icu,
         Some("toml") => Form::Toml,
         Some("json") => Form::Json,
         Some("c") => Form::C(name),
-        Some("rust") => Form::Rust(module_name(alloc, name)?),
+        Some("rust") => Form::Rust(name),
         _ => Form::Rows,
-    })
+    }
 }
 
 /// Returns the line about a text in no known form.
@@ -55,9 +60,8 @@ fn toml_line(alloc: Global, name: &str, fault: &TomlFault) -> Result<String, All
     Ok(line)
 }
 
-/// Returns the fault of a file that has no table.
-fn unread(alloc: Global, path: &str, fault: ReadFault) -> Fault {
-    let name = input_name(path);
+/// Returns the fault of a file that has no table. `name` is what it was read from.
+fn unread(alloc: Global, name: &str, fault: ReadFault) -> Fault {
     match fault {
         ReadFault::Memory => Fault::Memory,
         ReadFault::Toml(fault) => said(toml_line(alloc, name, &fault)),
@@ -91,11 +95,10 @@ fn several_line(alloc: Global, name: &str, found: &str) -> Result<String, AllocE
     Ok(line)
 }
 
-/// Returns the fault of a file that has no table of the property.
-fn unchosen(alloc: Global, path: &str, property: &str, fault: PropertyFault) -> Fault {
-    let name = input_name(path);
+/// Returns the fault of a file that has no table of the property. `name` is what it was read from.
+fn unchosen(alloc: Global, name: &str, property: &str, fault: PropertyFault) -> Fault {
     match fault {
-        PropertyFault::Read(fault) => unread(alloc, path, fault),
+        PropertyFault::Read(fault) => unread(alloc, name, fault),
         PropertyFault::NotToml => about(alloc, name, "not TOML, so it has no properties"),
         PropertyFault::Missing(found) => said(missing_line(alloc, name, property, &found)),
         PropertyFault::Several(found) => said(several_line(alloc, name, &found)),
@@ -104,22 +107,22 @@ fn unchosen(alloc: Global, path: &str, property: &str, fault: PropertyFault) -> 
 
 /// Returns the table of a file with these bytes. In TOML it is that of the property that the
 /// arguments name, and in another file that of the trie at the given offset, or the only one.
-/// `path` is what the bytes were read from.
+/// `name` is what the bytes were read from.
 pub fn table_in(
     alloc: Global,
     matches: &ArgMatches<'_>,
-    path: &str,
+    name: &str,
     bytes: &[u8],
     offset: Option<u32>,
 ) -> Result<Table, Fault> {
     if bytes.is_empty() {
-        return Err(about(alloc, input_name(path), "the file is empty"));
+        return Err(about(alloc, name, "the file is empty"));
     }
-    let part = from_trie(alloc, input_name(path), bytes, offset)?;
+    let part = from_trie(alloc, name, bytes, offset)?;
     let property = matches.get_str("property");
     match read_property(alloc, part, property) {
         Ok(table) => Ok(table),
-        Err(fault) => Err(unchosen(alloc, path, property.unwrap_or(""), fault)),
+        Err(fault) => Err(unchosen(alloc, name, property.unwrap_or(""), fault)),
     }
 }
 
@@ -133,5 +136,5 @@ pub fn table_at(
 ) -> Result<Table, Fault> {
     let path = matches.get_str(id).unwrap_or("-");
     let bytes = bytes_at(rt, path)?;
-    table_in(rt.alloc(), matches, path, &bytes, offset)
+    table_in(rt.alloc(), matches, input_name(path), &bytes, offset)
 }

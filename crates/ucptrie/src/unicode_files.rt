@@ -2,8 +2,8 @@
 use crate::build::{options, unbuilt};
 use crate::fault::{Fault, about, said};
 use crate::overlap::has_overlap;
-use crate::streams::{bytes_at, input_name};
-use crate::tables::form;
+use crate::streams::bytes_at;
+use crate::tables::{form, number};
 use clap::ArgMatches;
 use std::alloc::Global;
 use ucd_files::aliases::alias_names;
@@ -39,7 +39,7 @@ pub fn named_kind(matches: &ArgMatches<'_>) -> Option<FileKind> {
 pub fn has_columns(matches: &ArgMatches<'_>) -> bool {
     matches.get_str("property").is_some()
         || matches.get_str("aliases").is_some()
-        || matches.get_one::<u32>("field").is_some()
+        || number(matches, "field").is_some()
 }
 
 /// Returns the kind of lines that the file's start shows, but no rows if the lines have properties.
@@ -52,7 +52,7 @@ pub fn found_kind(file: &[u8], has_properties: bool) -> FileKind {
 
 /// The properties of `UnicodeData.txt` with one value for each code point: the short and the long
 /// name, and the field.
-const UNICODE_DATA: [(&str, &str, usize); 8] = [
+static UNICODE_DATA: [(&str, &str, usize); 8] = [
     ("na", "Name", 1),
     ("gc", "General_Category", 2),
     ("ccc", "Canonical_Combining_Class", 3),
@@ -63,24 +63,31 @@ const UNICODE_DATA: [(&str, &str, usize); 8] = [
     ("stc", "Simple_Titlecase_Mapping", 14),
 ];
 
+/// Returns whether a property has this short or this long name.
+fn is_named(short: &str, long: &str, property: &[u8]) -> bool {
+    is_same_name(short.as_bytes(), property) || is_same_name(long.as_bytes(), property)
+}
+
 /// Returns the field of a property in `UnicodeData.txt`.
 fn unicode_data_field(alloc: Global, property: &str) -> Result<usize, Fault> {
-    for (short, long, field) in UNICODE_DATA {
-        if is_same_name(short.as_bytes(), property.as_bytes())
-            || is_same_name(long.as_bytes(), property.as_bytes())
-        {
-            return Ok(field);
+    for (short, long, field) in UNICODE_DATA.iter() {
+        if is_named(short, long, property.as_bytes()) {
+            return Ok(*field);
         }
     }
     let why = "UnicodeData.txt has no such property; --field names a field by its number";
     Err(about(alloc, property, why))
 }
 
-/// Returns whether a file is `CaseFolding.txt`.
-fn is_case_folding(file: &[u8]) -> bool {
+/// Returns whether a file is `CaseFolding.txt`, and no property but the simple case folding is
+/// named.
+fn is_simple_folding(file: &[u8], property: Option<&str>) -> bool {
     match title_of(file) {
-        Some(title) => title.starts_with(b"CaseFolding".as_slice()),
-        None => false,
+        Some(title) if title.starts_with(b"CaseFolding".as_slice()) => match property {
+            Some(property) => is_named("scf", "Simple_Case_Folding", property.as_bytes()),
+            None => true,
+        },
+        _ => false,
     }
 }
 
@@ -93,8 +100,7 @@ pub fn columns<'a>(
     file: &[u8],
 ) -> Result<Columns<'a>, Fault> {
     let is_unicode_data = matches!(kind, FileKind::UnicodeData);
-    let field: Option<u32> = matches.get_one("field");
-    match (field, matches.get_str("property")) {
+    match (number(matches, "field"), matches.get_str("property")) {
         (Some(n), _) if is_unicode_data => Ok(Columns::UnicodeData(n as usize)),
         (Some(n), _) => Ok(Columns::Field(n as usize)),
         (None, Some(property)) if matches!(kind, FileKind::Unihan) => {
@@ -115,9 +121,7 @@ pub fn columns<'a>(
             let why = "the file has many properties: name one by --property or --field";
             Err(about(alloc, "UnicodeData.txt", why))
         }
-        (None, None | Some("scf" | "Simple_Case_Folding")) if is_case_folding(file) => {
-            Ok(Columns::SimpleFolding)
-        }
+        (None, property) if is_simple_folding(file, property) => Ok(Columns::SimpleFolding),
         (None, None) if has_overlap(alloc, file)? => {
             let why = "a code point has two values: choose by --property or by --field";
             Err(about(alloc, name, why))
@@ -216,9 +220,8 @@ fn numbering<'n>(
     }
 }
 
-/// Returns the fault of a file that makes no table. `path` is what it was read from.
-pub fn unread(alloc: Global, path: &str, file: &[u8], fault: UnicodeFileFault) -> Fault {
-    let name = input_name(path);
+/// Returns the fault of a file that makes no table. `name` is what it was read from.
+pub fn unread(alloc: Global, name: &str, file: &[u8], fault: UnicodeFileFault) -> Fault {
     match fault {
         UnicodeFileFault::File(FileFault::Memory) => Fault::Memory,
         UnicodeFileFault::File(FileFault::Unfinished) => about(alloc, name, FileFault::Unfinished),
@@ -250,20 +253,19 @@ fn built_of_file(
 }
 
 /// Builds a table of a file of the Unicode Character Database, in the form that the arguments name.
-/// `path` is what it was read from.
+/// `name` is what it was read from.
 pub fn build_file(
     rt: &HostRuntime,
     matches: &ArgMatches<'_>,
-    path: &str,
+    name: &str,
     file: &[u8],
     kind: FileKind,
 ) -> Result<Vec<u8>, Fault> {
-    let form = form(rt.alloc(), matches)?;
-    let columns = columns(rt.alloc(), matches, kind, input_name(path), file)?;
+    let columns = columns(rt.alloc(), matches, kind, name, file)?;
     let named = named_file(rt, matches)?;
     let names = names(rt.alloc(), matches, file, columns, &named)?;
-    match built_of_file(rt.alloc(), matches, file, columns, &names, form) {
+    match built_of_file(rt.alloc(), matches, file, columns, &names, form(matches)) {
         Ok(bytes) => Ok(bytes),
-        Err(fault) => Err(unread(rt.alloc(), path, file, fault)),
+        Err(fault) => Err(unread(rt.alloc(), name, file, fault)),
     }
 }

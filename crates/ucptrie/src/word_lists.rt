@@ -1,8 +1,6 @@
 //! The command `words`: a word list as a unit trie.
 use crate::fault::{Fault, about, said};
-use crate::heading::with_heading;
-use crate::names::{module_name, name_of};
-use crate::streams::{bytes_at, input_name};
+use crate::names::name_in;
 use clap::ArgMatches;
 use icu_char16trie::char16trie::Char16Trie;
 use std::alloc::{AllocError, Global};
@@ -13,14 +11,14 @@ use ucptrie_words::fault::{RowsFault, UnitsFault, WordsFault};
 use ucptrie_words::written::{Form, written};
 
 /// Returns the form that the arguments name.
-fn form<'a>(alloc: Global, matches: &ArgMatches<'a>) -> Result<Form<'a>, Fault> {
-    let name = name_of(alloc, matches.get_str("name").unwrap_or("words"))?;
-    Ok(match matches.get_str("as") {
+fn form<'a>(matches: &ArgMatches<'a>) -> Form<'a> {
+    let name = name_in(matches);
+    match matches.get_str("as") {
         Some("icu") => Form::Icu,
         Some("c") => Form::C(name),
-        Some("rust") => Form::Rust(module_name(alloc, name)?),
+        Some("rust") => Form::Rust(name),
         _ => Form::Rows,
-    })
+    }
 }
 
 /// Returns the fault of a word list that makes no trie. `name` is what it was read from.
@@ -63,25 +61,23 @@ fn key_line(alloc: Global, name: &str, key: &str) -> Result<String, AllocError> 
     Ok(line)
 }
 
-/// Returns the trie of a file, or of standard input, in the form that the arguments name. `words`
-/// are the command.
+/// Returns the trie of a file in the form that the arguments name. `name` is what the file was read
+/// from.
 pub fn word_list(
-    rt: &HostRuntime,
-    words: &[String],
+    alloc: Global,
     matches: &ArgMatches<'_>,
+    name: &str,
+    file: &[u8],
 ) -> Result<Vec<u8>, Fault> {
-    let form = form(rt.alloc(), matches)?;
-    let path = matches.get_str("file").unwrap_or("-");
-    let name = input_name(path);
-    let file = bytes_at(rt, path)?;
-    let trie = trie(rt.alloc(), matches, name, &file)?;
+    let form = form(matches);
+    let trie = trie(alloc, matches, name, file)?;
     if trie.data.is_empty() && !matches!(form, Form::Rows) {
         let why = "no words, and no units: UCharsTrie needs one word at least";
-        return Err(about(rt.alloc(), name, why));
+        return Err(about(alloc, name, why));
     }
-    match written(rt.alloc(), &trie, form) {
-        Ok(bytes) => Ok(with_heading(rt.alloc(), matches, words, path, &file, bytes)?),
+    match written(alloc, &trie, form) {
+        Ok(bytes) => Ok(bytes),
         Err(RowsFault::Memory) => Err(Fault::Memory),
-        Err(RowsFault::Key(key)) => Err(said(key_line(rt.alloc(), name, &key))),
+        Err(RowsFault::Key(key)) => Err(said(key_line(alloc, name, &key))),
     }
 }

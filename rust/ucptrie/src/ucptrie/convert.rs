@@ -5,9 +5,7 @@ use crate::host::{HostRuntime, Text};
 use crate::support::prelude::*;
 use crate::ucptrie::build::unbuilt;
 use crate::ucptrie::fault::{Fault, about};
-use crate::ucptrie::heading::with_heading;
-use crate::ucptrie::streams::{bytes_at, input_name};
-use crate::ucptrie::tables::{form, table_in, trie_type, width};
+use crate::ucptrie::tables::{form, number, table_in, trie_type, width};
 use crate::ucptrie_tables::fault::BuildFault;
 use crate::ucptrie_tables::rebuild::rebuilt;
 use crate::ucptrie_tables::table::Table;
@@ -15,9 +13,9 @@ use crate::ucptrie_tables::written::{Form, written};
 use clap::ArgMatches;
 
 /// Returns the table as the arguments want it: as it is, or built again of its values.
-fn changed(rt: &HostRuntime, matches: &ArgMatches, table: Table) -> Result<Table, BuildFault> {
+fn changed(matches: &ArgMatches, table: Table) -> Result<Table, BuildFault> {
     let (kind, bits) = (trie_type(matches), width(matches));
-    let error: Option<u32> = matches.get_one::<u32>("error").copied();
+    let error = number(matches, "error");
     if kind.is_none() && bits.is_none() && error.is_none() {
         return Ok(table);
     }
@@ -28,28 +26,15 @@ fn changed(rt: &HostRuntime, matches: &ArgMatches, table: Table) -> Result<Table
     rebuilt(&table, kind, bits, error)
 }
 
-/// Returns the table of a file in the form that the arguments name.
+/// Returns the table of a file in the form that the arguments name. `name` is what the file was
+/// read from.
 ///
 /// Rows are ranges. The ranges of a table that is not coherent may differ from its values, so its
-/// rows would make another table and are not written. `words` are the command.
-pub fn convert(rt: &HostRuntime, words: &[String], matches: &ArgMatches) -> Result<Vec<u8>, Fault> {
-    let form = form(matches)?;
-    let path = matches
-        .get_one::<String>("file")
-        .map(String::as_str)
-        .unwrap_or("-");
-    let name = input_name(path);
-    let input = bytes_at(rt, path)?;
-    let table = match changed(
-        rt,
-        matches,
-        table_in(
-            matches,
-            path,
-            &input,
-            matches.get_one::<u32>("offset").copied(),
-        )?,
-    ) {
+/// rows would make another table and are not written.
+pub fn convert(matches: &ArgMatches, name: &str, file: &[u8]) -> Result<Vec<u8>, Fault> {
+    let form = form(matches);
+    let read = table_in(matches, name, file, number(matches, "offset"))?;
+    let table = match changed(matches, read) {
         Ok(table) => table,
         Err(fault) => return Err(unbuilt(name, &[], fault)),
     };
@@ -58,7 +43,7 @@ pub fn convert(rt: &HostRuntime, words: &[String], matches: &ArgMatches) -> Resu
         return Err(about(name, why));
     }
     match written(&table, form) {
-        Ok(bytes) => Ok(with_heading(matches, words, path, &input, bytes)?),
+        Ok(bytes) => Ok(bytes),
         Err(fault) => Err(unbuilt(name, &[], fault)),
     }
 }

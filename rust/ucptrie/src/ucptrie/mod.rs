@@ -28,10 +28,12 @@ use crate::ucptrie::asked::asked;
 use crate::ucptrie::build::build;
 use crate::ucptrie::convert::convert;
 use crate::ucptrie::fault::{Fault, about, about_arguments};
+use crate::ucptrie::heading::with_heading;
+use crate::ucptrie::names::test_name;
 use crate::ucptrie::output::{deliver, target_of};
 use crate::ucptrie::sets::set;
-use crate::ucptrie::streams::{put, say};
-use crate::ucptrie::tables::table_at;
+use crate::ucptrie::streams::{bytes_at, input_name, put, say};
+use crate::ucptrie::tables::{number, table_at};
 use crate::ucptrie::word_lists::word_list;
 use crate::ucptrie::words::program_words;
 use crate::ucptrie_tables::diff::differences_text;
@@ -40,18 +42,42 @@ use crate::ucptrie_tables::shown::{answered, shown};
 use crate::ucptrie_tables::table::Table;
 use clap::ArgMatches;
 
-/// Makes a table by `build` or `convert`, a set by `set` or a trie by `words`, and sends it to its
-/// target.
-fn make(rt: &HostRuntime, words: &[String], name: &str, matches: &ArgMatches) -> Result<(), Fault> {
+/// Returns the table that `build` or `convert` makes of a file, the set that `set` makes of it, or
+/// the trie that `words` does. `name` is what the file was read from.
+fn made(
+    rt: &HostRuntime,
+    command: &str,
+    matches: &ArgMatches,
+    name: &str,
+    file: &[u8],
+) -> Result<Vec<u8>, Fault> {
+    match command {
+        "build" => build(rt, matches, name, file),
+        "set" => set(rt, matches, name, file),
+        "words" => word_list(matches, name, file),
+        _ => convert(matches, name, file),
+    }
+}
+
+/// Sends what a command makes of a file, or of standard input, to its target. `words` are the
+/// command.
+fn make(
+    rt: &HostRuntime,
+    words: &[String],
+    command: &str,
+    matches: &ArgMatches,
+) -> Result<(), Fault> {
     let target = target_of(matches)?;
-    let bytes = match name {
-        "build" => build(rt, words, matches)?,
-        "set" => set(rt, words, matches)?,
-        "words" => word_list(rt, words, matches)?,
-        _ => convert(rt, words, matches)?,
-    };
+    test_name(matches)?;
+    let path = matches
+        .get_one::<String>("file")
+        .map(String::as_str)
+        .unwrap_or("-");
+    let file = bytes_at(rt, path)?;
+    let bytes = made(rt, command, matches, input_name(path), &file)?;
+    let whole = with_heading(matches, words, path, &file, bytes)?;
     let is_binary = matches.get_one::<String>("as").map(String::as_str) == Some("icu");
-    deliver(rt, target, &bytes, is_binary)
+    deliver(rt, target, &whole, is_binary)
 }
 
 /// Prints a text.
@@ -62,12 +88,7 @@ fn put_text(rt: &HostRuntime, text: Result<String, AllocError>) -> Result<(), Fa
 
 /// Prints what a table is, in lines.
 fn show(rt: &HostRuntime, matches: &ArgMatches) -> Result<(), Fault> {
-    let table = table_at(
-        rt,
-        matches,
-        "file",
-        matches.get_one::<u32>("offset").copied(),
-    )?;
+    let table = table_at(rt, matches, "file", number(matches, "offset"))?;
     put_text(rt, shown(&table))
 }
 
@@ -75,12 +96,7 @@ fn show(rt: &HostRuntime, matches: &ArgMatches) -> Result<(), Fault> {
 /// in lines.
 fn get(rt: &HostRuntime, name: &str, matches: &ArgMatches) -> Result<(), Fault> {
     let asked = asked(rt, matches)?;
-    let table = table_at(
-        rt,
-        matches,
-        "file",
-        matches.get_one::<u32>("offset").copied(),
-    )?;
+    let table = table_at(rt, matches, "file", number(matches, "offset"))?;
     let text = match name {
         "get" => answered(&table, &asked),
         _ => explained(&table, &asked),

@@ -6,17 +6,12 @@ use crate::support::AllocError;
 use crate::support::prelude::*;
 use crate::ucptrie::fault::{Fault, about, said};
 
-/// The signatures of the binary form in the two byte orders.
-const SIGNATURES: [&[u8]; 2] = [b"Tri3", b"3irT"];
-
 /// How many offsets a message lists at most.
 const LISTED: usize = 32;
 
-/// Returns whether bytes start with a signature.
+/// Returns whether bytes start with the signature of the binary form, in one of the byte orders.
 pub fn starts_trie(bytes: &[u8]) -> bool {
-    SIGNATURES
-        .iter()
-        .any(|signature| bytes.starts_with(signature))
+    bytes.starts_with(b"Tri3".as_slice()) || bytes.starts_with(b"3irT".as_slice())
 }
 
 /// Returns the offsets of signatures, which are multiples of four.
@@ -35,7 +30,7 @@ fn several_line(name: &str, offsets: &[usize]) -> Result<String, AllocError> {
     let mut line = String::new();
     let count = offsets.len();
     write!(line, "{name}: {count} tries, choose one by --offset:")?;
-    for offset in offsets.iter().take(LISTED) {
+    for offset in offsets.get(..LISTED).unwrap_or(offsets) {
         write!(line, " {offset}")?;
     }
     if count > LISTED {
@@ -49,8 +44,10 @@ fn several_line(name: &str, offsets: &[usize]) -> Result<String, AllocError> {
 /// file is called.
 pub fn from_trie<'b>(name: &str, bytes: &'b [u8], offset: Option<u32>) -> Result<&'b [u8], Fault> {
     if let Some(offset) = offset {
-        let why = "the offset is beyond the end";
-        return bytes.get(offset as usize..).ok_or_else(|| about(name, why));
+        return match bytes.get(offset as usize..) {
+            Some(part) => Ok(part),
+            None => Err(about(name, "the offset is beyond the end")),
+        };
     }
     if starts_trie(bytes) || str::from_utf8(bytes).is_ok() {
         return Ok(bytes);

@@ -63,16 +63,26 @@ fn made_beside(rt: &HostRuntime, path: &str) -> io::Result<(String, File)> {
     Err(io::Error::from(io::ErrorKind::AlreadyExists))
 }
 
-/// Writes the file of this name, under another name until all is written. The new file has the
-/// permissions of the old one.
+/// Writes a new file, gives it the permissions of the old one of this name, if there is one, and
+/// puts it in that one's place. `name` is its name until then.
+fn put_in_place(
+    rt: &HostRuntime,
+    mut file: File,
+    name: &str,
+    path: &str,
+    bytes: &[u8],
+) -> io::Result<()> {
+    if let Ok(old) = fs::metadata(rt, path) {
+        file.set_permissions(old.permissions())?;
+    }
+    file.write_all(bytes)?;
+    fs::rename(rt, name, path)
+}
+
+/// Writes the file of this name, under another name until all is written.
 fn replace(rt: &HostRuntime, path: &str, bytes: &[u8]) -> io::Result<()> {
-    let (name, mut file) = made_beside(rt, path)?;
-    let written = match fs::metadata(rt, path) {
-        Ok(old) => file.set_permissions(old.permissions()),
-        Err(_) => Ok(()),
-    };
-    let written = written.and_then(|()| file.write_all(bytes));
-    let written = written.and_then(|()| fs::rename(rt, name.as_str(), path));
+    let (name, file) = made_beside(rt, path)?;
+    let written = put_in_place(rt, file, name.as_str(), path, bytes);
     if written.is_err() {
         let _ = fs::remove_file(rt, name.as_str());
     }

@@ -29,10 +29,10 @@ pub fn has_overlap(file: &[u8]) -> Result<bool, AllocError> {
     ranges.sort_unstable();
     let mut end = None;
     for (start, last) in ranges {
-        if end.is_some_and(|end| start <= end) {
-            return Ok(true);
+        match end {
+            Some(end) if start <= end => return Ok(true),
+            _ => end = Some(last),
         }
-        end = Some(last);
     }
     Ok(false)
 }

@@ -9,11 +9,9 @@ use crate::ucd_files::statement::Columns;
 use crate::ucptab_table::rows::content_of;
 use crate::ucptrie::build::unbuilt;
 use crate::ucptrie::fault::{Fault, about};
-use crate::ucptrie::heading::with_heading;
-use crate::ucptrie::names::{module_name, name_of};
+use crate::ucptrie::names::name_in;
 use crate::ucptrie::offsets::starts_trie;
-use crate::ucptrie::streams::{bytes_at, input_name};
-use crate::ucptrie::tables::table_in;
+use crate::ucptrie::tables::{number, table_in};
 use crate::ucptrie::unicode_files::{
     columns, found_kind, has_columns, is_set, named_file, named_kind, names, unread,
 };
@@ -49,14 +47,13 @@ fn is_toml(file: &[u8]) -> bool {
     let Ok(text) = str::from_utf8(file) else {
         return false;
     };
-    let first = text
-        .lines()
-        .map(|line| content_of(line.as_bytes()))
-        .find(|it| !it.is_empty());
-    match first {
-        Some(content) => content.starts_with(b"[".as_slice()) || content.contains(&b'='),
-        None => false,
+    for line in text.lines() {
+        let content = content_of(line.as_bytes());
+        if !content.is_empty() {
+            return content.starts_with(b"[".as_slice()) || content.contains(&b'=');
+        }
     }
+    false
 }
 
 /// Returns whether a file is taken for JSON: its first byte after white space is `{`.
@@ -92,16 +89,16 @@ fn options(default: u32) -> TableOptions {
     }
 }
 
-/// Returns the set of a value in a table. `path` is what it was read from.
+/// Returns the set of a value in a table. `name` is what it was read from.
 fn set_in_table(
-    path: &str,
+    name: &str,
     table: &Table,
     value: u32,
 ) -> Result<CodePointInversionList<'static>, Fault> {
     match set_of_value(table, value) {
         Ok(set) => Ok(set),
         Err(ValueSetFault::Memory) => Err(Fault::Memory),
-        Err(fault) => Err(about(input_name(path), fault)),
+        Err(fault) => Err(about(name, fault)),
     }
 }
 
@@ -116,23 +113,19 @@ fn asked_number(matches: &ArgMatches) -> Result<u32, Fault> {
     }
 }
 
-/// Returns the number of the value with this name.
+/// Returns the number of the value with this name. No value has an empty name.
 fn number_named(names: &[Name<'_>], text: &str) -> Result<u32, Fault> {
-    for name in names {
-        if !name.text.is_empty()
-            && is_same_name(name.text, text.as_bytes())
-            && let Ok(number) = u32::try_from(name.number)
-        {
-            return Ok(number);
-        }
+    match number_of(Numbering::Names(names), text.as_bytes()) {
+        Some(number) if !is_same_name(&[], text.as_bytes()) => Ok(number),
+        _ => Err(about(text, "no value of the property has this name")),
     }
-    Err(about(text, "no value of the property has this name"))
 }
 
-/// Returns how the values of a file become numbers, and the number whose set is asked for.
+/// Returns how the values of a file become numbers, and the number whose set is asked for. `name`
+/// is what the file was read from.
 fn asked_value<'n>(
     matches: &ArgMatches,
-    path: &str,
+    name: &str,
     columns: Columns<'_>,
     names: &'n [Name<'n>],
 ) -> Result<(Numbering<'n>, u32), Fault> {
@@ -141,7 +134,7 @@ fn asked_value<'n>(
         None if is_set(columns, names) => Ok((Numbering::One, 1)),
         None => {
             let why = "expected --value, or by --property a property that is true or false";
-            Err(about(input_name(path), why))
+            Err(about(name, why))
         }
     }
 }
@@ -151,58 +144,52 @@ fn asked_value<'n>(
 fn set_of_unicode_file(
     rt: &HostRuntime,
     matches: &ArgMatches,
-    path: &str,
+    name: &str,
     file: &[u8],
     kind: FileKind,
 ) -> Result<CodePointInversionList<'static>, Fault> {
-    let columns = columns(matches, kind, input_name(path), file)?;
+    let columns = columns(matches, kind, name, file)?;
     let named = named_file(rt, matches)?;
     let names = names(matches, file, columns, &named)?;
-    let (numbering, value) = asked_value(matches, path, columns, &names)?;
-    let table = match table_of_file(file, columns, numbering, options(u32::MAX)) {
-        Ok(table) => table,
-        Err(fault) => return Err(unread(path, file, fault)),
-    };
-    set_in_table(path, &table, value)
+    let (numbering, value) = asked_value(matches, name, columns, &names)?;
+    match table_of_file(file, columns, numbering, options(u32::MAX)) {
+        Ok(table) => set_in_table(name, &table, value),
+        Err(fault) => Err(unread(name, file, fault)),
+    }
 }
 
 /// Returns the set of a value in rows.
 fn set_of_rows(
     matches: &ArgMatches,
-    path: &str,
+    name: &str,
     rows: &[u8],
 ) -> Result<CodePointInversionList<'static>, Fault> {
     let value = asked_number(matches)?;
     match table_of_rows(rows, options(0)) {
-        Ok(table) => set_in_table(path, &table, value),
-        Err(fault) => Err(unbuilt(input_name(path), rows, fault)),
+        Ok(table) => set_in_table(name, &table, value),
+        Err(fault) => Err(unbuilt(name, rows, fault)),
     }
 }
 
 /// Returns the set of a value in a file with a table.
 fn set_of_table(
     matches: &ArgMatches,
-    path: &str,
+    name: &str,
     file: &[u8],
 ) -> Result<CodePointInversionList<'static>, Fault> {
     let value = asked_number(matches)?;
-    let table = table_in(
-        matches,
-        path,
-        file,
-        matches.get_one::<u32>("offset").copied(),
-    )?;
-    set_in_table(path, &table, value)
+    let table = table_in(matches, name, file, number(matches, "offset"))?;
+    set_in_table(name, &table, value)
 }
 
 /// Returns the set of a TOML file: that of a property, or else that of a value in a table.
 fn set_of_toml(
     matches: &ArgMatches,
-    path: &str,
+    name: &str,
     file: &[u8],
 ) -> Result<CodePointInversionList<'static>, Fault> {
     let Ok(text) = str::from_utf8(file) else {
-        return set_of_table(matches, path, file);
+        return set_of_table(matches, name, file);
     };
     match set_of_file(
         text,
@@ -215,21 +202,21 @@ fn set_of_toml(
                 .is_some() =>
         {
             let why = "the file has sets, and no table with values for --value";
-            Err(about(input_name(path), why))
+            Err(about(name, why))
         }
         Ok(set) => Ok(set),
         Err(SetFileFault::Memory) => Err(Fault::Memory),
-        Err(SetFileFault::NotToml | SetFileFault::NoSets) => set_of_table(matches, path, file),
-        Err(fault) => Err(about(input_name(path), fault)),
+        Err(SetFileFault::NotToml | SetFileFault::NoSets) => set_of_table(matches, name, file),
+        Err(fault) => Err(about(name, fault)),
     }
 }
 
 /// Returns the set of a file in ICU's serialized form.
-fn set_of_serialized(path: &str, file: &[u8]) -> Result<CodePointInversionList<'static>, Fault> {
+fn set_of_serialized(name: &str, file: &[u8]) -> Result<CodePointInversionList<'static>, Fault> {
     match set_of_bytes(file) {
         Ok(set) => Ok(set),
         Err(SerializedSetError::Memory) => Err(Fault::Memory),
-        Err(fault) => Err(about(input_name(path), fault)),
+        Err(fault) => Err(about(name, fault)),
     }
 }
 
@@ -237,50 +224,45 @@ fn set_of_serialized(path: &str, file: &[u8]) -> Result<CodePointInversionList<'
 fn asked_set(
     rt: &HostRuntime,
     matches: &ArgMatches,
-    path: &str,
+    name: &str,
     file: &[u8],
 ) -> Result<CodePointInversionList<'static>, Fault> {
     match source_of(matches, file) {
-        Source::Lines(FileKind::Rows) => set_of_rows(matches, path, file),
-        Source::Lines(kind) => set_of_unicode_file(rt, matches, path, file, kind),
-        Source::Table => set_of_table(matches, path, file),
-        Source::Toml => set_of_toml(matches, path, file),
-        Source::Serialized => set_of_serialized(path, file),
+        Source::Lines(FileKind::Rows) => set_of_rows(matches, name, file),
+        Source::Lines(kind) => set_of_unicode_file(rt, matches, name, file, kind),
+        Source::Table => set_of_table(matches, name, file),
+        Source::Toml => set_of_toml(matches, name, file),
+        Source::Serialized => set_of_serialized(name, file),
     }
 }
 
 /// Returns the form that the arguments name.
-fn set_form(matches: &ArgMatches) -> Result<SetForm<'_>, Fault> {
-    let name = name_of(
-        matches
-            .get_one::<String>("name")
-            .map(String::as_str)
-            .unwrap_or("set"),
-    )?;
-    Ok(match matches.get_one::<String>("as").map(String::as_str) {
+fn set_form(matches: &ArgMatches) -> SetForm<'_> {
+    let name = name_in(matches);
+    match matches.get_one::<String>("as").map(String::as_str) {
         Some("icu") => SetForm::Icu,
         Some("toml") => SetForm::Toml(name),
         Some("json") => SetForm::Json,
         Some("c") => SetForm::C(name),
         Some("c-frozen") => SetForm::FrozenC(name),
-        Some("rust") => SetForm::Rust(module_name(name)?),
-        Some("rust-frozen") => SetForm::FrozenRust(module_name(name)?),
+        Some("rust") => SetForm::Rust(name),
+        Some("rust-frozen") => SetForm::FrozenRust(name),
         _ => SetForm::Rows,
-    })
+    }
 }
 
-/// Returns the set that the arguments ask for, in the form that they name. `words` are the command.
-pub fn set(rt: &HostRuntime, words: &[String], matches: &ArgMatches) -> Result<Vec<u8>, Fault> {
-    let form = set_form(matches)?;
-    let path = matches
-        .get_one::<String>("file")
-        .map(String::as_str)
-        .unwrap_or("-");
-    let file = bytes_at(rt, path)?;
-    let set = asked_set(rt, matches, path, &file)?;
-    match written(&set, form) {
-        Ok(bytes) => Ok(with_heading(matches, words, path, &file, bytes)?),
+/// Returns the set that the arguments ask for, in the form that they name. `name` is what the file
+/// was read from.
+pub fn set(
+    rt: &HostRuntime,
+    matches: &ArgMatches,
+    name: &str,
+    file: &[u8],
+) -> Result<Vec<u8>, Fault> {
+    let set = asked_set(rt, matches, name, file)?;
+    match written(&set, set_form(matches)) {
+        Ok(bytes) => Ok(bytes),
         Err(SetWriteFault::Memory) => Err(Fault::Memory),
-        Err(fault) => Err(about(input_name(path), fault)),
+        Err(fault) => Err(about(name, fault)),
     }
 }

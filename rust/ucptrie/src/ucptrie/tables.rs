@@ -5,7 +5,7 @@ use crate::support::AllocError;
 #[allow(unused_imports)]
 use crate::support::prelude::*;
 use crate::ucptrie::fault::{Fault, about, said};
-use crate::ucptrie::names::{module_name, name_of};
+use crate::ucptrie::names::name_in;
 use crate::ucptrie::offsets::from_trie;
 use crate::ucptrie::streams::{bytes_at, input_name};
 use crate::ucptrie_tables::fault::{ReadFault, TomlFault};
@@ -15,6 +15,11 @@ use crate::ucptrie_tables::width::ValueWidth;
 use crate::ucptrie_tables::written::Form;
 use bekstaudi::codepointtrie::TrieType;
 use clap::ArgMatches;
+
+/// Returns the number that the argument `id` gives.
+pub fn number(matches: &ArgMatches, id: &str) -> Option<u32> {
+    matches.get_one::<u32>(id).copied()
+}
 
 /// Returns the trie type that the arguments name.
 pub fn trie_type(matches: &ArgMatches) -> Option<TrieType> {
@@ -36,21 +41,16 @@ pub fn width(matches: &ArgMatches) -> Option<ValueWidth> {
 }
 
 /// Returns the form that the arguments name.
-pub fn form(matches: &ArgMatches) -> Result<Form<'_>, Fault> {
-    let name = name_of(
-        matches
-            .get_one::<String>("name")
-            .map(String::as_str)
-            .unwrap_or("table"),
-    )?;
-    Ok(match matches.get_one::<String>("as").map(String::as_str) {
+pub fn form(matches: &ArgMatches) -> Form<'_> {
+    let name = name_in(matches);
+    match matches.get_one::<String>("as").map(String::as_str) {
         Some("icu") => Form::Icu,
         Some("toml") => Form::Toml,
         Some("json") => Form::Json,
         Some("c") => Form::C(name),
-        Some("rust") => Form::Rust(module_name(name)?),
+        Some("rust") => Form::Rust(name),
         _ => Form::Rows,
-    })
+    }
 }
 
 /// Returns the line about a text in no known form.
@@ -64,9 +64,8 @@ fn toml_line(name: &str, fault: &TomlFault) -> Result<String, AllocError> {
     Ok(line)
 }
 
-/// Returns the fault of a file that has no table.
-fn unread(path: &str, fault: ReadFault) -> Fault {
-    let name = input_name(path);
+/// Returns the fault of a file that has no table. `name` is what it was read from.
+fn unread(name: &str, fault: ReadFault) -> Fault {
     match fault {
         ReadFault::Memory => Fault::Memory,
         ReadFault::Toml(fault) => said(toml_line(name, &fault)),
@@ -95,11 +94,10 @@ fn several_line(name: &str, found: &str) -> Result<String, AllocError> {
     Ok(line)
 }
 
-/// Returns the fault of a file that has no table of the property.
-fn unchosen(path: &str, property: &str, fault: PropertyFault) -> Fault {
-    let name = input_name(path);
+/// Returns the fault of a file that has no table of the property. `name` is what it was read from.
+fn unchosen(name: &str, property: &str, fault: PropertyFault) -> Fault {
     match fault {
-        PropertyFault::Read(fault) => unread(path, fault),
+        PropertyFault::Read(fault) => unread(name, fault),
         PropertyFault::NotToml => about(name, "not TOML, so it has no properties"),
         PropertyFault::Missing(found) => said(missing_line(name, property, &found)),
         PropertyFault::Several(found) => said(several_line(name, &found)),
@@ -108,21 +106,21 @@ fn unchosen(path: &str, property: &str, fault: PropertyFault) -> Fault {
 
 /// Returns the table of a file with these bytes. In TOML it is that of the property that the
 /// arguments name, and in another file that of the trie at the given offset, or the only one.
-/// `path` is what the bytes were read from.
+/// `name` is what the bytes were read from.
 pub fn table_in(
     matches: &ArgMatches,
-    path: &str,
+    name: &str,
     bytes: &[u8],
     offset: Option<u32>,
 ) -> Result<Table, Fault> {
     if bytes.is_empty() {
-        return Err(about(input_name(path), "the file is empty"));
+        return Err(about(name, "the file is empty"));
     }
-    let part = from_trie(input_name(path), bytes, offset)?;
+    let part = from_trie(name, bytes, offset)?;
     let property = matches.get_one::<String>("property").map(String::as_str);
     match read_property(part, property) {
         Ok(table) => Ok(table),
-        Err(fault) => Err(unchosen(path, property.unwrap_or(""), fault)),
+        Err(fault) => Err(unchosen(name, property.unwrap_or(""), fault)),
     }
 }
 
@@ -139,5 +137,5 @@ pub fn table_at(
         .map(String::as_str)
         .unwrap_or("-");
     let bytes = bytes_at(rt, path)?;
-    table_in(matches, path, &bytes, offset)
+    table_in(matches, input_name(path), &bytes, offset)
 }

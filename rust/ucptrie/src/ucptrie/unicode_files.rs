@@ -17,8 +17,8 @@ use crate::ucptab_table::message::line_message;
 use crate::ucptrie::build::{options, unbuilt};
 use crate::ucptrie::fault::{Fault, about, said};
 use crate::ucptrie::overlap::has_overlap;
-use crate::ucptrie::streams::{bytes_at, input_name};
-use crate::ucptrie::tables::form;
+use crate::ucptrie::streams::bytes_at;
+use crate::ucptrie::tables::{form, number};
 use crate::ucptrie_tables::fault::UnicodeFileFault;
 use crate::ucptrie_tables::unicode_file::table_of_file;
 use crate::ucptrie_tables::value_names::names_source;
@@ -48,7 +48,7 @@ pub fn has_columns(matches: &ArgMatches) -> bool {
             .get_one::<String>("aliases")
             .map(String::as_str)
             .is_some()
-        || matches.get_one::<u32>("field").is_some()
+        || number(matches, "field").is_some()
 }
 
 /// Returns the kind of lines that the file's start shows, but no rows if the lines have properties.
@@ -61,7 +61,7 @@ pub fn found_kind(file: &[u8], has_properties: bool) -> FileKind {
 
 /// The properties of `UnicodeData.txt` with one value for each code point: the short and the long
 /// name, and the field.
-const UNICODE_DATA: [(&str, &str, usize); 8] = [
+static UNICODE_DATA: [(&str, &str, usize); 8] = [
     ("na", "Name", 1),
     ("gc", "General_Category", 2),
     ("ccc", "Canonical_Combining_Class", 3),
@@ -72,24 +72,31 @@ const UNICODE_DATA: [(&str, &str, usize); 8] = [
     ("stc", "Simple_Titlecase_Mapping", 14),
 ];
 
+/// Returns whether a property has this short or this long name.
+fn is_named(short: &str, long: &str, property: &[u8]) -> bool {
+    is_same_name(short.as_bytes(), property) || is_same_name(long.as_bytes(), property)
+}
+
 /// Returns the field of a property in `UnicodeData.txt`.
 fn unicode_data_field(property: &str) -> Result<usize, Fault> {
-    for (short, long, field) in UNICODE_DATA {
-        if is_same_name(short.as_bytes(), property.as_bytes())
-            || is_same_name(long.as_bytes(), property.as_bytes())
-        {
-            return Ok(field);
+    for (short, long, field) in UNICODE_DATA.iter() {
+        if is_named(short, long, property.as_bytes()) {
+            return Ok(*field);
         }
     }
     let why = "UnicodeData.txt has no such property; --field names a field by its number";
     Err(about(property, why))
 }
 
-/// Returns whether a file is `CaseFolding.txt`.
-fn is_case_folding(file: &[u8]) -> bool {
+/// Returns whether a file is `CaseFolding.txt`, and no property but the simple case folding is
+/// named.
+fn is_simple_folding(file: &[u8], property: Option<&str>) -> bool {
     match title_of(file) {
-        Some(title) => title.starts_with(b"CaseFolding".as_slice()),
-        None => false,
+        Some(title) if title.starts_with(b"CaseFolding".as_slice()) => match property {
+            Some(property) => is_named("scf", "Simple_Case_Folding", property.as_bytes()),
+            None => true,
+        },
+        _ => false,
     }
 }
 
@@ -101,9 +108,8 @@ pub fn columns<'a>(
     file: &[u8],
 ) -> Result<Columns<'a>, Fault> {
     let is_unicode_data = matches!(kind, FileKind::UnicodeData);
-    let field: Option<u32> = matches.get_one::<u32>("field").copied();
     match (
-        field,
+        number(matches, "field"),
         matches.get_one::<String>("property").map(String::as_str),
     ) {
         (Some(n), _) if is_unicode_data => Ok(Columns::UnicodeData(n as usize)),
@@ -126,9 +132,7 @@ pub fn columns<'a>(
             let why = "the file has many properties: name one by --property or --field";
             Err(about("UnicodeData.txt", why))
         }
-        (None, None | Some("scf" | "Simple_Case_Folding")) if is_case_folding(file) => {
-            Ok(Columns::SimpleFolding)
-        }
+        (None, property) if is_simple_folding(file, property) => Ok(Columns::SimpleFolding),
         (None, None) if has_overlap(file)? => {
             let why = "a code point has two values: choose by --property or by --field";
             Err(about(name, why))
@@ -228,9 +232,8 @@ fn numbering<'n>(
     }
 }
 
-/// Returns the fault of a file that makes no table. `path` is what it was read from.
-pub fn unread(path: &str, file: &[u8], fault: UnicodeFileFault) -> Fault {
-    let name = input_name(path);
+/// Returns the fault of a file that makes no table. `name` is what it was read from.
+pub fn unread(name: &str, file: &[u8], fault: UnicodeFileFault) -> Fault {
     match fault {
         UnicodeFileFault::File(FileFault::Memory) => Fault::Memory,
         UnicodeFileFault::File(FileFault::Unfinished) => about(name, FileFault::Unfinished),
@@ -261,20 +264,19 @@ fn built_of_file(
 }
 
 /// Builds a table of a file of the Unicode Character Database, in the form that the arguments name.
-/// `path` is what it was read from.
+/// `name` is what it was read from.
 pub fn build_file(
     rt: &HostRuntime,
     matches: &ArgMatches,
-    path: &str,
+    name: &str,
     file: &[u8],
     kind: FileKind,
 ) -> Result<Vec<u8>, Fault> {
-    let form = form(matches)?;
-    let columns = columns(matches, kind, input_name(path), file)?;
+    let columns = columns(matches, kind, name, file)?;
     let named = named_file(rt, matches)?;
     let names = names(matches, file, columns, &named)?;
-    match built_of_file(matches, file, columns, &names, form) {
+    match built_of_file(matches, file, columns, &names, form(matches)) {
         Ok(bytes) => Ok(bytes),
-        Err(fault) => Err(unread(path, file, fault)),
+        Err(fault) => Err(unread(name, file, fault)),
     }
 }

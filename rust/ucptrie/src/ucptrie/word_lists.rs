@@ -7,9 +7,7 @@ use crate::support::prelude::*;
 use crate::ucptab_table::input::line_at;
 use crate::ucptab_table::message::{line_message, push_quoted};
 use crate::ucptrie::fault::{Fault, about, said};
-use crate::ucptrie::heading::with_heading;
-use crate::ucptrie::names::{module_name, name_of};
-use crate::ucptrie::streams::{bytes_at, input_name};
+use crate::ucptrie::names::name_in;
 use crate::ucptrie_words::built::{trie_of_units, trie_of_words};
 use crate::ucptrie_words::fault::{RowsFault, UnitsFault, WordsFault};
 use crate::ucptrie_words::written::{Form, written};
@@ -17,19 +15,14 @@ use bekstaudi::char16trie::Char16Trie;
 use clap::ArgMatches;
 
 /// Returns the form that the arguments name.
-fn form(matches: &ArgMatches) -> Result<Form<'_>, Fault> {
-    let name = name_of(
-        matches
-            .get_one::<String>("name")
-            .map(String::as_str)
-            .unwrap_or("words"),
-    )?;
-    Ok(match matches.get_one::<String>("as").map(String::as_str) {
+fn form(matches: &ArgMatches) -> Form<'_> {
+    let name = name_in(matches);
+    match matches.get_one::<String>("as").map(String::as_str) {
         Some("icu") => Form::Icu,
         Some("c") => Form::C(name),
-        Some("rust") => Form::Rust(module_name(name)?),
+        Some("rust") => Form::Rust(name),
         _ => Form::Rows,
-    })
+    }
 }
 
 /// Returns the fault of a word list that makes no trie. `name` is what it was read from.
@@ -67,27 +60,17 @@ fn key_line(name: &str, key: &str) -> Result<String, AllocError> {
     Ok(line)
 }
 
-/// Returns the trie of a file, or of standard input, in the form that the arguments name. `words`
-/// are the command.
-pub fn word_list(
-    rt: &HostRuntime,
-    words: &[String],
-    matches: &ArgMatches,
-) -> Result<Vec<u8>, Fault> {
-    let form = form(matches)?;
-    let path = matches
-        .get_one::<String>("file")
-        .map(String::as_str)
-        .unwrap_or("-");
-    let name = input_name(path);
-    let file = bytes_at(rt, path)?;
-    let trie = trie(matches, name, &file)?;
+/// Returns the trie of a file in the form that the arguments name. `name` is what the file was read
+/// from.
+pub fn word_list(matches: &ArgMatches, name: &str, file: &[u8]) -> Result<Vec<u8>, Fault> {
+    let form = form(matches);
+    let trie = trie(matches, name, file)?;
     if trie.data.is_empty() && !matches!(form, Form::Rows) {
         let why = "no words, and no units: UCharsTrie needs one word at least";
         return Err(about(name, why));
     }
     match written(&trie, form) {
-        Ok(bytes) => Ok(with_heading(matches, words, path, &file, bytes)?),
+        Ok(bytes) => Ok(bytes),
         Err(RowsFault::Memory) => Err(Fault::Memory),
         Err(RowsFault::Key(key)) => Err(said(key_line(name, &key))),
     }

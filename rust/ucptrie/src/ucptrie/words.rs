@@ -339,7 +339,7 @@ const SET: [Argument; 11] = [
 ];
 
 /// The commands: the name, the description and the arguments of each.
-const COMMANDS: [(&str, &str, &[Argument]); 8] = [
+static COMMANDS: [(&str, &str, &[Argument]); 8] = [
     (
         "build",
         "Builds a table from rows or from a file of the Unicode Character Database",
@@ -429,7 +429,7 @@ pub fn program_words() -> Result<Command, AllocError> {
     let about = "Makes code point tries from rows, and reads them";
     let named = command_of("ucptrie", about, &[])?.version(VERSION);
     let mut program = named.subcommand_required(true);
-    for (name, about, arguments) in COMMANDS {
+    for (name, about, arguments) in COMMANDS.iter() {
         program = program.subcommand(command_of(name, about, arguments)?);
     }
     Ok(program)
