@@ -1,6 +1,7 @@
 //! A set as source in C.
-use crate::source::{push_boundaries, push_packed_indices, push_title, push_words};
-use icu_frozen_sets::frozen::FrozenCodePointSet;
+use crate::source::{
+    frozen_with_title, push_boundaries, push_packed_indices, push_words, title_of,
+};
 use icu_invlist::codepointinvlist::CodePointInversionList;
 use std::alloc::{AllocError, Global};
 use ucptrie_tables::pattern::push_named;
@@ -43,8 +44,7 @@ pub(crate) fn c_text(
     set: &CodePointInversionList<'_>,
     name: &str,
 ) -> Result<String, AllocError> {
-    let mut text = String::new(alloc);
-    push_title(&mut text, set)?;
+    let mut text = title_of(alloc, set)?;
     text.push_str(HEADERS)?;
     text.push_str(BOUNDARIES)?;
     let length = set.as_inversion_list().len();
@@ -88,12 +88,8 @@ pub(crate) fn frozen_c_text(
     set: &CodePointInversionList<'_>,
     name: &str,
 ) -> Result<String, AllocError> {
-    let Ok(frozen) = FrozenCodePointSet::freeze(alloc, set) else {
-        return Err(AllocError);
-    };
+    let (frozen, mut text) = frozen_with_title(alloc, set)?;
     let tables = frozen.tables();
-    let mut text = String::new(alloc);
-    push_title(&mut text, set)?;
     text.push_str(WORDS)?;
     text.push_str(HEADERS)?;
     let words = 1088 + tables.words.len();

@@ -1,6 +1,5 @@
 //! A set as source in Rust.
-use crate::source::{push_boundaries, push_indices, push_title, push_words};
-use icu_frozen_sets::frozen::FrozenCodePointSet;
+use crate::source::{frozen_with_title, push_boundaries, push_indices, push_words, title_of};
 use icu_invlist::codepointinvlist::CodePointInversionList;
 use std::alloc::{AllocError, Global};
 
@@ -27,8 +26,7 @@ pub(crate) fn rust_text(
     set: &CodePointInversionList<'_>,
     name: &str,
 ) -> Result<String, AllocError> {
-    let mut text = String::new(alloc);
-    push_title(&mut text, set)?;
+    let mut text = title_of(alloc, set)?;
     writeln!(text, "#[allow(dead_code)]\npub mod {name} {{")?;
     text.push_str(BOUNDARIES)?;
     let length = set.as_inversion_list().len();
@@ -66,12 +64,8 @@ pub(crate) fn frozen_rust_text(
     set: &CodePointInversionList<'_>,
     name: &str,
 ) -> Result<String, AllocError> {
-    let Ok(frozen) = FrozenCodePointSet::freeze(alloc, set) else {
-        return Err(AllocError);
-    };
+    let (frozen, mut text) = frozen_with_title(alloc, set)?;
     let tables = frozen.tables();
-    let mut text = String::new(alloc);
-    push_title(&mut text, set)?;
     writeln!(text, "#[allow(dead_code)]\npub mod {name} {{")?;
     text.push_str(INDEX)?;
     push_indices(&mut text, tables.index)?;

@@ -1,20 +1,34 @@
 //! What the sources in C and in Rust have in common.
+use icu_frozen_sets::frozen::FrozenCodePointSet;
 use icu_invlist::codepointinvlist::CodePointInversionList;
-use std::alloc::AllocError;
+use std::alloc::{AllocError, Global};
 
 /// How many cells a line has.
 const CELLS_IN_LINE: usize = 8;
 
-/// Appends a comment with the number of ranges.
-pub(crate) fn push_title(
-    text: &mut String,
+/// Returns the first line of source, a comment with the number of ranges.
+pub(crate) fn title_of(
+    alloc: Global,
     set: &CodePointInversionList<'_>,
-) -> Result<(), AllocError> {
+) -> Result<String, AllocError> {
     let (size, ranges) = (set.size(), set.get_range_count());
+    let mut text = String::new(alloc);
     writeln!(
         text,
         "// Made by ucptrie: a set of {size} code points in {ranges} ranges."
-    )
+    )?;
+    Ok(text)
+}
+
+/// Freezes the set, and returns it with the first line of its source.
+pub(crate) fn frozen_with_title(
+    alloc: Global,
+    set: &CodePointInversionList<'_>,
+) -> Result<(FrozenCodePointSet, String), AllocError> {
+    let Ok(frozen) = FrozenCodePointSet::freeze(alloc, set) else {
+        return Err(AllocError);
+    };
+    Ok((frozen, title_of(alloc, set)?))
 }
 
 /// Appends a cell of an array: eight to a line, with commas between them. `i` is its index.

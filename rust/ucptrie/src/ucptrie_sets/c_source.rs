@@ -4,10 +4,11 @@ use crate::host::{HostRuntime, Text};
 use crate::support::AllocError;
 #[allow(unused_imports)]
 use crate::support::prelude::*;
-use crate::ucptrie_sets::source::{push_boundaries, push_packed_indices, push_title, push_words};
+use crate::ucptrie_sets::source::{
+    frozen_with_title, push_boundaries, push_packed_indices, push_words, title_of,
+};
 use crate::ucptrie_tables::pattern::push_named;
 use bekstaudi::codepointinvlist::CodePointInversionList;
-use bekstaudi::codepointinvlist::FrozenCodePointSet;
 
 /// The headers.
 const HEADERS: &str = "
@@ -43,8 +44,7 @@ static inline bool @_contains(uint32_t c) {
 /// Returns the set in C: an array with the boundaries, and a search in it. An array in C is not
 /// empty, so that of the empty set has a cell that is not read.
 pub(crate) fn c_text(set: &CodePointInversionList<'_>, name: &str) -> Result<String, AllocError> {
-    let mut text = String::new();
-    push_title(&mut text, set)?;
+    let mut text = title_of(set)?;
     text.try_push_str(HEADERS)?;
     text.try_push_str(BOUNDARIES)?;
     let length = set.as_inversion_list().len();
@@ -87,12 +87,8 @@ pub(crate) fn frozen_c_text(
     set: &CodePointInversionList<'_>,
     name: &str,
 ) -> Result<String, AllocError> {
-    let Ok(frozen) = FrozenCodePointSet::try_freeze(set) else {
-        return Err(AllocError);
-    };
+    let (frozen, mut text) = frozen_with_title(set)?;
     let tables = frozen.tables();
-    let mut text = String::new();
-    push_title(&mut text, set)?;
     text.try_push_str(WORDS)?;
     text.try_push_str(HEADERS)?;
     let words = 1088 + tables.words.len();

@@ -4,9 +4,10 @@ use crate::host::{HostRuntime, Text};
 use crate::support::AllocError;
 #[allow(unused_imports)]
 use crate::support::prelude::*;
-use crate::ucptrie_sets::source::{push_boundaries, push_indices, push_title, push_words};
+use crate::ucptrie_sets::source::{
+    frozen_with_title, push_boundaries, push_indices, push_words, title_of,
+};
 use bekstaudi::codepointinvlist::CodePointInversionList;
-use bekstaudi::codepointinvlist::FrozenCodePointSet;
 
 /// The search in the boundaries.
 const SEARCH: &str = "
@@ -30,8 +31,7 @@ pub(crate) fn rust_text(
     set: &CodePointInversionList<'_>,
     name: &str,
 ) -> Result<String, AllocError> {
-    let mut text = String::new();
-    push_title(&mut text, set)?;
+    let mut text = title_of(set)?;
     writeln!(text, "#[allow(dead_code)]\npub mod {name} {{")?;
     text.try_push_str(BOUNDARIES)?;
     let length = set.as_inversion_list().len();
@@ -68,12 +68,8 @@ pub(crate) fn frozen_rust_text(
     set: &CodePointInversionList<'_>,
     name: &str,
 ) -> Result<String, AllocError> {
-    let Ok(frozen) = FrozenCodePointSet::try_freeze(set) else {
-        return Err(AllocError);
-    };
+    let (frozen, mut text) = frozen_with_title(set)?;
     let tables = frozen.tables();
-    let mut text = String::new();
-    push_title(&mut text, set)?;
     writeln!(text, "#[allow(dead_code)]\npub mod {name} {{")?;
     text.try_push_str(INDEX)?;
     push_indices(&mut text, tables.index)?;

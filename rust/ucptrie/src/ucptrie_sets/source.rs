@@ -5,20 +5,30 @@ use crate::support::AllocError;
 #[allow(unused_imports)]
 use crate::support::prelude::*;
 use bekstaudi::codepointinvlist::CodePointInversionList;
+use bekstaudi::codepointinvlist::FrozenCodePointSet;
 
 /// How many cells a line has.
 const CELLS_IN_LINE: usize = 8;
 
-/// Appends a comment with the number of ranges.
-pub(crate) fn push_title(
-    text: &mut String,
-    set: &CodePointInversionList<'_>,
-) -> Result<(), AllocError> {
+/// Returns the first line of source, a comment with the number of ranges.
+pub(crate) fn title_of(set: &CodePointInversionList<'_>) -> Result<String, AllocError> {
     let (size, ranges) = (set.size(), set.get_range_count());
+    let mut text = String::new();
     writeln!(
         text,
         "// Made by ucptrie: a set of {size} code points in {ranges} ranges."
-    )
+    )?;
+    Ok(text)
+}
+
+/// Freezes the set, and returns it with the first line of its source.
+pub(crate) fn frozen_with_title(
+    set: &CodePointInversionList<'_>,
+) -> Result<(FrozenCodePointSet, String), AllocError> {
+    let Ok(frozen) = FrozenCodePointSet::try_freeze(set) else {
+        return Err(AllocError);
+    };
+    Ok((frozen, title_of(set)?))
 }
 
 /// Appends a cell of an array: eight to a line, with commas between them. `i` is its index.
