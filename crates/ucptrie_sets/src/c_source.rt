@@ -2,6 +2,7 @@
 use crate::source::{
     frozen_with_title, push_boundaries, push_packed_indices, push_words, title_of,
 };
+use icu_frozen_sets::frozen::FrozenTables;
 use icu_invlist::codepointinvlist::CodePointInversionList;
 use std::alloc::{AllocError, Global};
 use ucptrie_tables::pattern::push_named;
@@ -82,14 +83,8 @@ static inline bool @_contains(uint32_t c) {
 }
 ";
 
-/// Returns the frozen set in C: an array with its words, and a look-up in it.
-pub(crate) fn frozen_c_text(
-    alloc: Global,
-    set: &CodePointInversionList<'_>,
-    name: &str,
-) -> Result<String, AllocError> {
-    let (frozen, mut text) = frozen_with_title(alloc, set)?;
-    let tables = frozen.tables();
+/// Appends an array with the words of a frozen set, and a look-up in it.
+fn push_frozen(text: &mut String, tables: FrozenTables<'_>, name: &str) -> Result<(), AllocError> {
     text.push_str(WORDS)?;
     text.push_str(HEADERS)?;
     let words = 1088 + tables.words.len();
@@ -98,9 +93,19 @@ pub(crate) fn frozen_c_text(
         text,
         "static const uint64_t {name}_words[{name}_length] = {{"
     )?;
-    push_packed_indices(&mut text, tables.index)?;
+    push_packed_indices(text, tables.index)?;
     text.push_str(",\n")?;
-    push_words(&mut text, tables.words)?;
-    push_named(&mut text, LOOK_UP, name)?;
+    push_words(text, tables.words)?;
+    push_named(text, LOOK_UP, name)
+}
+
+/// Returns the frozen set in C: an array with its words, and a look-up in it.
+pub(crate) fn frozen_c_text(
+    alloc: Global,
+    set: &CodePointInversionList<'_>,
+    name: &str,
+) -> Result<String, AllocError> {
+    let (frozen, mut text) = frozen_with_title(alloc, set)?;
+    push_frozen(&mut text, frozen.tables(), name)?;
     Ok(text)
 }

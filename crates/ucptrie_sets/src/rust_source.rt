@@ -1,5 +1,6 @@
 //! A set as source in Rust.
 use crate::source::{frozen_with_title, push_boundaries, push_indices, push_words, title_of};
+use icu_frozen_sets::frozen::FrozenTables;
 use icu_invlist::codepointinvlist::CodePointInversionList;
 use std::alloc::{AllocError, Global};
 
@@ -58,6 +59,21 @@ const INDEX: &str = "    \
     pub static INDEX: [u16; 4352] = [
 ";
 
+/// Appends a module with the tables of a frozen set, and a look-up in them.
+fn push_frozen(text: &mut String, tables: FrozenTables<'_>, name: &str) -> Result<(), AllocError> {
+    writeln!(text, "#[allow(dead_code)]\npub mod {name} {{")?;
+    text.push_str(INDEX)?;
+    push_indices(text, tables.index)?;
+    text.push_str("\n    ];\n\n    /// A bit for each code point of a block, 64 in each word.\n")?;
+    let length = tables.words.len();
+    writeln!(
+        text,
+        "    #[rustfmt::skip]\n    pub static WORDS: [u64; {length}] = ["
+    )?;
+    push_words(text, tables.words)?;
+    text.push_str(LOOK_UP)
+}
+
 /// Returns the frozen set in Rust: a module with its tables, and a look-up in them.
 pub(crate) fn frozen_rust_text(
     alloc: Global,
@@ -65,17 +81,6 @@ pub(crate) fn frozen_rust_text(
     name: &str,
 ) -> Result<String, AllocError> {
     let (frozen, mut text) = frozen_with_title(alloc, set)?;
-    let tables = frozen.tables();
-    writeln!(text, "#[allow(dead_code)]\npub mod {name} {{")?;
-    text.push_str(INDEX)?;
-    push_indices(&mut text, tables.index)?;
-    text.push_str("\n    ];\n\n    /// A bit for each code point of a block, 64 in each word.\n")?;
-    let length = tables.words.len();
-    writeln!(
-        text,
-        "    #[rustfmt::skip]\n    pub static WORDS: [u64; {length}] = ["
-    )?;
-    push_words(&mut text, tables.words)?;
-    text.push_str(LOOK_UP)?;
+    push_frozen(&mut text, frozen.tables(), name)?;
     Ok(text)
 }

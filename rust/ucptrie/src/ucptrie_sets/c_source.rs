@@ -9,6 +9,7 @@ use crate::ucptrie_sets::source::{
 };
 use crate::ucptrie_tables::pattern::push_named;
 use bekstaudi::codepointinvlist::CodePointInversionList;
+use bekstaudi::codepointinvlist::FrozenTables;
 
 /// The headers.
 const HEADERS: &str = "
@@ -82,13 +83,8 @@ static inline bool @_contains(uint32_t c) {
 }
 ";
 
-/// Returns the frozen set in C: an array with its words, and a look-up in it.
-pub(crate) fn frozen_c_text(
-    set: &CodePointInversionList<'_>,
-    name: &str,
-) -> Result<String, AllocError> {
-    let (frozen, mut text) = frozen_with_title(set)?;
-    let tables = frozen.tables();
+/// Appends an array with the words of a frozen set, and a look-up in it.
+fn push_frozen(text: &mut String, tables: FrozenTables<'_>, name: &str) -> Result<(), AllocError> {
     text.try_push_str(WORDS)?;
     text.try_push_str(HEADERS)?;
     let words = 1088 + tables.words.len();
@@ -97,9 +93,18 @@ pub(crate) fn frozen_c_text(
         text,
         "static const uint64_t {name}_words[{name}_length] = {{"
     )?;
-    push_packed_indices(&mut text, tables.index)?;
+    push_packed_indices(text, tables.index)?;
     text.try_push_str(",\n")?;
-    push_words(&mut text, tables.words)?;
-    push_named(&mut text, LOOK_UP, name)?;
+    push_words(text, tables.words)?;
+    push_named(text, LOOK_UP, name)
+}
+
+/// Returns the frozen set in C: an array with its words, and a look-up in it.
+pub(crate) fn frozen_c_text(
+    set: &CodePointInversionList<'_>,
+    name: &str,
+) -> Result<String, AllocError> {
+    let (frozen, mut text) = frozen_with_title(set)?;
+    push_frozen(&mut text, frozen.tables(), name)?;
     Ok(text)
 }

@@ -8,6 +8,7 @@ use crate::ucptrie_sets::source::{
     frozen_with_title, push_boundaries, push_indices, push_words, title_of,
 };
 use bekstaudi::codepointinvlist::CodePointInversionList;
+use bekstaudi::codepointinvlist::FrozenTables;
 
 /// The search in the boundaries.
 const SEARCH: &str = "
@@ -63,16 +64,11 @@ const INDEX: &str = "    \
     pub static INDEX: [u16; 4352] = [
 ";
 
-/// Returns the frozen set in Rust: a module with its tables, and a look-up in them.
-pub(crate) fn frozen_rust_text(
-    set: &CodePointInversionList<'_>,
-    name: &str,
-) -> Result<String, AllocError> {
-    let (frozen, mut text) = frozen_with_title(set)?;
-    let tables = frozen.tables();
+/// Appends a module with the tables of a frozen set, and a look-up in them.
+fn push_frozen(text: &mut String, tables: FrozenTables<'_>, name: &str) -> Result<(), AllocError> {
     writeln!(text, "#[allow(dead_code)]\npub mod {name} {{")?;
     text.try_push_str(INDEX)?;
-    push_indices(&mut text, tables.index)?;
+    push_indices(text, tables.index)?;
     text.try_push_str(
         "\n    ];\n\n    /// A bit for each code point of a block, 64 in each word.\n",
     )?;
@@ -81,7 +77,16 @@ pub(crate) fn frozen_rust_text(
         text,
         "    #[rustfmt::skip]\n    pub static WORDS: [u64; {length}] = ["
     )?;
-    push_words(&mut text, tables.words)?;
-    text.try_push_str(LOOK_UP)?;
+    push_words(text, tables.words)?;
+    text.try_push_str(LOOK_UP)
+}
+
+/// Returns the frozen set in Rust: a module with its tables, and a look-up in them.
+pub(crate) fn frozen_rust_text(
+    set: &CodePointInversionList<'_>,
+    name: &str,
+) -> Result<String, AllocError> {
+    let (frozen, mut text) = frozen_with_title(set)?;
+    push_frozen(&mut text, frozen.tables(), name)?;
     Ok(text)
 }
