@@ -1,6 +1,6 @@
 //! Functions that allocate nothing: reads of a trie's ranges and of typed tries, and conversions.
-//! The script `tests/refused_memory` checks that a test whose name ends in `_quiet` allocates nothing
-//! between the lines `call` and `done`.
+//! The script `tests/refused_memory` checks that a test whose name ends in `_quiet` allocates
+//! nothing between the lines `call` and `done`.
 use super::{ONES, ZEROS, data, expect_same, say, small_header, trie_of};
 use icu_trie::cptrie::CodePointTrie;
 use icu_trie::iterator_utils::RangeListIteratorCoalescer;

@@ -25,7 +25,8 @@ struct CountedParts<'a, T: TrieValue, L: Ledger> {
 }
 
 impl<'a, T: TrieValue, L: Ledger> Cells<T> for CountedParts<'a, T, L> {
-    ghost contents = { λ cells. contents_of (slice_values cells.index) (slice_values cells.values) };
+    ghost contents = { λ cells.
+        contents_of (slice_values cells.index) (slice_values cells.values) };
 
     ghost reads = { λ cells. cells.reads };
 

@@ -65,8 +65,8 @@ fn is_set(strings: Vec<String>) -> bool {
     CodePointInversionListAndStringList::try_from(all(), strings).is_ok()
 }
 
-/// Strings, and whether they can be in the list of a set: one of a single character belongs among the
-/// code points.
+/// Strings, and whether they can be in the list of a set: one of a single character belongs among
+/// the code points.
 static STRINGS: [(&str, bool); 2] = [("abc", true), ("a", false)];
 
 /// Calls: `CodePointInversionListAndStringList::try_from`.
