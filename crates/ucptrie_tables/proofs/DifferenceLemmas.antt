@@ -43,3 +43,15 @@ module _ (a b : Parts ℕ) where
         record { run = run; different = other },
         rw last rest,
       )
+
+  -- From `stored` on, all have the values of the last code point.
+  module _ (stored x y : ℕ) (high : (u : ℕ) → stored ≤ u → u < 0x110000 → both_values a b u ≡ both_values a b 0x10FFFF) where
+    pub both_values-high : (c : ℕ) → stored ≤ c → both_values a b c ≡ (Some x, Some y)
+        → (u : ℕ) → c ≤ u → u < 0x110000 → both_values a b u ≡ (Some x, Some y)
+    both_values-high c from is u after below =
+        high u (omega (arith, from, after)) below ∙ (sym (high c from (omega (arith, after, below))) ∙ is)
+
+    pub both_values-stored : (c : ℕ) → ((u : ℕ) → c ≤ u → u < stored → both_values a b u ≡ (Some x, Some y))
+        → both_values a b 0x10FFFF ≡ (Some x, Some y) → (u : ℕ) → c ≤ u → u < 0x110000 → both_values a b u ≡ (Some x, Some y)
+    both_values-stored c held last u after below =
+        elim (cases_lt u stored) [ inl before ↦ held u after before | inr from ↦ high u from below ∙ last ]

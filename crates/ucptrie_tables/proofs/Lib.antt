@@ -5,6 +5,8 @@ mod Printed
 mod SameNumbers
 mod RebuildLemmas
 mod ShownLemmas
+mod SizeLemmas
+mod SourceLemmas
 mod TableLemmas
 mod TomlLemmas
 mod WidthLemmas

@@ -4,7 +4,8 @@ use Rattle.std.specs.List.{flat_map}
 use Rattle.std.proofs.lemmas.Grind.{common_steps, flat_map-append}
 use Rattle.std.proofs.lemmas.List.Elements.{All-append}
 use Rattle.std.proofs.lemmas.List.{append-nil, get_or_default}
-use Rattle.ucptrie_tables.specs.Shown.{AddsComments, comment_line}
+use Rattle.ucptab_table.specs.TableText.{answers_text}
+use Rattle.ucptrie_tables.specs.Shown.{AddsComments, AreComments, IsExplained, comment_line}
 
 -- each byte of a text without a line feed
 pub one_line-parts : (xs : List ℕ) → ((i : ℕ) → i < length xs → get_or xs i 0 ≢ 10) → All (λ b. b ≢ 10) xs
@@ -35,3 +36,19 @@ AddsComments-more old text new comment (bytes, (are, is)) one grown = (
 pub AddsComments-none : (old : List ℕ) → AddsComments old old
 AddsComments-none old =
     ([], (record { comments = []; one_line = λ k d below. absurd (omega (arith, below)); lines = refl }, sym (append-nil old)))
+
+-- one more number is explained
+pub IsExplained-more : (given : ℕ → ℕ) (asked : List ℕ) (n : ℕ) (text bytes new : List ℕ) → IsExplained given asked text → AreComments bytes
+    → new ≡ text ++ (bytes ++ answers_text given (n ∷ [])) → IsExplained given (asked ++ n ∷ []) new
+IsExplained-more given [] n text bytes new none are is =
+    let line = answers_text given (n ∷ []) in
+    (bytes, [], are, is ∙ (ap (λ t. t ++ (bytes ++ line)) none ∙ ap (λ t. bytes ++ t) (sym (append-nil line))), refl)
+IsExplained-more given (m ∷ asked) n text bytes new h are is =
+    let more = bytes ++ answers_text given (n ∷ []) in
+    let line = answers_text given (m ∷ []) in (
+      h.0,
+      h.1 ++ more,
+      h.2,
+      is ∙ (ap (λ t. t ++ more) h.3 ∙ (append_assoc h.0 (line ++ h.1) more ∙ ap (λ t. h.0 ++ t) (append_assoc line h.1 more))),
+      IsExplained-more given asked n h.1 bytes (h.1 ++ more) h.4 are refl,
+    )

@@ -1,6 +1,8 @@
 -- The table of rows, from that of their writes.
-use Rattle.std.proofs.Common.{ℕ, List, Result, Ok, Err}
-use Rattle.std.specs.Prelude.{IfErr}
+use Rattle.std.proofs.Common.{◌≡◌, ◌⊎◌, ℕ, List, Result, Ok, Err, inl, inr}
+use Rattle.std.specs.Prelude.{IfErr, IsErrAnd}
+use Rattle.icu_trie_compaction.specs.declared.error.BuildError.{BuildError}
+use Rattle.icu_trie_compaction.specs.declared.error.BuildError.TheVariants.{TooLarge as BuildTooLarge}
 use Rattle.icu_trie_builder.specs.declared.writes.Write.{Write}
 use Rattle.ucptab_table.specs.TableText.{AreRows}
 use Rattle.ucptab_table.specs.declared.fault.TableError.TheVariants.{Row, TooLarge, Memory, Read, Write as WriteFault}
@@ -10,9 +12,12 @@ use Rattle.ucptrie_tables.specs.declared.fault.BuildFault.TheVariants.{Table as 
 use Rattle.ucptrie_tables.specs.declared.table.Table.{Table}
 use Rattle.ucptrie_tables.specs.declared.table.TableOptions.{TableOptions}
 
-pub IfErr-weaker : {V E : Type 0} (r : Result V E) (P Q : E → Type 0) → ((e : E) → P e → Q e) → IfErr r P → IfErr r Q
-IfErr-weaker (Ok v) P Q weaker h = tt
-IfErr-weaker (Err e) P Q weaker h = weaker e h
+-- why an error of the builder is passed on
+pub built-why : {V : Type 0} (P : BuildFault → Type 0) (x : BuildError) (r : Result V BuildFault)
+    → IsErrAnd r (λ e. (e ≡ TableFault TooLarge → x ≡ BuildTooLarge) × ((e ≡ TableFault TooLarge) ⊎ (e ≡ TableFault Memory)))
+    → (x ≡ BuildTooLarge → P (TableFault TooLarge)) → P (TableFault Memory) → IfErr r P
+built-why P x (Ok v) h large memory = tt
+built-why P x (Err e) h large memory = elim h.1 [ inl is ↦ rw is (large (h.0 is)) | inr is ↦ rw is memory ]
 
 module _ (input : List ℕ) (writes : List (Write ℕ)) (rows : AreRows input writes) (options : TableOptions) where
   pub table_of_rows : (t : Table) → IsTableOfWrites writes options t → IsTableOf input options t

@@ -3,9 +3,11 @@ pub mod Comparison
 pub mod Differences
 pub mod Files
 pub mod Inside
+pub mod Properties
 pub mod Rebuilt
 pub mod UnicodeFiles
 pub mod Shown
+pub mod Source
 pub mod Tables
 pub mod TomlFiles
 pub mod ValueWidth

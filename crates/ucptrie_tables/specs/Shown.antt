@@ -2,7 +2,7 @@
 use Rattle.std.specs.Prelude.{◌≡◌, ◌≢◌, ℕ, List, [], ◌∷◌, ◌++◌, All}
 use Rattle.std.specs.List.{flat_map}
 use Rattle.icu_trie_core.specs.Runs.{Run, AreMaximalRuns}
-use Rattle.ucptab_table.specs.TableText.{runs_text}
+use Rattle.ucptab_table.specs.TableText.{answers_text, runs_text}
 
 -- The line of a comment: `#`, the comment, and LF.
 abbrev pub comment_line : List ℕ → List ℕ
@@ -26,3 +26,11 @@ pub record IsShown (value : ℕ → ℕ) (text : List ℕ) : Type 0 where
   pub runs : List (Run ℕ)
   pub all_runs : AreMaximalRuns value runs
   pub lines : text ≡ comments ++ runs_text runs
+
+-- The text explains numbers: for each of them, in order, comments and then its line with the given
+-- value.
+abbrev pub IsExplained : (ℕ → ℕ) → List ℕ → List ℕ → Type 0
+IsExplained given [] text = text ≡ []
+IsExplained given (n ∷ asked) text = (comments : List ℕ) × (rest : List ℕ)
+    × AreComments comments × (text ≡ comments ++ (answers_text given (n ∷ []) ++ rest))
+    × IsExplained given asked rest

@@ -16,6 +16,12 @@ bits_of Bits8 = 8
 bits_of Bits16 = 16
 bits_of Bits32 = 32
 
+-- ICU's number of a width (UCPTRIE_VALUE_BITS_16, _32 and _8).
+abbrev pub code_of : ValueWidth → ℕ
+code_of Bits8 = 2
+code_of Bits16 = 0
+code_of Bits32 = 1
+
 -- The first of the values that has more bits than the width, if one has.
 abbrev pub first_wider : ValueWidth → List ℕ → Option ℕ
 first_wider w values = find (λ v. not (nat_lt v (2 ^ bits_of w))) values

@@ -12,7 +12,7 @@ pub struct Difference {
 }
 
 /// Counts the line feeds.
-fn line_feeds(bytes: &[u8]) -> usize
+pub(crate) fn line_feeds(bytes: &[u8]) -> usize
     ensures { result ≡ line_feeds bytes.now }
 {
     bytes.iter().filter(|byte| **byte == b'\n').count()

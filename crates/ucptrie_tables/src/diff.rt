@@ -3,6 +3,7 @@ ghost use Rattle.std.specs.Prelude.{◌≡◌, ◌≢◌, ℕ, ◌<◌, ◌≤�
 ghost use Rattle.ucptab_table.specs.TableText.{hex_text};
 ghost use Rattle.ucptrie_tables.specs.Differences.{both_values, difference_line, error_line, values_text, AreDifferencesFrom, IsDifferenceText};
 
+use crate::sizes::stored_values;
 use icu_trie::cptrie::CodePointTrie;
 use icu_trie_core::range::CodePointMapRange;
 use icu_zerovec::CODE_POINT_LIMIT;
@@ -16,13 +17,27 @@ fn values_at(first: &CodePointTrie<'_, u32>, second: &CodePointTrie<'_, u32>, c:
     (first.get32(c), second.get32(c))
 }
 
-/// Returns the exclusive end of the code points from `c` on that have these two values.
+/// Returns the number of code points before those at which both tries have their high value.
+fn stored_in_both(first: &CodePointTrie<'_, u32>, second: &CodePointTrie<'_, u32>) -> u32
+    ensures within { result ≤ 0x110000 }
+    ensures high { (u : ℕ) → result ≤ u → u < 0x110000
+        → both_values first.now second.now u ≡ both_values first.now second.now 0x10FFFF }
+{
+    stored_values(first).max(stored_values(second))
+}
+
+/// Returns the exclusive end of the code points from `c` on that have these two values. From
+/// `stored` on, each code point has the two values of the last one.
 fn end_of_values(
     first: &CodePointTrie<'_, u32>,
     second: &CodePointTrie<'_, u32>,
+    stored: u32,
     c: u32,
     values: (u32, u32),
 ) -> u32
+    requires stored { stored ≤ 0x110000 }
+    requires high { (u : ℕ) → stored ≤ u → u < 0x110000
+        → both_values first.now second.now u ≡ both_values first.now second.now 0x10FFFF }
     requires within { c < 0x110000 }
     requires values { both_values first.now second.now c ≡ (Some values.0, Some values.1) }
     ensures after { c < result }
@@ -32,12 +47,19 @@ fn end_of_values(
     ensures ends { result < 0x110000
         → both_values first.now second.now result ≢ (Some values.0, Some values.1) }
 {
-    for next in c + 1..CODE_POINT_LIMIT {
+    if stored <= c {
+        return CODE_POINT_LIMIT;
+    }
+    for next in c + 1..stored {
         if values_at(first, second, next) != values {
             return next;
         }
     }
-    CODE_POINT_LIMIT
+    if values_at(first, second, CODE_POINT_LIMIT - 1) == values {
+        CODE_POINT_LIMIT
+    } else {
+        stored
+    }
 }
 
 /// Returns the ranges of code points whose values differ in two tries, in ascending order.
@@ -53,11 +75,12 @@ pub fn differences(
 ) -> Result<Vec<CodePointMapRange<(u32, u32)>>, AllocError>
     ensures { IfOk result (λ found. AreDifferencesFrom first.now second.now 0 found.items) }
 {
+    let stored = stored_in_both(first, second);
     let mut found = Vec::new(alloc);
     let mut start = 0;
     while start < CODE_POINT_LIMIT {
         let values = values_at(first, second, start);
-        let end = end_of_values(first, second, start, values);
+        let end = end_of_values(first, second, stored, start, values);
         if values.0 != values.1 {
             found.push(CodePointMapRange {
                 range: start..=end - 1,

@@ -1,8 +1,11 @@
 //! How a look-up goes, cell by cell.
+ghost use Rattle.std.specs.Prelude.{◌≡◌, ◌^◌, ◌<◌, ℕ, Some, IfOk, string_bytes};
+ghost use Rattle.icu_trie.specs.Parts.{trie_value};
+ghost use Rattle.ucptrie_tables.specs.Shown.{AddsComments, IsExplained};
 
 use crate::pattern::Number::Decimal;
 use crate::pattern::push_pattern;
-use crate::shown::answered;
+use crate::shown::{answered, push_comments};
 use crate::source::{index1_offset, type_name};
 use crate::table::Table;
 use icu_trie::header::TrieType;
@@ -17,7 +20,7 @@ fn push_cell(
     value: Option<u32>,
     what: &str,
 ) -> Result<(), AllocError> {
-    push_pattern(text, "# @[%]", array, &[Decimal(index)])?;
+    push_pattern(text, "@[%]", array, &[Decimal(index)])?;
     match value {
         Some(value) => push_pattern(text, " = %: ", "", &[Decimal(value as usize)])?,
         None => text.push_str(" is missing: ")?,
@@ -107,15 +110,24 @@ fn push_reads(text: &mut String, table: &Table, c: u32) -> Result<(), AllocError
 }
 
 /// Appends the lines about the look-up of a number.
-fn push_look_up(text: &mut String, table: &Table, c: u32) -> Result<(), AllocError> {
+fn push_lines(text: &mut String, table: &Table, c: u32) -> Result<(), AllocError> {
     let (header, _, _) = table.trie.parts();
     let (kind, limit) = (type_name(header.trie_type), header.trie_type.fast_limit());
     let high_start = header.high_start;
     write!(
         text,
-        "# {c:04X} in a {kind} trie: fast below {limit:X}, high from {high_start:X} on\n"
+        "{c:04X} in a {kind} trie: fast below {limit:X}, high from {high_start:X} on\n"
     )?;
     push_reads(text, table, c)
+}
+
+/// Appends the lines about the look-up of a number, as comments.
+fn push_look_up(alloc: Global, text: &mut String, table: &Table, c: u32) -> Result<(), AllocError>
+    ensures { IfOk result (λ _. AddsComments (string_bytes text.old) (string_bytes text.new)) }
+{
+    let mut lines = String::new(alloc);
+    push_lines(&mut lines, table, c)?;
+    push_comments(text, &lines)
 }
 
 /// Returns how the look-up of each asked number goes, as comments, each before the line that
@@ -123,10 +135,14 @@ fn push_look_up(text: &mut String, table: &Table, c: u32) -> Result<(), AllocErr
 ///
 /// # Errors
 /// Returns [`AllocError`] if an allocation fails.
-pub fn explained(alloc: Global, table: &Table, asked: &[u32]) -> Result<String, AllocError> {
+pub fn explained(alloc: Global, table: &Table, asked: &[u32]) -> Result<String, AllocError>
+    ensures { (given : ℕ → ℕ)
+        → ((n : ℕ) → n < 2 ^ 32 → trie_value table.now.trie n ≡ Some (given n))
+        → IfOk result (λ text. IsExplained given asked.now (string_bytes text)) }
+{
     let mut text = String::new(alloc);
     for c in asked {
-        push_look_up(&mut text, table, *c)?;
+        push_look_up(alloc, &mut text, table, *c)?;
         let line = answered(alloc, table, &[*c])?;
         text.push_str(&line)?;
     }

@@ -1,6 +1,8 @@
 //! Why a table can't be made of rows, written or read.
-ghost use Rattle.std.specs.Prelude.{◌≡◌, ◌⊎◌};
+ghost use Rattle.std.specs.Prelude.{◌≡◌, ◌⊎◌, ◌+◌, take};
+ghost use Rattle.ucptrie_tables.specs.Comparison.{line_feeds};
 
+use crate::compare::line_feeds;
 use crate::width::ValueWidth;
 use icu_trie_binary::binary::{BinaryError, SwappedError, WriteError};
 use icu_trie_builder::error::BuildError;
@@ -134,17 +136,36 @@ pub struct TomlFault {
     error: toml::de::Error,
 }
 
+/// Returns the line of a text that has the byte at an index, counted from 1.
+fn line_at(text: &str, index: usize) -> usize
+    ensures { result ≡ line_feeds (take index text.now) + 1 }
+{
+    line_feeds(&text.as_bytes()[..index.min(text.len())]) + 1
+}
+
 impl TomlFault {
+    ghost use Rattle.std.specs.Prelude.{◌≡◌, ◌+◌, take};
+    ghost use Rattle.toml.specs.Errors.{span_start, IsMemory};
+    ghost use Rattle.ucptrie_tables.specs.Comparison.{line_feeds};
+
     /// Returns the fault of a text, with its line.
-    pub(crate) fn new(text: &str, error: toml::de::Error) -> TomlFault {
-        let start = error.span().map_or(0, |span| span.start);
-        let before = text.bytes().take(start);
-        let line = 1 + before.filter(|byte| *byte == b'\n').count();
+    pub(crate) fn new(text: &str, error: toml::de::Error) -> TomlFault
+        ensures line { ¬ IsMemory error
+            → result.line ≡ line_feeds (take (span_start error) text.now) + 1 }
+        ensures error { result.error ≡ error }
+    {
+        let start = match error.span() {
+            Some(span) => span.start,
+            None => 0,
+        };
+        let line = line_at(text, start);
         TomlFault { line, error }
     }
 
     /// Returns the line, counted from 1.
-    pub fn line(&self) -> usize {
+    pub fn line(&self) -> usize
+        ensures { result ≡ self.now.line }
+    {
         self.line
     }
 

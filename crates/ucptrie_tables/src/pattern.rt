@@ -1,4 +1,7 @@
 //! Texts with a name and numbers in them.
+ghost use Rattle.std.specs.Prelude.{◌≡◌, ◌++◌, OnOk, string_bytes};
+ghost use Rattle.ucptrie_tables.specs.Source.{named};
+
 use std::alloc::AllocError;
 
 /// A number, and its digits.
@@ -21,14 +24,17 @@ pub(crate) fn push_number(text: &mut String, number: Number) -> Result<(), Alloc
 ///
 /// # Errors
 /// Returns [`AllocError`] if an allocation fails.
-pub fn push_named(text: &mut String, pattern: &str, name: &str) -> Result<(), AllocError> {
-    for (i, piece) in pattern.split('@').enumerate() {
-        if i > 0 {
-            text.push_str(name)?;
-        }
+pub fn push_named(text: &mut String, pattern: &str, name: &str) -> Result<(), AllocError>
+    ensures { OnOk result (string_bytes text.new
+        ≡ string_bytes text.old ++ named name.now pattern.now) }
+{
+    let mut rest = pattern;
+    while let Some((piece, others)) = rest.split_once('@') {
         text.push_str(piece)?;
+        text.push_str(name)?;
+        rest = others;
     }
-    Ok(())
+    text.push_str(rest)
 }
 
 /// Appends a text in which each `@` is replaced by the name, and each `%` by the next number.

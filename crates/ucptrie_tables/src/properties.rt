@@ -1,4 +1,11 @@
 //! The properties of a TOML file that have a trie, and the table of one of them.
+ghost use Rattle.std.specs.Prelude.{◌≡◌, true, false, is_some, Err, Result};
+ghost use Rattle.ucptrie_tables.specs.Files.{IsTakenForToml};
+ghost use Rattle.ucptrie_tables.specs.Properties.{of_property, IsReadOf};
+ghost use Rattle.ucptrie_tables.specs.declared.fault.ReadFault.{ReadFault};
+ghost use Rattle.ucptrie_tables.specs.declared.properties.PropertyFault.TheVariants.{NotToml};
+ghost use Rattle.ucptrie_tables.specs.declared.table.Table.{Table};
+
 use crate::fault::ReadFault;
 use crate::read::{file_of_toml, read_table, table_of_members, toml_text, trie_of_table, value_at};
 use crate::table::Table;
@@ -29,12 +36,21 @@ pub enum PropertyFault {
 }
 
 impl From<ReadFault> for PropertyFault {
+    ghost use Rattle.ucptrie_tables.specs.declared.properties.PropertyFault.TheVariants.{Read};
+
+    ghost from_gives = { λ x e. e ≡ Read x };
+
     fn from(fault: ReadFault) -> PropertyFault {
         PropertyFault::Read(fault)
     }
 }
 
 impl From<AllocError> for PropertyFault {
+    ghost use Rattle.ucptrie_tables.specs.declared.fault.ReadFault.TheVariants.{Memory};
+    ghost use Rattle.ucptrie_tables.specs.declared.properties.PropertyFault.TheVariants.{Read};
+
+    ghost from_gives = { λ _ e. e ≡ Read Memory };
+
     fn from(_error: AllocError) -> PropertyFault {
         PropertyFault::Read(ReadFault::Memory)
     }
@@ -146,11 +162,12 @@ fn asked_trie<'a>(
 /// Returns [`PropertyFault::Several`] if several properties have a trie, and the name, if one is
 /// asked, and [`PropertyFault::Missing`] if none has that name. Returns [`PropertyFault::NotToml`]
 /// if a name is asked of a file in another form. Other errors are those of [`read_table`].
-pub fn read_property(
-    alloc: Global,
-    file: &[u8],
-    name: Option<&str>,
-) -> Result<Table, PropertyFault> {
+pub fn read_property(alloc: Global, file: &[u8], name: Option<&str>) -> Result<Table, PropertyFault>
+    ensures named { is_some name.entry ≡ true → ¬ IsTakenForToml file.now → result ≡ Err NotToml }
+    ensures other { is_some name.entry ≡ false → ¬ IsTakenForToml file.now
+        → (read : Result Table ReadFault) × (IsReadOf file.now read
+        × (result ≡ of_property read)) }
+{
     let Some(text) = toml_text(file) else {
         if name.is_some() {
             return Err(PropertyFault::NotToml);

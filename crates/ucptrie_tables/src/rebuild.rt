@@ -1,11 +1,12 @@
 //! The same values in a trie of another type, with another width or another error value.
 ghost use Rattle.std.specs.Prelude.{◌≡◌, ◌<◌, ℕ, IfOk, IfErr, OnOk};
 ghost use Rattle.icu_trie_builder.specs.CodePointMap.{map_value};
-ghost use Rattle.ucptrie_tables.specs.Rebuilt.{IsRebuilt, IsWhyNotRebuilt};
+ghost use Rattle.ucptrie_tables.specs.Rebuilt.{AreValues, IsRebuilt, IsWhyNotRebuilt};
 
 use crate::fault::BuildFault;
 use crate::table::{Table, first_wider};
 use crate::width::ValueWidth;
+use icu_trie::cptrie::CodePointTrie;
 use icu_trie::header::TrieType;
 use icu_trie_builder::builder::CodePointTrieBuilder;
 use icu_zerovec::{CODE_POINT_LIMIT, MemoryError};
@@ -29,6 +30,24 @@ fn copy_values(
     Ok(())
 }
 
+/// Returns a builder of this type and error value that has the value of each code point in a trie.
+fn copied(
+    alloc: Global,
+    trie: &CodePointTrie<'_, u32>,
+    trie_type: TrieType,
+    error: u32,
+) -> Result<CodePointTrieBuilder<u32>, MemoryError>
+    ensures values { IfOk result (λ builder. AreValues trie.now (map_value builder)) }
+    ensures error { IfOk result (λ builder. builder.error ≡ error) }
+    ensures trie_type { IfOk result (λ builder. builder.trie_type ≡ trie_type) }
+{
+    let values = CodePointTrieBuilder::from_trie(alloc, trie)?;
+    let default = trie.get32(CODE_POINT_LIMIT - 1);
+    let mut builder = CodePointTrieBuilder::new(alloc, default, error, trie_type);
+    copy_values(&values, &mut builder)?;
+    Ok(builder)
+}
+
 /// Builds a table with the value of each code point in another table, which need not be coherent.
 /// Its type, its width and its error value are the given ones.
 ///
@@ -46,10 +65,7 @@ pub fn rebuilt(
     ensures ok { IfOk result (IsRebuilt table.now.trie trie_type width error) }
     ensures err { IfErr result (IsWhyNotRebuilt table.now.trie trie_type width error) }
 {
-    let values = CodePointTrieBuilder::from_trie(alloc, &table.trie)?;
-    let default = table.trie.get32(CODE_POINT_LIMIT - 1);
-    let mut builder = CodePointTrieBuilder::new(alloc, default, error, trie_type);
-    copy_values(&values, &mut builder)?;
+    let builder = copied(alloc, &table.trie, trie_type, error)?;
     let trie = builder.build()?;
     match first_wider(&trie, width) {
         Some(value) => Err(BuildFault::Width(value, width)),

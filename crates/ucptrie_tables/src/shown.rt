@@ -85,7 +85,7 @@ fn push_comment(text: &mut String, comment: &str) -> Result<(), AllocError>
 }
 
 /// Appends each line as a comment. A line ends with a line feed.
-fn push_comments(text: &mut String, lines: &str) -> Result<(), AllocError>
+pub(crate) fn push_comments(text: &mut String, lines: &str) -> Result<(), AllocError>
     ensures { IfOk result (λ _. AddsComments (string_bytes text.old) (string_bytes text.new)) }
 {
     let mut rest = lines;

@@ -1,5 +1,7 @@
 //! How many cells a built trie has at most.
-ghost use Rattle.std.specs.Prelude.{◌≡◌, ◌<◌, IfOk, vec_len};
+ghost use Rattle.std.specs.Prelude.{◌≡◌, ◌<◌, ◌≤◌, ℕ, IfOk, slice_index, vec_len};
+ghost use Rattle.icu_trie.specs.Parts.{trie_value};
+ghost use Rattle.ucptrie_tables.specs.Rebuilt.{AreValues};
 
 use icu_trie::cptrie::CodePointTrie;
 use icu_zerovec::CODE_POINT_LIMIT;
@@ -13,14 +15,23 @@ pub struct Bounds {
     pub data: usize,
 }
 
-/// Returns the value of each code point.
-fn values_of(alloc: Global, trie: &CodePointTrie<'_, u32>) -> Result<Vec<u32>, AllocError>
-    ensures { IfOk result (λ values. vec_len values ≡ 0x110000) }
+/// Returns the number of code points before those that all have the high value.
+pub(crate) fn stored_values(trie: &CodePointTrie<'_, u32>) -> u32
+    ensures within { result ≤ 0x110000 }
+    ensures high { (u : ℕ) → result ≤ u → u < 0x110000
+        → trie_value trie.now u ≡ trie_value trie.now 0x10FFFF }
 {
     let (header, _, _) = trie.parts();
-    // From here on, each code point has the value of the last one.
     let start = header.high_start.max(header.trie_type.fast_limit());
-    let end = start.min(CODE_POINT_LIMIT);
+    start.min(CODE_POINT_LIMIT)
+}
+
+/// Returns the value of each code point.
+fn values_of(alloc: Global, trie: &CodePointTrie<'_, u32>) -> Result<Vec<u32>, AllocError>
+    ensures len { IfOk result (λ values. vec_len values ≡ 0x110000) }
+    ensures values { IfOk result (λ values. AreValues trie.now (slice_index values.items)) }
+{
+    let end = stored_values(trie);
     let mut values = Vec::with_capacity(alloc, CODE_POINT_LIMIT as usize)?;
     for c in 0..end {
         values.push(trie.get32(c))?;

@@ -1,20 +1,31 @@
 //! What the sources in C and in Rust have in common.
+ghost use Rattle.std.specs.Prelude.{◌≡◌};
+ghost use Rattle.ucptrie_tables.specs.Source.{is_name, is_name_byte};
+
 use crate::pattern::Number::{self, Decimal, Hexadecimal};
 use crate::pattern::push_pattern;
 use crate::table::Table;
 use icu_trie::header::TrieType;
 use std::alloc::AllocError;
 
+/// Returns whether a name in C and in Rust can have a byte: an ASCII letter or digit, or `_`.
+fn is_name_byte(byte: u8) -> bool
+    ensures { result ≡ is_name_byte byte }
+{
+    byte.is_ascii_alphanumeric() || byte == b'_'
+}
+
 /// Returns whether a text can be a name in C and in Rust: ASCII letters, digits and `_`, and not a
 /// digit first. Keywords of the two languages are not excluded.
-pub fn is_name(text: &str) -> bool {
-    let Some(first) = text.bytes().next() else {
-        return false;
-    };
-    !first.is_ascii_digit()
-        && text
-            .bytes()
-            .all(|byte| byte.is_ascii_alphanumeric() || byte == b'_')
+pub fn is_name(text: &str) -> bool
+    ensures { result ≡ is_name text.now }
+{
+    let bytes = text.as_bytes();
+    match bytes {
+        [] => false,
+        [first, ..] if first.is_ascii_digit() => false,
+        _ => bytes.iter().all(|byte| is_name_byte(*byte)),
+    }
 }
 
 /// Returns the name of a type, as in `ucptab`'s arguments.

@@ -1,4 +1,7 @@
 //! Names of values in source: an enum in C or in Rust.
+ghost use Rattle.std.specs.Prelude.{◌≡◌, ◌<◌, [], false, length, IfOk, string_bytes};
+ghost use Rattle.ucptrie_tables.specs.Source.{has_names};
+
 use crate::pattern::Number::Decimal;
 use crate::pattern::{push_named, push_number, push_pattern};
 use crate::written::Form;
@@ -192,7 +195,12 @@ pub fn names_source(
     form: Form<'_>,
     bits: u32,
     names: &[Name<'_>],
-) -> Result<String, AllocError> {
+) -> Result<String, AllocError>
+    ensures none { names.now ≡ [] → IfOk result (λ text. string_bytes text ≡ []) }
+    ensures most { 4096 < length names.now → IfOk result (λ text. string_bytes text ≡ []) }
+    ensures form { has_names form.entry ≡ false
+        → IfOk result (λ text. string_bytes text ≡ []) }
+{
     if names.is_empty() || names.len() > MOST {
         return Ok(String::new(alloc));
     }

@@ -1,6 +1,6 @@
 //! How many bits a value has in a file.
 ghost use Rattle.std.specs.Prelude.{◌≡◌, ◌^◌, nat_lt};
-ghost use Rattle.ucptrie_tables.specs.ValueWidth.{bits_of, bytes_of};
+ghost use Rattle.ucptrie_tables.specs.ValueWidth.{bits_of, bytes_of, code_of};
 
 use std::fmt;
 
@@ -36,7 +36,9 @@ impl ValueWidth {
     }
 
     /// Returns ICU's number of the width (UCPTRIE_VALUE_BITS_16, _32 and _8): 2, 0 or 1.
-    pub fn code(self) -> u32 {
+    pub fn code(self) -> u32
+        ensures { result ≡ code_of self }
+    {
         match self {
             ValueWidth::Bits8 => 2,
             ValueWidth::Bits16 => 0,

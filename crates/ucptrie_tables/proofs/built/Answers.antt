@@ -1,8 +1,7 @@
 use Rattle.std.proofs.Common.{◌≡◌, Err, inl, inr, arith, rules}
 use Rattle.std.proofs.lemmas.Bool.Decides.{nat_tests}
-use Rattle.std.proofs.lemmas.Result.{IfOk-weaker}
+use Rattle.std.proofs.lemmas.Result.{IfErr-weaker, IfOk-weaker}
 use Rattle.icu_trie_builder.specs.Writes.{value_after}
-use Rattle.ucptrie_tables.proofs.TableLemmas.{IfErr-weaker}
 use Rattle.ucptrie_tables.proofs.built.Goals as goal
 
 pub returns-in_err-table-clause-err : goal.returns-in_err-table-clause-err

@@ -6,6 +6,7 @@ use crate::support::AllocError;
 #[allow(unused_imports)]
 use crate::support::prelude::*;
 use crate::ucptab_table::text::push_dotted;
+use crate::ucptrie_tables::sizes::stored_values;
 use bekstaudi::codepointtrie::CodePointMapRange;
 use bekstaudi::codepointtrie::CodePointTrie;
 use bekstaudi::zerovec::CODE_POINT_LIMIT;
@@ -19,19 +20,33 @@ fn values_at(
     (first.get32(c), second.get32(c))
 }
 
-/// Returns the exclusive end of the code points from `c` on that have these two values.
+/// Returns the number of code points before those at which both tries have their high value.
+fn stored_in_both(first: &CodePointTrie<'_, u32>, second: &CodePointTrie<'_, u32>) -> u32 {
+    stored_values(first).max(stored_values(second))
+}
+
+/// Returns the exclusive end of the code points from `c` on that have these two values. From
+/// `stored` on, each code point has the two values of the last one.
 fn end_of_values(
     first: &CodePointTrie<'_, u32>,
     second: &CodePointTrie<'_, u32>,
+    stored: u32,
     c: u32,
     values: (u32, u32),
 ) -> u32 {
-    for next in c + 1..CODE_POINT_LIMIT {
+    if stored <= c {
+        return CODE_POINT_LIMIT;
+    }
+    for next in c + 1..stored {
         if values_at(first, second, next) != values {
             return next;
         }
     }
-    CODE_POINT_LIMIT
+    if values_at(first, second, CODE_POINT_LIMIT - 1) == values {
+        CODE_POINT_LIMIT
+    } else {
+        stored
+    }
 }
 
 /// Returns the ranges of code points whose values differ in two tries, in ascending order.
@@ -44,11 +59,12 @@ pub fn differences(
     first: &CodePointTrie<'_, u32>,
     second: &CodePointTrie<'_, u32>,
 ) -> Result<Vec<CodePointMapRange<(u32, u32)>>, AllocError> {
+    let stored = stored_in_both(first, second);
     let mut found = Vec::new();
     let mut start = 0;
     while start < CODE_POINT_LIMIT {
         let values = values_at(first, second, start);
-        let end = end_of_values(first, second, start, values);
+        let end = end_of_values(first, second, stored, start, values);
         if values.0 != values.1 {
             found.try_push(CodePointMapRange {
                 range: start..=end - 1,

@@ -7,7 +7,7 @@ use crate::support::AllocError;
 use crate::support::prelude::*;
 use crate::ucptrie_tables::pattern::Number::Decimal;
 use crate::ucptrie_tables::pattern::push_pattern;
-use crate::ucptrie_tables::shown::answered;
+use crate::ucptrie_tables::shown::{answered, push_comments};
 use crate::ucptrie_tables::source::{index1_offset, type_name};
 use crate::ucptrie_tables::table::Table;
 use bekstaudi::codepointtrie::TrieType;
@@ -21,7 +21,7 @@ fn push_cell(
     value: Option<u32>,
     what: &str,
 ) -> Result<(), AllocError> {
-    push_pattern(text, "# @[%]", array, &[Decimal(index)])?;
+    push_pattern(text, "@[%]", array, &[Decimal(index)])?;
     match value {
         Some(value) => push_pattern(text, " = %: ", "", &[Decimal(value as usize)])?,
         None => text.try_push_str(" is missing: ")?,
@@ -111,15 +111,22 @@ fn push_reads(text: &mut String, table: &Table, c: u32) -> Result<(), AllocError
 }
 
 /// Appends the lines about the look-up of a number.
-fn push_look_up(text: &mut String, table: &Table, c: u32) -> Result<(), AllocError> {
+fn push_lines(text: &mut String, table: &Table, c: u32) -> Result<(), AllocError> {
     let (header, _, _) = table.trie.parts();
     let (kind, limit) = (type_name(header.trie_type), header.trie_type.fast_limit());
     let high_start = header.high_start;
     write!(
         text,
-        "# {c:04X} in a {kind} trie: fast below {limit:X}, high from {high_start:X} on\n"
+        "{c:04X} in a {kind} trie: fast below {limit:X}, high from {high_start:X} on\n"
     )?;
     push_reads(text, table, c)
+}
+
+/// Appends the lines about the look-up of a number, as comments.
+fn push_look_up(text: &mut String, table: &Table, c: u32) -> Result<(), AllocError> {
+    let mut lines = String::new();
+    push_lines(&mut lines, table, c)?;
+    push_comments(text, &lines)
 }
 
 /// Returns how the look-up of each asked number goes, as comments, each before the line that

@@ -5,6 +5,7 @@ use crate::host::{HostRuntime, Text};
 use crate::support::AllocError;
 use crate::ucd_files::fault::FileFault;
 use crate::ucptab_table::fault::TableError;
+use crate::ucptrie_tables::compare::line_feeds;
 use crate::ucptrie_tables::width::ValueWidth;
 use bekstaudi::codepointtrie::BuildError;
 use bekstaudi::codepointtrie::binary::{BinaryError, SwappedError, WriteError};
@@ -89,6 +90,11 @@ impl From<AllocError> for UnicodeFileFault {
 pub struct TomlFault {
     line: usize,
     error: crate::formats::TomlError,
+}
+
+/// Returns the line of a text that has the byte at an index, counted from 1.
+fn line_at(text: &str, index: usize) -> usize {
+    line_feeds(&text.as_bytes()[..index.min(text.len())]) + 1
 }
 
 impl TomlFault {

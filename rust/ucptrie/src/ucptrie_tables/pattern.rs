@@ -1,4 +1,5 @@
 //! Texts with a name and numbers in them.
+
 #[allow(unused_imports)]
 use crate::host::{HostRuntime, Text};
 use crate::support::AllocError;
@@ -26,13 +27,13 @@ pub(crate) fn push_number(text: &mut String, number: Number) -> Result<(), Alloc
 /// # Errors
 /// Returns [`AllocError`] if an allocation fails.
 pub fn push_named(text: &mut String, pattern: &str, name: &str) -> Result<(), AllocError> {
-    for (i, piece) in pattern.split('@').enumerate() {
-        if i > 0 {
-            text.try_push_str(name)?;
-        }
+    let mut rest = pattern;
+    while let Some((piece, others)) = rest.split_once('@') {
         text.try_push_str(piece)?;
+        text.try_push_str(name)?;
+        rest = others;
     }
-    Ok(())
+    text.try_push_str(rest)
 }
 
 /// Appends a text in which each `@` is replaced by the name, and each `%` by the next number.

@@ -1,4 +1,5 @@
 //! The properties of a TOML file that have a trie, and the table of one of them.
+
 #[allow(unused_imports)]
 use crate::host::{HostRuntime, Text};
 use crate::support::AllocError;

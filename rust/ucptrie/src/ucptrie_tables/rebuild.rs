@@ -5,6 +5,7 @@ use crate::host::{HostRuntime, Text};
 use crate::ucptrie_tables::fault::BuildFault;
 use crate::ucptrie_tables::table::{Table, first_wider};
 use crate::ucptrie_tables::width::ValueWidth;
+use bekstaudi::codepointtrie::CodePointTrie;
 use bekstaudi::codepointtrie::CodePointTrieBuilder;
 use bekstaudi::codepointtrie::TrieType;
 use bekstaudi::zerovec::{CODE_POINT_LIMIT, MemoryError};
@@ -22,6 +23,19 @@ fn copy_values(
     Ok(())
 }
 
+/// Returns a builder of this type and error value that has the value of each code point in a trie.
+fn copied(
+    trie: &CodePointTrie<'_, u32>,
+    trie_type: TrieType,
+    error: u32,
+) -> Result<CodePointTrieBuilder<u32>, MemoryError> {
+    let values = CodePointTrieBuilder::try_from_trie(trie)?;
+    let default = trie.get32(CODE_POINT_LIMIT - 1);
+    let mut builder = CodePointTrieBuilder::new(default, error, trie_type);
+    copy_values(&values, &mut builder)?;
+    Ok(builder)
+}
+
 /// Builds a table with the value of each code point in another table, which need not be coherent.
 /// Its type, its width and its error value are the given ones.
 ///
@@ -35,10 +49,7 @@ pub fn rebuilt(
     width: ValueWidth,
     error: u32,
 ) -> Result<Table, BuildFault> {
-    let values = CodePointTrieBuilder::try_from_trie(&table.trie)?;
-    let default = table.trie.get32(CODE_POINT_LIMIT - 1);
-    let mut builder = CodePointTrieBuilder::new(default, error, trie_type);
-    copy_values(&values, &mut builder)?;
+    let builder = copied(&table.trie, trie_type, error)?;
     let trie = builder.try_build()?;
     match first_wider(&trie, width) {
         Some(value) => Err(BuildFault::Width(value, width)),

@@ -79,7 +79,7 @@ fn push_comment(text: &mut String, comment: &str) -> Result<(), AllocError> {
 }
 
 /// Appends each line as a comment. A line ends with a line feed.
-fn push_comments(text: &mut String, lines: &str) -> Result<(), AllocError> {
+pub(crate) fn push_comments(text: &mut String, lines: &str) -> Result<(), AllocError> {
     let mut rest = lines;
     while let Some((line, others)) = rest.split_once('\n') {
         push_comment(text, line)?;

@@ -16,12 +16,16 @@ pub struct Bounds {
     pub data: usize,
 }
 
+/// Returns the number of code points before those that all have the high value.
+pub(crate) fn stored_values(trie: &CodePointTrie<'_, u32>) -> u32 {
+    let (header, _, _) = trie.parts();
+    let start = header.high_start.max(header.trie_type.fast_limit());
+    start.min(CODE_POINT_LIMIT)
+}
+
 /// Returns the value of each code point.
 fn values_of(trie: &CodePointTrie<'_, u32>) -> Result<Vec<u32>, AllocError> {
-    let (header, _, _) = trie.parts();
-    // From here on, each code point has the value of the last one.
-    let start = header.high_start.max(header.trie_type.fast_limit());
-    let end = start.min(CODE_POINT_LIMIT);
+    let end = stored_values(trie);
     let mut values = Vec::with_room(CODE_POINT_LIMIT as usize)?;
     for c in 0..end {
         values.try_push(trie.get32(c))?;

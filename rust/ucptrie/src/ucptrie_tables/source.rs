@@ -1,4 +1,5 @@
 //! What the sources in C and in Rust have in common.
+
 #[allow(unused_imports)]
 use crate::host::{HostRuntime, Text};
 use crate::support::AllocError;
@@ -9,16 +10,20 @@ use crate::ucptrie_tables::pattern::push_pattern;
 use crate::ucptrie_tables::table::Table;
 use bekstaudi::codepointtrie::TrieType;
 
+/// Returns whether a name in C and in Rust can have a byte: an ASCII letter or digit, or `_`.
+fn is_name_byte(byte: u8) -> bool {
+    byte.is_ascii_alphanumeric() || byte == b'_'
+}
+
 /// Returns whether a text can be a name in C and in Rust: ASCII letters, digits and `_`, and not a
 /// digit first. Keywords of the two languages are not excluded.
 pub fn is_name(text: &str) -> bool {
-    let Some(first) = text.bytes().next() else {
-        return false;
-    };
-    !first.is_ascii_digit()
-        && text
-            .bytes()
-            .all(|byte| byte.is_ascii_alphanumeric() || byte == b'_')
+    let bytes = text.as_bytes();
+    match bytes {
+        [] => false,
+        [first, ..] if first.is_ascii_digit() => false,
+        _ => bytes.iter().all(|byte| is_name_byte(*byte)),
+    }
 }
 
 /// Returns the name of a type, as in `ucptab`'s arguments.

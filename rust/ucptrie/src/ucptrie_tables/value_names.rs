@@ -1,4 +1,5 @@
 //! Names of values in source: an enum in C or in Rust.
+
 #[allow(unused_imports)]
 use crate::host::{HostRuntime, Text};
 use crate::support::AllocError;

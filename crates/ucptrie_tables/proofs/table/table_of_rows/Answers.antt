@@ -1,10 +1,10 @@
 use Rattle.std.proofs.Common.{◌≡◌, Err, inl, inr, rules}
-use Rattle.std.proofs.lemmas.Result.{IfOk-weaker}
+use Rattle.std.proofs.lemmas.Result.{IfErr-weaker, IfOk-weaker}
 use Rattle.ucptab_table.specs.TableText.{AreRows}
 use Rattle.ucptab_table.specs.declared.fault.TableError.TheVariants.{Row, TooLarge}
 use Rattle.ucptrie_tables.specs.Tables.{IsWhyNoTableOfWrites}
 use Rattle.ucptrie_tables.specs.declared.fault.BuildFault.TheVariants.{Table}
-use Rattle.ucptrie_tables.proofs.TableLemmas.{IfErr-weaker, table_of_rows, why_of_rows}
+use Rattle.ucptrie_tables.proofs.TableLemmas.{table_of_rows, why_of_rows}
 use Rattle.ucptrie_tables.proofs.table.table_of_rows.Goals as goal
 
 pub returns-in_err-writes-clause-err : goal.returns-in_err-writes-clause-err

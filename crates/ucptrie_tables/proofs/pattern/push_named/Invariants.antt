@@ -1,0 +1,14 @@
+use Rattle.std.proofs.Common.{◌≡◌, ◌++◌, length, string_bytes}
+use Rattle.std.specs.Str.{IsUtf8}
+use Rattle.ucptrie_tables.specs.Source.{named}
+use Rattle.ucptrie_tables.proofs.pattern.push_named.Given as goal
+
+-- the text so far and what is left give the whole, and what is left is text
+abbrev pub invariant-loop-piece : goal.invariant-loop-piece
+invariant-loop-piece l = record {
+  whole : string_bytes l.text ++ named l.name l.rest ≡ string_bytes l.initial.text ++ named l.name l.fn.pattern;
+  utf8 : IsUtf8 l.rest;
+}
+
+abbrev pub decreases-loop-piece : goal.decreases-loop-piece
+decreases-loop-piece l = length l.rest
