@@ -28,7 +28,10 @@ pub(crate) fn rust_text(
     name: &str,
 ) -> Result<String, AllocError> {
     let mut text = title_of(alloc, set)?;
-    writeln!(text, "#[allow(dead_code)]\npub mod {name} {{")?;
+    writeln!(
+        text,
+        "#[allow(dead_code, clippy::module_inception)]\npub mod {name} {{"
+    )?;
     text.push_str(BOUNDARIES)?;
     let length = set.as_inversion_list().len();
     writeln!(text, "    pub static BOUNDARIES: [u32; {length}] = [")?;
@@ -61,7 +64,10 @@ const INDEX: &str = "    \
 
 /// Appends a module with the tables of a frozen set, and a look-up in them.
 fn push_frozen(text: &mut String, tables: FrozenTables<'_>, name: &str) -> Result<(), AllocError> {
-    writeln!(text, "#[allow(dead_code)]\npub mod {name} {{")?;
+    writeln!(
+        text,
+        "#[allow(dead_code, clippy::module_inception)]\npub mod {name} {{"
+    )?;
     text.push_str(INDEX)?;
     push_indices(text, tables.index)?;
     text.push_str("\n    ];\n\n    /// A bit for each code point of a block, 64 in each word.\n")?;

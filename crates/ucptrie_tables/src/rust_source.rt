@@ -23,7 +23,8 @@ const LOOK_UP: &str = "
         if c >= HIGH_START {
             return DATA[DATA.len() - 2];
         }
-        let (part, block) = ((c >> 4) & 31, index(index((c >> 14) + INDEX1) + ((c >> 9) & 31)));
+        let part = (c >> 4) & 31;
+        let block = index(index((c >> 14) + INDEX1) + ((c >> 9) & 31));
         let start = if block < 0x8000 {
             index(block + part)
         } else {
@@ -38,7 +39,7 @@ const LOOK_UP: &str = "
 
 /// The head of the module, with the header field by field.
 const HEAD: &str = "\
-#[allow(dead_code)]
+#[allow(dead_code, clippy::module_inception)]
 pub mod @ {
     pub type Value = u%;
 

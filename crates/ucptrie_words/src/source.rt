@@ -60,7 +60,10 @@ pub(crate) fn rust_text(
 ) -> Result<String, AllocError> {
     let mut text = String::new(alloc);
     push_head(&mut text, units)?;
-    write!(text, "#[allow(dead_code)]\npub mod {name} {{\n")?;
+    write!(
+        text,
+        "#[allow(dead_code, clippy::module_inception)]\npub mod {name} {{\n"
+    )?;
     text.push_str(
         "    /// The crates `icu_collections` and `bekstaudi` read them:\n    \
          /// `Char16Trie::new(ZeroVec::alloc_from_slice(&UNITS))`.\n    \

@@ -118,7 +118,7 @@ fn push_arms(text: &mut String, title: &str, names: &[Name<'_>]) -> Result<(), A
 /// of bits.
 const MODULE: &str = "
 /// The values of `@`, by name.
-#[allow(dead_code)]
+#[allow(dead_code, clippy::enum_variant_names, clippy::upper_case_acronyms)]
 #[rustfmt::skip]
 #[derive(Clone, Copy, Debug, PartialEq, Eq, PartialOrd, Ord, Hash)]
 #[repr(u%)]
@@ -132,6 +132,7 @@ const TRY_FROM: &str = "\
 impl TryFrom<u%> for @ {
     type Error = u%;
 
+    #[allow(unreachable_patterns)]
     #[rustfmt::skip]
     fn try_from(value: u%) -> Result<@, u%> {
         Ok(match value {

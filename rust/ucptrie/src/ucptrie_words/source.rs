@@ -56,7 +56,10 @@ pub(crate) fn c_text(units: ZeroSlice<'_, u16>, name: &str) -> Result<String, Al
 pub(crate) fn rust_text(units: ZeroSlice<'_, u16>, name: &str) -> Result<String, AllocError> {
     let mut text = String::new();
     push_head(&mut text, units)?;
-    write!(text, "#[allow(dead_code)]\npub mod {name} {{\n")?;
+    write!(
+        text,
+        "#[allow(dead_code, clippy::module_inception)]\npub mod {name} {{\n"
+    )?;
     text.try_push_str(
         "    /// The crates `icu_collections` and `bekstaudi` read them:\n    \
          /// `Char16Trie::new(ZeroVec::alloc_from_slice(&UNITS))`.\n    \
