@@ -59,6 +59,7 @@ fn push_identifier(text: &mut String, name: &[u8], has_capitals: bool) -> Result
 fn push_value_name(text: &mut String, name: &[u8], has_capitals: bool) -> Result<(), AllocError> {
     match name {
         [] => return text.push_str("Unlisted"),
+        [b'-', ..] if has_capitals => text.push_str("Minus")?,
         [first, ..] if first.is_ascii_digit() => text.push('V')?,
         _ => {}
     }
