@@ -37,19 +37,30 @@ fn push_word(rt: &HostRuntime, asked: &mut Vec<u32>, word: &str) -> Result<(), F
     Err(about(rt.alloc(), word, why))
 }
 
-/// Returns the numbers that the arguments ask for: those of the words, then those of the file.
-pub fn asked(rt: &HostRuntime, matches: &ArgMatches<'_>) -> Result<Vec<u32>, Fault> {
-    let mut asked = Vec::new(rt.alloc());
-    for word in matches.get_strs("asked").unwrap_or(&[]) {
-        push_word(rt, &mut asked, word)?;
+/// Appends the numbers that words ask for.
+fn push_words(rt: &HostRuntime, asked: &mut Vec<u32>, words: &[&str]) -> Result<(), Fault> {
+    for word in words {
+        push_word(rt, asked, word)?;
     }
+    Ok(())
+}
+
+/// Appends the numbers that the arguments ask for: those of the words, then those of the file.
+fn push_all(rt: &HostRuntime, asked: &mut Vec<u32>, matches: &ArgMatches<'_>) -> Result<(), Fault> {
+    push_words(rt, asked, matches.get_strs("asked").unwrap_or(&[]))?;
     match matches.get_str("from") {
-        Some(path) => push_file(rt, &mut asked, path)?,
+        Some(path) => push_file(rt, asked, path),
         None if asked.is_empty() => {
             let why = "expected HEX, HEX..HEX or --from FILE";
-            return Err(about_arguments(rt.alloc(), "arguments", why));
+            Err(about_arguments(rt.alloc(), "arguments", why))
         }
-        None => {}
+        None => Ok(()),
     }
+}
+
+/// Returns the numbers that the arguments ask for.
+pub fn asked(rt: &HostRuntime, matches: &ArgMatches<'_>) -> Result<Vec<u32>, Fault> {
+    let mut asked = Vec::new(rt.alloc());
+    push_all(rt, &mut asked, matches)?;
     Ok(asked)
 }

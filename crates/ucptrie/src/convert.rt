@@ -23,29 +23,32 @@ fn changed(alloc: Global, matches: &ArgMatches<'_>, table: Table) -> Result<Tabl
     rebuilt(alloc, &table, kind, bits, error)
 }
 
-/// Returns the table of a file in the form that the arguments name. `name` is what the file was
-/// read from.
+/// Returns a table in a form. `name` is what it was read from.
 ///
 /// Rows are ranges. The ranges of a table that is not coherent may differ from its values, so its
 /// rows would make another table and are not written.
+fn converted(alloc: Global, name: &str, table: &Table, form: Form<'_>) -> Result<Vec<u8>, Fault> {
+    if matches!(form, Form::Rows) && !table.trie.is_coherent() {
+        let why = "not coherent, so its ranges may differ from its look-ups: no rows are written";
+        return Err(about(alloc, name, why));
+    }
+    match written(alloc, table, form) {
+        Ok(bytes) => Ok(bytes),
+        Err(fault) => Err(unbuilt(alloc, name, &[], fault)),
+    }
+}
+
+/// Returns the table of a file in the form that the arguments name. `name` is what the file was
+/// read from.
 pub fn convert(
     alloc: Global,
     matches: &ArgMatches<'_>,
     name: &str,
     file: &[u8],
 ) -> Result<Vec<u8>, Fault> {
-    let form = form(matches);
-    let read = table_in(alloc, matches, name, file, number(matches, "offset"))?;
-    let table = match changed(alloc, matches, read) {
-        Ok(table) => table,
-        Err(fault) => return Err(unbuilt(alloc, name, &[], fault)),
-    };
-    if matches!(form, Form::Rows) && !table.trie.is_coherent() {
-        let why = "not coherent, so its ranges may differ from its look-ups: no rows are written";
-        return Err(about(alloc, name, why));
-    }
-    match written(alloc, &table, form) {
-        Ok(bytes) => Ok(bytes),
+    let table = table_in(alloc, matches, name, file, number(matches, "offset"))?;
+    match changed(alloc, matches, table) {
+        Ok(table) => converted(alloc, name, &table, form(matches)),
         Err(fault) => Err(unbuilt(alloc, name, &[], fault)),
     }
 }

@@ -24,9 +24,15 @@ fn is_bare(word: &str) -> bool {
     !word.is_empty()
 }
 
-/// Appends a character, or `?` for one that could end a comment's line.
+/// Returns whether a comment's line may have the character: it does not end the line, and does not
+/// show it in another order, of which compilers warn.
+fn fits_comment(c: char) -> bool {
+    !c.is_control() && !matches!(c, '\u{202A}'..='\u{202E}' | '\u{2066}'..='\u{2069}')
+}
+
+/// Appends a character of a comment's line, or `?` if it may not have it.
 fn push_in_line(text: &mut String, c: char) -> Result<(), AllocError> {
-    text.push(if c.is_control() { '?' } else { c })
+    text.push(if fits_comment(c) { c } else { '?' })
 }
 
 /// Appends a word of the command, between quotes if a shell would not read it as it is.
@@ -76,14 +82,8 @@ fn push_note(text: &mut String, mark: &str, note: &[u8]) -> Result<(), AllocErro
     Ok(())
 }
 
-/// Appends what an input says of itself, as a list in one line: its title, or else the file's name,
-/// and its date or its versions. Appends nothing about standard input without a title.
-fn push_origin(text: &mut String, path: &str, input: &[u8]) -> Result<(), AllocError> {
-    match title_of(input) {
-        Some(title) => push_note(text, "// From ", title)?,
-        None if path == "-" => return Ok(()),
-        None => push_note(text, "// From ", path.as_bytes())?,
-    }
+/// Appends the date or the versions that an input says.
+fn push_notes(text: &mut String, input: &[u8]) -> Result<(), AllocError> {
     let mut rest = input;
     while let Some((line, after)) = first_line(rest) {
         rest = after;
@@ -91,12 +91,46 @@ fn push_origin(text: &mut String, path: &str, input: &[u8]) -> Result<(), AllocE
             push_note(text, ", ", note)?;
         }
     }
+    Ok(())
+}
+
+/// Appends what an input says of itself, as a list in one line: its title, or else the file's name,
+/// and its date or its versions. Appends nothing about standard input without a title.
+fn push_origin(text: &mut String, path: &str, input: &[u8]) -> Result<(), AllocError> {
+    let name = match title_of(input) {
+        Some(title) => title,
+        None if path == "-" => return Ok(()),
+        None => path.as_bytes(),
+    };
+    push_note(text, "// From ", name)?;
+    push_notes(text, input)?;
     // A `\` at the end of a line would continue the comment in C.
     text.push_str(".\n")
 }
 
-/// Returns what a command writes, with these lines before it if it is source. `words` are the
-/// command, and `path` is what its input was read from.
+/// Returns whether the arguments ask for source.
+fn is_source(matches: &ArgMatches<'_>) -> bool {
+    matches!(
+        matches.get_str("as"),
+        Some("c" | "rust" | "c-frozen" | "rust-frozen")
+    )
+}
+
+/// Returns the first lines of source. `words` are the command, and `path` is what its input was
+/// read from.
+fn heading(
+    alloc: Global,
+    words: &[String],
+    path: &str,
+    input: &[u8],
+) -> Result<String, AllocError> {
+    let mut text = String::new(alloc);
+    push_command(&mut text, words)?;
+    push_origin(&mut text, path, input)?;
+    Ok(text)
+}
+
+/// Returns what a command writes, with the first lines before it if it is source.
 pub fn with_heading(
     alloc: Global,
     matches: &ArgMatches<'_>,
@@ -105,16 +139,10 @@ pub fn with_heading(
     input: &[u8],
     bytes: Vec<u8>,
 ) -> Result<Vec<u8>, AllocError> {
-    if !matches!(
-        matches.get_str("as"),
-        Some("c" | "rust" | "c-frozen" | "rust-frozen")
-    ) {
+    if !is_source(matches) {
         return Ok(bytes);
     }
-    let mut text = String::new(alloc);
-    push_command(&mut text, words)?;
-    push_origin(&mut text, path, input)?;
-    let mut whole = text.into_bytes();
+    let mut whole = heading(alloc, words, path, input)?.into_bytes();
     whole.extend_from_slice(&bytes)?;
     Ok(whole)
 }

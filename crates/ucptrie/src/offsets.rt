@@ -21,14 +21,20 @@ fn offsets_of(alloc: Global, bytes: &[u8]) -> Result<Vec<usize>, AllocError> {
     Ok(offsets)
 }
 
+/// Appends offsets.
+fn push_offsets(line: &mut String, offsets: &[usize]) -> Result<(), AllocError> {
+    for offset in offsets {
+        write!(line, " {offset}")?;
+    }
+    Ok(())
+}
+
 /// Returns the line about a file with several tries.
 fn several_line(alloc: Global, name: &str, offsets: &[usize]) -> Result<String, AllocError> {
     let mut line = String::new(alloc);
     let count = offsets.len();
     write!(line, "{name}: {count} tries, choose one by --offset:")?;
-    for offset in offsets.get(..LISTED).unwrap_or(offsets) {
-        write!(line, " {offset}")?;
-    }
+    push_offsets(&mut line, offsets.get(..LISTED).unwrap_or(offsets))?;
     if count > LISTED {
         line.push_str(" ..")?;
     }

@@ -61,6 +61,24 @@ fn key_line(alloc: Global, name: &str, key: &str) -> Result<String, AllocError> 
     Ok(line)
 }
 
+/// Returns a trie in a form. `name` is what it was read from.
+fn converted(
+    alloc: Global,
+    name: &str,
+    trie: &Char16Trie<'_>,
+    form: Form<'_>,
+) -> Result<Vec<u8>, Fault> {
+    if trie.data.is_empty() && !matches!(form, Form::Rows) {
+        let why = "no words, and no units: UCharsTrie needs one word at least";
+        return Err(about(alloc, name, why));
+    }
+    match written(alloc, trie, form) {
+        Ok(bytes) => Ok(bytes),
+        Err(RowsFault::Memory) => Err(Fault::Memory),
+        Err(RowsFault::Key(key)) => Err(said(key_line(alloc, name, &key))),
+    }
+}
+
 /// Returns the trie of a file in the form that the arguments name. `name` is what the file was read
 /// from.
 pub fn word_list(
@@ -69,15 +87,6 @@ pub fn word_list(
     name: &str,
     file: &[u8],
 ) -> Result<Vec<u8>, Fault> {
-    let form = form(matches);
     let trie = trie(alloc, matches, name, file)?;
-    if trie.data.is_empty() && !matches!(form, Form::Rows) {
-        let why = "no words, and no units: UCharsTrie needs one word at least";
-        return Err(about(alloc, name, why));
-    }
-    match written(alloc, &trie, form) {
-        Ok(bytes) => Ok(bytes),
-        Err(RowsFault::Memory) => Err(Fault::Memory),
-        Err(RowsFault::Key(key)) => Err(said(key_line(alloc, name, &key))),
-    }
+    converted(alloc, name, &trie, form(matches))
 }

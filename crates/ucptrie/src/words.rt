@@ -334,8 +334,11 @@ const SET: [Argument; 11] = [
     CHECK,
 ];
 
-/// The commands: the name, the description and the arguments of each.
-static COMMANDS: [(&str, &str, &[Argument]); 8] = [
+/// The name, the description and the arguments of a command.
+type Row = (&'static str, &'static str, &'static [Argument]);
+
+/// The commands.
+static COMMANDS: [Row; 8] = [
     (
         "build",
         "Builds a table from rows or from a file of the Unicode Character Database",
@@ -423,13 +426,22 @@ fn command_of<'a>(
     Ok(command)
 }
 
+/// Adds commands to a program.
+fn with_commands<'a>(
+    alloc: Global,
+    program: Command<'a>,
+    commands: &[Row],
+) -> Result<Command<'a>, AllocError> {
+    let mut program = program;
+    for (name, about, arguments) in commands {
+        program = program.subcommand(command_of(alloc, name, about, arguments)?)?;
+    }
+    Ok(program)
+}
+
 /// Returns the program's command line in clap's form.
 pub fn program_words<'a>(alloc: Global) -> Result<Command<'a>, AllocError> {
     let about = "Makes code point tries from rows, and reads them";
     let named = command_of(alloc, "ucptrie", about, &[])?.version(VERSION);
-    let mut program = named.subcommand_required(true);
-    for (name, about, arguments) in COMMANDS.iter() {
-        program = program.subcommand(command_of(alloc, name, about, arguments)?)?;
-    }
-    Ok(program)
+    with_commands(alloc, named.subcommand_required(true), &COMMANDS)
 }

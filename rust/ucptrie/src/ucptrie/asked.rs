@@ -38,19 +38,38 @@ fn push_word(rt: &HostRuntime, asked: &mut Vec<u32>, word: &str) -> Result<(), F
     Err(about(word, why))
 }
 
-/// Returns the numbers that the arguments ask for: those of the words, then those of the file.
-pub fn asked(rt: &HostRuntime, matches: &ArgMatches) -> Result<Vec<u32>, Fault> {
-    let mut asked = Vec::new();
-    for word in matches.get_many::<String>("asked").into_iter().flatten() {
-        push_word(rt, &mut asked, word)?;
+/// Appends the numbers that words ask for.
+fn push_words<'w>(
+    rt: &HostRuntime,
+    asked: &mut Vec<u32>,
+    words: impl Iterator<Item = &'w String>,
+) -> Result<(), Fault> {
+    for word in words {
+        push_word(rt, asked, word)?;
     }
+    Ok(())
+}
+
+/// Appends the numbers that the arguments ask for: those of the words, then those of the file.
+fn push_all(rt: &HostRuntime, asked: &mut Vec<u32>, matches: &ArgMatches) -> Result<(), Fault> {
+    push_words(
+        rt,
+        asked,
+        matches.get_many::<String>("asked").into_iter().flatten(),
+    )?;
     match matches.get_one::<String>("from").map(String::as_str) {
-        Some(path) => push_file(rt, &mut asked, path)?,
+        Some(path) => push_file(rt, asked, path),
         None if asked.is_empty() => {
             let why = "expected HEX, HEX..HEX or --from FILE";
-            return Err(about_arguments("arguments", why));
+            Err(about_arguments("arguments", why))
         }
-        None => {}
+        None => Ok(()),
     }
+}
+
+/// Returns the numbers that the arguments ask for.
+pub fn asked(rt: &HostRuntime, matches: &ArgMatches) -> Result<Vec<u32>, Fault> {
+    let mut asked = Vec::new();
+    push_all(rt, &mut asked, matches)?;
     Ok(asked)
 }

@@ -26,24 +26,27 @@ fn changed(matches: &ArgMatches, table: Table) -> Result<Table, BuildFault> {
     rebuilt(&table, kind, bits, error)
 }
 
-/// Returns the table of a file in the form that the arguments name. `name` is what the file was
-/// read from.
+/// Returns a table in a form. `name` is what it was read from.
 ///
 /// Rows are ranges. The ranges of a table that is not coherent may differ from its values, so its
 /// rows would make another table and are not written.
-pub fn convert(matches: &ArgMatches, name: &str, file: &[u8]) -> Result<Vec<u8>, Fault> {
-    let form = form(matches);
-    let read = table_in(matches, name, file, number(matches, "offset"))?;
-    let table = match changed(matches, read) {
-        Ok(table) => table,
-        Err(fault) => return Err(unbuilt(name, &[], fault)),
-    };
+fn converted(name: &str, table: &Table, form: Form<'_>) -> Result<Vec<u8>, Fault> {
     if matches!(form, Form::Rows) && !table.trie.is_coherent() {
         let why = "not coherent, so its ranges may differ from its look-ups: no rows are written";
         return Err(about(name, why));
     }
-    match written(&table, form) {
+    match written(table, form) {
         Ok(bytes) => Ok(bytes),
+        Err(fault) => Err(unbuilt(name, &[], fault)),
+    }
+}
+
+/// Returns the table of a file in the form that the arguments name. `name` is what the file was
+/// read from.
+pub fn convert(matches: &ArgMatches, name: &str, file: &[u8]) -> Result<Vec<u8>, Fault> {
+    let table = table_in(matches, name, file, number(matches, "offset"))?;
+    match changed(matches, table) {
+        Ok(table) => converted(name, &table, form(matches)),
         Err(fault) => Err(unbuilt(name, &[], fault)),
     }
 }

@@ -94,14 +94,23 @@ fn show(rt: &HostRuntime, matches: &ArgMatches) -> Result<(), Fault> {
 
 /// Prints by `get` the value of each asked number in a table, or by `explain` how its look-up goes,
 /// in lines.
-fn get(rt: &HostRuntime, name: &str, matches: &ArgMatches) -> Result<(), Fault> {
+fn print_values(
+    rt: &HostRuntime,
+    command: &str,
+    table: &Table,
+    asked: &[u32],
+) -> Result<(), Fault> {
+    match command {
+        "get" => put_text(rt, answered(table, asked)),
+        _ => put_text(rt, explained(table, asked)),
+    }
+}
+
+/// Prints by `get` or `explain` what the arguments ask for.
+fn get(rt: &HostRuntime, command: &str, matches: &ArgMatches) -> Result<(), Fault> {
     let asked = asked(rt, matches)?;
     let table = table_at(rt, matches, "file", number(matches, "offset"))?;
-    let text = match name {
-        "get" => answered(&table, &asked),
-        _ => explained(&table, &asked),
-    };
-    put_text(rt, text)
+    print_values(rt, command, &table, &asked)
 }
 
 /// Prints the ranges in which two tables differ, in lines. Returns 1 if there is a line, and 0 if
@@ -112,11 +121,16 @@ fn print_differences(rt: &HostRuntime, first: &Table, second: &Table) -> Result<
     Ok(if text.is_empty() { 0 } else { 1 })
 }
 
+/// Prints the ranges in which a table and that of the second file differ, and returns the status.
+fn diff_from(rt: &HostRuntime, matches: &ArgMatches, first: &Table) -> Result<u8, Fault> {
+    let second = table_at(rt, matches, "second", None)?;
+    print_differences(rt, first, &second)
+}
+
 /// Prints the ranges in which the tables of two files differ, and returns the status.
 fn diff(rt: &HostRuntime, matches: &ArgMatches) -> Result<u8, Fault> {
     let first = table_at(rt, matches, "first", None)?;
-    let second = table_at(rt, matches, "second", None)?;
-    print_differences(rt, &first, &second)
+    diff_from(rt, matches, &first)
 }
 
 /// Does what a command asks for, and returns the status.
@@ -162,21 +176,25 @@ fn given_words(rt: &HostRuntime) -> Result<Vec<String>, Fault> {
     }
 }
 
-/// Does what the words ask for, and returns the status.
-fn status(rt: &HostRuntime, words: &[String]) -> u8 {
-    let Ok(command) = program_words() else {
-        return failed(rt, &Fault::Memory, false);
-    };
-    let matches = match command.try_get_matches_from(words) {
-        Ok(matches) => matches,
-        Err(error) => return not_taken(rt, &error),
-    };
+/// Does what the command asks for, and returns the status.
+fn status_of(rt: &HostRuntime, words: &[String], matches: &ArgMatches) -> u8 {
     let Some((name, matches)) = matches.subcommand() else {
         return 2;
     };
     match run(rt, words, name, matches) {
         Ok(status) => status,
         Err(fault) => failed(rt, &fault, name == "diff"),
+    }
+}
+
+/// Does what the words ask for, and returns the status.
+fn status(rt: &HostRuntime, words: &[String]) -> u8 {
+    let Ok(command) = program_words() else {
+        return failed(rt, &Fault::Memory, false);
+    };
+    match command.try_get_matches_from(words) {
+        Ok(matches) => status_of(rt, words, &matches),
+        Err(error) => not_taken(rt, &error),
     }
 }
 

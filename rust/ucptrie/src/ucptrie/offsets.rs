@@ -25,14 +25,20 @@ fn offsets_of(bytes: &[u8]) -> Result<Vec<usize>, AllocError> {
     Ok(offsets)
 }
 
+/// Appends offsets.
+fn push_offsets(line: &mut String, offsets: &[usize]) -> Result<(), AllocError> {
+    for offset in offsets {
+        write!(line, " {offset}")?;
+    }
+    Ok(())
+}
+
 /// Returns the line about a file with several tries.
 fn several_line(name: &str, offsets: &[usize]) -> Result<String, AllocError> {
     let mut line = String::new();
     let count = offsets.len();
     write!(line, "{name}: {count} tries, choose one by --offset:")?;
-    for offset in offsets.get(..LISTED).unwrap_or(offsets) {
-        write!(line, " {offset}")?;
-    }
+    push_offsets(&mut line, offsets.get(..LISTED).unwrap_or(offsets))?;
     if count > LISTED {
         line.try_push_str(" ..")?;
     }

@@ -139,6 +139,21 @@ fn asked_value<'n>(
     }
 }
 
+/// Returns the set of a value in lines whose values have these names.
+fn set_of_lines(
+    matches: &ArgMatches,
+    name: &str,
+    file: &[u8],
+    columns: Columns<'_>,
+    names: &[Name<'_>],
+) -> Result<CodePointInversionList<'static>, Fault> {
+    let (numbering, value) = asked_value(matches, name, columns, names)?;
+    match table_of_file(file, columns, numbering, options(u32::MAX)) {
+        Ok(table) => set_in_table(name, &table, value),
+        Err(fault) => Err(unread(name, file, fault)),
+    }
+}
+
 /// Returns the set of a value in a file of the Unicode Character Database. A code point without a
 /// line and without an `@missing` line has none of its values.
 fn set_of_unicode_file(
@@ -151,11 +166,7 @@ fn set_of_unicode_file(
     let columns = columns(matches, kind, name, file)?;
     let named = named_file(rt, matches)?;
     let names = names(matches, file, columns, &named)?;
-    let (numbering, value) = asked_value(matches, name, columns, &names)?;
-    match table_of_file(file, columns, numbering, options(u32::MAX)) {
-        Ok(table) => set_in_table(name, &table, value),
-        Err(fault) => Err(unread(name, file, fault)),
-    }
+    set_of_lines(matches, name, file, columns, &names)
 }
 
 /// Returns the set of a value in rows.

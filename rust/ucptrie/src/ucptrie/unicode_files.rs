@@ -22,6 +22,7 @@ use crate::ucptrie::tables::{form, number};
 use crate::ucptrie_tables::fault::UnicodeFileFault;
 use crate::ucptrie_tables::unicode_file::table_of_file;
 use crate::ucptrie_tables::value_names::names_source;
+use crate::ucptrie_tables::width::ValueWidth;
 use crate::ucptrie_tables::written::{Form, written};
 use clap::ArgMatches;
 
@@ -78,7 +79,11 @@ fn is_named(short: &str, long: &str, property: &[u8]) -> bool {
 }
 
 /// Returns the field of a property in `UnicodeData.txt`.
-fn unicode_data_field(property: &str) -> Result<usize, Fault> {
+fn unicode_data_field(property: Option<&str>) -> Result<usize, Fault> {
+    let Some(property) = property else {
+        let why = "the file has many properties: name one by --property or --field";
+        return Err(about("UnicodeData.txt", why));
+    };
     for (short, long, field) in UNICODE_DATA.iter() {
         if is_named(short, long, property.as_bytes()) {
             return Ok(*field);
@@ -100,6 +105,26 @@ fn is_simple_folding(file: &[u8], property: Option<&str>) -> bool {
     }
 }
 
+/// Returns where lines with code points in field 0 have their values. `name` is what they were read
+/// from.
+fn columns_of_lines<'a>(
+    property: Option<&'a str>,
+    name: &str,
+    file: &[u8],
+) -> Result<Columns<'a>, Fault> {
+    match property {
+        Some(property) if has_property(file, property.as_bytes()) => {
+            Ok(Columns::Property(property.as_bytes()))
+        }
+        property if is_simple_folding(file, property) => Ok(Columns::SimpleFolding),
+        None if has_overlap(file)? => {
+            let why = "a code point has two values: choose by --property or by --field";
+            Err(about(name, why))
+        }
+        _ => Ok(Columns::Field(1)),
+    }
+}
+
 /// Returns where the lines of a file have their values. `name` is what it was read from.
 pub fn columns<'a>(
     matches: &'a ArgMatches,
@@ -107,37 +132,24 @@ pub fn columns<'a>(
     name: &str,
     file: &[u8],
 ) -> Result<Columns<'a>, Fault> {
-    let is_unicode_data = matches!(kind, FileKind::UnicodeData);
-    match (
-        number(matches, "field"),
-        matches.get_one::<String>("property").map(String::as_str),
-    ) {
-        (Some(n), _) if is_unicode_data => Ok(Columns::UnicodeData(n as usize)),
-        (Some(n), _) => Ok(Columns::Field(n as usize)),
-        (None, Some(property)) if matches!(kind, FileKind::Unihan) => {
-            Ok(Columns::Unihan(property.as_bytes()))
-        }
-        (None, None) if matches!(kind, FileKind::Unihan) => {
-            let why = "the file has many properties: name one by --property";
-            Err(about(name, why))
-        }
-        (None, _) if matches!(kind, FileKind::CodePoints) => Ok(Columns::Field(0)),
-        (None, Some(property)) if is_unicode_data => {
-            Ok(Columns::UnicodeData(unicode_data_field(property)?))
-        }
-        (None, Some(property)) if has_property(file, property.as_bytes()) => {
-            Ok(Columns::Property(property.as_bytes()))
-        }
-        (None, None) if is_unicode_data => {
-            let why = "the file has many properties: name one by --property or --field";
-            Err(about("UnicodeData.txt", why))
-        }
-        (None, property) if is_simple_folding(file, property) => Ok(Columns::SimpleFolding),
-        (None, None) if has_overlap(file)? => {
-            let why = "a code point has two values: choose by --property or by --field";
-            Err(about(name, why))
-        }
-        _ => Ok(Columns::Field(1)),
+    if let Some(field) = number(matches, "field") {
+        return Ok(match kind {
+            FileKind::UnicodeData => Columns::UnicodeData(field as usize),
+            _ => Columns::Field(field as usize),
+        });
+    }
+    let property = matches.get_one::<String>("property").map(String::as_str);
+    match kind {
+        FileKind::CodePoints => Ok(Columns::Field(0)),
+        FileKind::UnicodeData => Ok(Columns::UnicodeData(unicode_data_field(property)?)),
+        FileKind::Unihan => match property {
+            Some(property) => Ok(Columns::Unihan(property.as_bytes())),
+            None => {
+                let why = "the file has many properties: name one by --property";
+                Err(about(name, why))
+            }
+        },
+        _ => columns_of_lines(property, name, file),
     }
 }
 
@@ -245,6 +257,18 @@ pub fn unread(name: &str, file: &[u8], fault: UnicodeFileFault) -> Fault {
     }
 }
 
+/// Appends the names of values as source, if the form is one.
+fn push_names(
+    bytes: &mut Vec<u8>,
+    form: Form<'_>,
+    width: ValueWidth,
+    names: &[Name<'_>],
+) -> Result<(), UnicodeFileFault> {
+    let source = names_source(form, width.bits(), names)?;
+    bytes.try_extend_from_slice(source.as_bytes())?;
+    Ok(())
+}
+
 /// Returns the table of a file, whose values have these names, in a form.
 fn built_of_file(
     matches: &ArgMatches,
@@ -257,8 +281,7 @@ fn built_of_file(
     let table = table_of_file(file, columns, numbering, options(matches))?;
     let mut bytes = written(&table, form)?;
     if matches!(numbering, Numbering::Names(_)) {
-        let source = names_source(form, table.width.bits(), names)?;
-        bytes.try_extend_from_slice(source.as_bytes())?;
+        push_names(&mut bytes, form, table.width, names)?;
     }
     Ok(bytes)
 }

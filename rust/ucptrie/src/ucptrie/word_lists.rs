@@ -60,18 +60,22 @@ fn key_line(name: &str, key: &str) -> Result<String, AllocError> {
     Ok(line)
 }
 
-/// Returns the trie of a file in the form that the arguments name. `name` is what the file was read
-/// from.
-pub fn word_list(matches: &ArgMatches, name: &str, file: &[u8]) -> Result<Vec<u8>, Fault> {
-    let form = form(matches);
-    let trie = trie(matches, name, file)?;
+/// Returns a trie in a form. `name` is what it was read from.
+fn converted(name: &str, trie: &Char16Trie<'_>, form: Form<'_>) -> Result<Vec<u8>, Fault> {
     if trie.data.is_empty() && !matches!(form, Form::Rows) {
         let why = "no words, and no units: UCharsTrie needs one word at least";
         return Err(about(name, why));
     }
-    match written(&trie, form) {
+    match written(trie, form) {
         Ok(bytes) => Ok(bytes),
         Err(RowsFault::Memory) => Err(Fault::Memory),
         Err(RowsFault::Key(key)) => Err(said(key_line(name, &key))),
     }
+}
+
+/// Returns the trie of a file in the form that the arguments name. `name` is what the file was read
+/// from.
+pub fn word_list(matches: &ArgMatches, name: &str, file: &[u8]) -> Result<Vec<u8>, Fault> {
+    let trie = trie(matches, name, file)?;
+    converted(name, &trie, form(matches))
 }

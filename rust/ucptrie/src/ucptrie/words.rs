@@ -338,8 +338,11 @@ const SET: [Argument; 11] = [
     CHECK,
 ];
 
-/// The commands: the name, the description and the arguments of each.
-static COMMANDS: [(&str, &str, &[Argument]); 8] = [
+/// The name, the description and the arguments of a command.
+type Row = (&'static str, &'static str, &'static [Argument]);
+
+/// The commands.
+static COMMANDS: [Row; 8] = [
     (
         "build",
         "Builds a table from rows or from a file of the Unicode Character Database",
@@ -424,13 +427,18 @@ fn command_of(
     Ok(command)
 }
 
+/// Adds commands to a program.
+fn with_commands(program: Command, commands: &[Row]) -> Result<Command, AllocError> {
+    let mut program = program;
+    for (name, about, arguments) in commands {
+        program = program.subcommand(command_of(name, about, arguments)?);
+    }
+    Ok(program)
+}
+
 /// Returns the program's command line in clap's form.
 pub fn program_words() -> Result<Command, AllocError> {
     let about = "Makes code point tries from rows, and reads them";
     let named = command_of("ucptrie", about, &[])?.version(VERSION);
-    let mut program = named.subcommand_required(true);
-    for (name, about, arguments) in COMMANDS.iter() {
-        program = program.subcommand(command_of(name, about, arguments)?);
-    }
-    Ok(program)
+    with_commands(named.subcommand_required(true), &COMMANDS)
 }
