@@ -62,14 +62,16 @@ if [ -n "${CODE:-}" ]; then
 fi
 
 # On some processors a loop takes half as long again at some code addresses, so all code is measured
-# at four offsets.
+# at four offsets. What compilers mark as cold, as look-ups above the fast limit, is placed apart.
 set -- -- "$@"
 for table in "$root"/tests/data/*.runs.txt ${TABLES:+"$TABLES"/*.runs.txt}; do
     set -- "${table%.runs.txt}.txt" "$@"
 done
 for shift in 0 16 32 48; do
-    printf '.section .note.GNU-stack,"",@progbits\n.text\n.p2align 6\n.fill %d\n' "$shift" |
-        gcc -x assembler -c -o "$work/shift" -
+    {
+        echo '.section .note.GNU-stack,"",@progbits'
+        printf '.section %s,"ax",@progbits\n.p2align 6\n.fill %d\n' .text.unlikely "$shift" .text "$shift"
+    } | gcc -x assembler -c -o "$work/shift" -
     g++ -o "$work/bench" "$work/shift" "$work"/*.o "$ours" $c $rust $libc -licuuc
     echo "bench: measures, our code $shift bytes past a multiple of 64" >&2
     "$work/bench" "$@" >"$work/measured.$shift"
