@@ -95,11 +95,11 @@ using if_temporary =
 
 // Returns the count that a function returned, or throws the error that it reports.
 inline std::size_t answered(std::int64_t answer) {
+    if (answer >= 0) return static_cast<std::size_t>(answer);
     if (answer == BKS_NO_MEMORY) throw std::bad_alloc();
     if (answer == BKS_NO_TEXT) throw text_refused();
     if (answer == BKS_NO_TRIE) throw set_refused("bekstaudi: no trie");
-    if (answer < 0) throw set_refused("bekstaudi: no set"); // BKS_NO_SET
-    return static_cast<std::size_t>(answer);
+    throw set_refused("bekstaudi: no set"); // BKS_NO_SET
 }
 
 // Returns the units of a text in UTF-16, as C has them.
@@ -380,8 +380,8 @@ public:
     // text is not empty and does not start with a character.
     std::string_view span(std::string_view text, bool held = true) const {
         view<char> bytes(text);
-        return text.substr(0, detail::answered(bks_frozen_span(words_.data(), words_.size(),
-                                                               bytes.data(), bytes.size(), held)));
+        return {text.data(), detail::answered(bks_frozen_span(words_.data(), words_.size(),
+                                                              bytes.data(), bytes.size(), held))};
     }
 
     // Returns the longest suffix of such characters. Throws text_refused if the text is not empty
