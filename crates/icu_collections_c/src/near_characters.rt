@@ -1,9 +1,9 @@
 //! The characters of a span as long as it is short, without tables. Those of each size have a loop
 //! of their own: in a text, a character mostly has the size of the one before it.
-ghost use Rattle.std.specs.Prelude.{◌≡◌, ℕ, ◌+◌, ◌<◌, ◌≤◌, Some, false, length, drop};
+ghost use Rattle.std.specs.Prelude.{◌≡◌, ℕ, ◌+◌, ◌<◌, ◌≤◌, Some, false, length, drop, slice_index};
 ghost use Rattle.icu_trie_text.specs.Utf8.{IsFirstPart};
 ghost use Rattle.icu_collections_c.specs.Frozen.{is_held};
-ghost use Rattle.icu_collections_c.specs.Inside.WideCharacters.{IsPassed};
+ghost use Rattle.icu_collections_c.specs.Inside.WideCharacters.{IsPassed, size_by_lead};
 
 use crate::frozen::contains;
 use crate::wide_characters::Passed;
@@ -130,6 +130,9 @@ pub(crate) fn past_near(table: &[u64], held: bool, bytes: &[u8], start: usize, f
     requires order { start < length bytes.now }
     ensures passed { IsPassed (Unit {0}) (is_held table.now) held bytes.now start result }
     ensures far { start + far ≤ length bytes.now → result.end + far ≤ length bytes.now }
+    ensures stops { let size = size_by_lead (slice_index bytes.now start) in
+        result.is_end ≡ false → result.end + far + size ≤ length bytes.now
+        → (c : ℕ) → ¬ (IsFirstPart (drop result.end bytes.now) (Some c) size) }
 {
     if bytes[start] < 0x80 {
         return past_alike::<1>(table, held, bytes, start, far);

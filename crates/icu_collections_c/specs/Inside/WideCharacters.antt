@@ -1,6 +1,6 @@
 -- Characters of three bytes in UTF-8, by the upper bits of their code points: all but the lowest
 -- six.
-use Rattle.std.specs.Prelude.{◌≡◌, ◌⊎◌, ℕ, ◌+◌, ◌*◌, ◌/◌, ◌%◌, ◌<◌, ◌≤◌, ◌==◌, ◌||◌, if◌then◌else◌, Bool, true, false, List, ◌++◌, encode_utf8, length, take, drop, slice_index}
+use Rattle.std.specs.Prelude.{◌≡◌, ◌⊎◌, ℕ, ◌+◌, ◌*◌, ◌/◌, ◌%◌, ◌<◌, ◌≤◌, ◌==◌, ◌||◌, nat_lt, if◌then◌else◌, Bool, true, false, List, ◌++◌, encode_utf8, length, take, drop, slice_index}
 use Rattle.std.specs.Char.{IsScalar}
 use Rattle.std.specs.Int.{bit_at}
 use mathlib.Core.Bool.{beq}
@@ -34,6 +34,12 @@ pub record AreWideTables (table : List ℕ) (held : Bool) (words others places :
   where
     pub long : AreLongTables table held words others
     pub wide : (b : ℕ) → b < 256 → slice_index places b ≡ wide_place table b
+
+-- How many bytes a character has that starts with this byte.
+abbrev pub size_by_lead : ℕ → ℕ
+size_by_lead lead =
+    if nat_lt lead 0x80 then 1
+    else (if nat_lt lead 0xE0 then 2 else (if nat_lt lead 0xF0 then 3 else 4))
 
 -- From `start` to before `end` are characters of the kind. If `is_end` is true, a character that is
 -- not of the kind follows them.
