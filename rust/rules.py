@@ -14,8 +14,6 @@ ALLOCATING = (
     "icu_text_sets icu_frozen_sets icu_char16trie_builder icu_trie_map icu_trie_compaction"
     " icu_trie_builder"
 ).split()
-# Modules that are left out.
-LEFT_OUT = []
 # Functions that allocate. rust/face has functions with these names that panic if that fails.
 TRIED = (
     "add_char add32 add_range add_range32 add_set remove_char remove32 remove_range remove_range32"

@@ -1,5 +1,5 @@
-"""The Rust edition as rust/tests/run needs it: written anew, with our crates of tests in it, or without
-what depends on other crates."""
+"""The Rust edition as rust/tests/run needs it: written anew, with its tests in it, or without what
+depends on other crates."""
 import filecmp
 import glob
 import importlib.machinery
@@ -9,11 +9,9 @@ import re
 import shutil
 import sys
 
-sys.path.insert(0, f"{os.path.dirname(os.path.realpath(__file__))}/../../tests/lib")
-import public_calls
+from memory_tests import calls_in
 from rust_rules import (
-    FORM_MODULES, FORM_RULES, KNOWN, NOT_SWEPT, OTHER_HEADERS, OTHER_NAMES, TEST_NAMES, TEST_RULES,
-    TESTS, UNKNOWN
+    FORM_RULES, KNOWN, NOT_SWEPT, OTHER_HEADERS, TESTED, TEST_NAMES, TEST_RULES, UNKNOWN
 )
 
 TOP = os.path.dirname(os.path.dirname(os.path.dirname(os.path.realpath(__file__))))
@@ -101,24 +99,12 @@ def is_as_made(made, folder):
     return not failed
 
 
-def runs_all():
-    """Whether each of our crates that has tests is one of those that run."""
-    paths = glob.glob(f"{TOP}/crates/*/src/**/*.rt", recursive=True)
-    tested = {os.path.relpath(it, TOP).split("/")[1] for it in paths if "#[test]" in read(it)}
-    for crate in sorted(tested - {*TESTS}):
-        print(f"crates/{crate} has tests, and is not in TESTS of rust/tests/rust_rules.py")
-    return tested <= {*TESTS}
-
-
 def sweeps_all(made):
     """Whether each public function that can report a failed allocation is named, as in the edition,
     by a test in rust/tests/src/public, which lets its allocations fail."""
     named = "".join(read(it) for it in glob.glob(f"{PARTS}/public/refused_*.rs"))
     failed = []
-    for call, memory in public_calls.public_calls().items():
-        owner, name = call.rsplit("::", 1)
-        tried = "try_" if name in [*made.TRIED, "build_from_writes"] else ""
-        call = OTHER_NAMES.get(call, f"{owner}::{tried}{name}")
+    for call, memory in calls_in(made).items():
         if memory == "answers" and f'"{call}"' not in named and not re.search(NOT_SWEPT, call):
             print(f"{call}: no test in rust/tests/src/public lets its allocations fail")
             failed.append(call)
@@ -132,11 +118,10 @@ def cut(folder):
 
 
 def add_tests(made, folder):
-    """Puts the crates of tests into a crate that was made, as modules of its own, and the files of
-    rust/tests/src beside them."""
-    made.LEFT_OUT += [] if HAS_FORMATS else FORM_MODULES
-    made.make(folder, TESTS, TEST_RULES if HAS_FORMATS else TEST_RULES + FORM_RULES)
-    for crate in TESTS:
+    """Puts the files of rust/tests/src into a crate that was made, and our crates that they call, as
+    modules of its own."""
+    made.make(folder, TESTED, TEST_RULES if HAS_FORMATS else TEST_RULES + FORM_RULES)
+    for crate in TESTED:
         for path in glob.glob(f"{folder}/src/{crate}/**/*.rs", recursive=True):
             text = read(path)
             place = re.match(r"(?://!.*\n)*\n*", text).end()
@@ -150,7 +135,7 @@ def add_tests(made, folder):
     write(f"{folder}/Cargo.toml", needed, "a")
     names = "".join(
         f"#[cfg(test)]\n#[allow(dead_code, unused_imports, unused_variables)]\nmod {name};\n"
-        for name in ["ledger", "runtime", "refusals", "icu_collections", "tables", "callers", "flags", *FORMS, *TESTS]
+        for name in ["ledger", "runtime", "refusals", "memory", "icu_collections", "tables", "callers", "flags", *FORMS, *TESTED]
     )
     write(f"{folder}/src/lib.rs", f"#[cfg(test)]\nextern crate std;\n{names}", "a")
 

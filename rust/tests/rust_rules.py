@@ -1,62 +1,22 @@
-"""What rust/tests/run has beside the rules of rust/make: which of our crates of tests run as Rust, what
-they need that the code doesn't, and forms that rust/make has to refuse."""
+"""What rust/tests/run has beside the rules of rust/make: which of our crates beside the library run as
+Rust, what they need that the code doesn't, and forms that rust/make has to refuse."""
 
-# Our crates of tests, and what they test beside the library.
-TESTS = "packed_tests trie_tests ucptab_table uses".split()
-# Modules that need JSON or TOML.
-FORM_MODULES = (
-    "packed_tests/tests/json_values packed_tests/tests/sets/code_points/json"
-    " packed_tests/tests/sets/texts/json packed_tests/tests/unit_tries/json"
-    " trie_tests/tests/formats/json"
-    " trie_tests/tests/formats/trie_toml"
-).split()
-# A test of memory becomes one that runs it by a function of `rust/tests/src/refusals.rs`.
-RUN_BY = r"#[test]\nfn \1() {\n    %s(\1_once);\n}\n\nfn \1_once("
-# What tests of Rattle have besides the code: a runtime in hand, and assertions that name it.
+# Our crates that tests call beside the library.
+TESTED = "ucptab_table uses".split()
+# What these have in another form, beside the rules of rust/rules.py.
 TEST_RULES = [
-    # serde_json cannot report a failed allocation.
-    (r"#\[test\]\s*fn (?!to_json)(\w+_refused)\(", RUN_BY % "each_refused"),
-    (r"#\[test\]\s*fn (\w+_quiet)\(", RUN_BY % "none_asked"),
-    (
-        r"(#\[test\]\s*fn \w+\()(?:mut )?rt: HostRuntime\)([^{]*)\{",
-        r"\1)\2{\n    let rt = HostRuntime;",
-    ),
-    (r"\b(assert|assert_eq|assert_ne|panic)!\(&?rt;\s*", r"\1!("),
-    (r"\.expect\(&?rt, ", ".expect("),
-    (r"\(impl Abort \+ AllocGlobal\)", "impl Abort"),
-    (r"impl (?:Abort \+ )?AllocGlobal\b", "impl Abort"),
-    (r"\.clone\(\)(?:\.ok\(\))?\?", ".clone()"),
     (r"\.collect(?:::<Vec<_>>)?\((rt\.alloc\(\)|alloc)\)", ".listed()"),
-    (r"\.sort\((?:rt\.alloc\(\)|alloc)?\)\?", ".sort()"),
-    (r"(String::from_utf16_lossy\()(?:rt\.alloc\(\)|alloc), (\w+)\)\?", r"\1\2)"),
-    (r"use std::(?:test::Fail|process::Abort);\n", ""),
-    (r"use std::hash::\{DefaultHasher, ", "use std::hash::{"),
-    # The counter of reads is a ghost in the code, and a type of the tests' ledger.
-    (r"use icu_trie::cells::\{Cells, Steps\};", "use icu_trie::cells::Cells;\nuse crate::ledger::Steps;"),
     (r"\bstd::convert\b", "core::convert"),
-    (r"\.to_string\((?=rt)", ".try_to_string("),
-    (r"\.push_str\(", ".try_push_str("),
-    (r"\bprintln!\(rt; \x02\d+\x03\)", "rt.println(line)"),
-    (r"(\btrie|\btrie_of_two\([^()]*\)|clone\((?:alloc)?\)\??)(\.try_into_converted)\b", r"\1\2_explained"),
-    # What is needed beside JSON and TOML.
-    (r"\bValue::from_str\((?:alloc, )?", "serde_json::from_str::<Value>("),
-    (r"\btoml::table_from_str\(alloc, ", "table_from_str("),
-    (r"use std::str;\n", ""),
-    (r"let alloc = (?:self\.)?rt\.alloc\(\);\s*", ""),
-    (r"\balloc: std::alloc::Global\b", "alloc: Global"),
+    (r"\btrie\.try_into_converted\b", r"\g<0>_explained"),
 ]
-# Words of functions that need JSON in the other modules: these go, and what is imported for them.
-JSON_WORDS = (
-    r"\w+_json_refused|JsonError|<Value,|(?:: |\()Value\b|\bjson::(?:to|from)_json\b"
-    r"|\berrors::(?:read_with_strings|table_read_back)\b|\bsets::stored\b|\btables::stored_value\b"
-)
+# Without JSON, the functions that need it go, and what is imported for them.
 FORM_RULES = [
     (
-        r"(?ms)^(?:\x01\d+\x03\n)*(?:#\[test\]\n)?(?:pub )?fn (?:(?!^\}).)*?"
-        rf"(?:{JSON_WORDS})(?:(?!^\}}).)*^\}}\n",
+        r"(?ms)^(?:\x01\d+\x03\n)*(?:pub )?fn (?:(?!^\}).)*?"
+        r"(?:JsonError|\bjson::(?:to|from)_json\b)(?:(?!^\}).)*^\}\n",
         "",
     ),
-    (r"\b\w+JsonError, |, \w+JsonError\b|use serde_json::Value;\n", ""),
+    (r"\b\w+JsonError, |, \w+JsonError\b", ""),
 ]
 # Functions that have other names in the edition than TRIED in rust/rules.py says.
 OTHER_NAMES = {
@@ -66,7 +26,12 @@ OTHER_NAMES = {
     "CodePointInversionList::try_from_u32_inversion_list_slice":
         "CodePointInversionList::try_from_u32_inversion_list_slice_fallible",
     "CodePointTrie::try_alloc_map_value": "CodePointTrie::try_alloc_map_value_fallible",
+    "CodePointTrie::try_into_converted": "CodePointTrie::try_into_converted_explained",
+    "CodePointInversionListAndStringList::strings":
+        "CodePointInversionListAndStringList::string_slice",
 }
+# Methods that only proofs use, which the edition lacks.
+ONLY_PROVED = r"::shown$"
 # Functions whose allocations do not fail in turn: an internal one, and those that write JSON.
 NOT_SWEPT = r"::from_valid_slice$|::to_json$"
 # Forms that rust/make does not know.
@@ -109,5 +74,5 @@ OTHER_HEADERS = [
     ("BKS_NO_SET = -11 ", "BKS_NO_SET = -11, BKS_NO_WORD = -12 "),
     ("} bks_word;", "    int32_t other;\n} bks_word;"),
 ]
-# What each source of them sees.
+# What each source of the crates in TESTED sees.
 TEST_NAMES = "#[allow(unused_imports)]\nuse crate::runtime::*;\n"

@@ -1,4 +1,4 @@
-//! The crate `icu_collections`, as the tests name it.
+//! The crate `icu_collections`, as `uses` names it.
 
 pub(crate) mod codepointtrie {
     pub(crate) use crate::codepointtrie::*;

@@ -1,36 +1,9 @@
-//! The parts of Rattle's runtime that tests use, for our crates of tests as modules of this crate.
+//! The parts of Rattle's std that `ucptab_table` and `uses` need as modules of this crate, and random
+//! numbers.
 
-pub(crate) use crate::refusals::{each_refused, hear, none_asked};
 pub(crate) use crate::support::AllocError;
-pub(crate) use crate::{ucptab_table, uses};
 use alloc::string::String;
 use core::fmt;
-pub(crate) use std::hash::DefaultHasher;
-
-/// Why a test failed before it could compare.
-pub(crate) type Fail = std::boxed::Box<dyn std::error::Error>;
-
-/// The runtime of a test.
-pub(crate) struct HostRuntime;
-
-/// What may end the test.
-pub(crate) trait Abort {
-    fn panic(&self, what: impl fmt::Display) -> ! {
-        panic!("{what}")
-    }
-}
-
-impl Abort for HostRuntime {}
-
-/// What may print.
-pub(crate) trait Print {
-    fn println(&self, line: &str) -> Result<(), fmt::Error> {
-        hear(line);
-        Ok(())
-    }
-}
-
-impl Print for HostRuntime {}
 
 /// A text that grows, or an error if an allocation fails.
 pub(crate) trait Text {
@@ -54,24 +27,6 @@ impl fmt::Write for Growing<'_> {
     }
 }
 
-/// The text of these parts, or an error if an allocation fails.
-pub(crate) fn text_of(parts: fmt::Arguments<'_>) -> Result<String, AllocError> {
-    let mut text = String::new();
-    Text::write_fmt(&mut text, parts)?;
-    Ok(text)
-}
-
-/// A value as a text.
-pub(crate) trait TryToString {
-    fn try_to_string(&self) -> Result<String, AllocError>;
-}
-
-impl<T: fmt::Display> TryToString for T {
-    fn try_to_string(&self) -> Result<String, AllocError> {
-        text_of(core::format_args!("{self}"))
-    }
-}
-
 /// The items of an iterator as a vector.
 pub(crate) trait Listed: Iterator + Sized {
     fn listed(self) -> Result<alloc::vec::Vec<Self::Item>, AllocError> {
@@ -80,21 +35,6 @@ pub(crate) trait Listed: Iterator + Sized {
 }
 
 impl<I: Iterator> Listed for I {}
-
-/// What may be read, and why it may not be.
-pub(crate) use std::{fs, io};
-
-impl From<AllocError> for io::Error {
-    fn from(_error: AllocError) -> io::Error {
-        io::ErrorKind::OutOfMemory.into()
-    }
-}
-
-impl<T> From<crate::support::AllocFailed<T>> for io::Error {
-    fn from(_error: crate::support::AllocFailed<T>) -> io::Error {
-        io::ErrorKind::OutOfMemory.into()
-    }
-}
 
 /// The random numbers of PCG XSH RR 64/32.
 pub(crate) struct Pcg32(u64, u64);

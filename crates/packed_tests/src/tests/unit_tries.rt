@@ -1,7 +1,0 @@
-//! Unit tries. The units and their entries are those of the format's description.
-
-mod cursors;
-mod dictionaries;
-mod json;
-mod refused_memory;
-pub mod support;

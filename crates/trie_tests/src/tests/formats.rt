@@ -1,9 +1,0 @@
-//! Tries in JSON, TOML and ICU's binary form, and the trie of the planes.
-mod binary;
-mod binary_swapped;
-mod binary_tables;
-mod binary_written;
-mod json;
-mod planes;
-mod support;
-mod trie_toml;

@@ -1,0 +1,127 @@
+//! Failed allocations, and functions that do not allocate.
+
+use super::*;
+use crate::icu_zerovec::MemoryError;
+use crate::memory::packed::sets::points::all;
+use crate::memory::packed::support::{expect, expect_same, tell};
+use crate::refusals::{each_refused, none_asked, say};
+use crate::support::prelude::*;
+
+/// Expects the set to be "a" and "ab". Checks nothing if making another one fails to
+/// allocate.
+pub fn expect_a_and_ab(set: &CodePointInversionListAndStringList<'_>) {
+    if let Some(want) = a_and_ab() {
+        expect(are_equal(set, &want), "as it was");
+    }
+}
+
+/// Says that the call is done. Expects the set, if it was made, to have a code point and two
+/// strings.
+pub fn expect_gathered(made: Option<CodePointInversionListAndStringList<'_>>) {
+    tell(made.is_none());
+    if let Some(set) = made {
+        expect_same(counts_of(&set), [3, 1, 2], "members and strings");
+    }
+}
+
+/// A set is made from texts, which are unchanged.
+///
+/// Calls: `CodePointInversionListAndStringList::try_from_iter`.
+#[test]
+fn from_iter_refused() {
+    each_refused(|| {
+        let texts = ["xyz", "a", "abc"];
+        say("call");
+        let made = gathered(&texts);
+        expect_gathered(made);
+        expect_same(texts, ["xyz", "a", "abc"], "as they were");
+    });
+}
+
+/// Calls: `CodePointInversionListAndStringList::try_clone`.
+#[test]
+fn try_clone_refused() {
+    each_refused(|| {
+        let Some(set) = a_and_ab() else {
+            return;
+        };
+        say("call");
+        let is_refused = set.try_clone().is_err();
+        tell(is_refused);
+        expect_a_and_ab(&set);
+    });
+}
+
+/// Returns a list of one string.
+fn strings_of(text: &str) -> Result<Vec<String>, MemoryError> {
+    let string = String::from_str(text)?;
+    let mut strings = Vec::new();
+    strings.try_push(string)?;
+    Ok(strings)
+}
+
+/// Returns whether all code points and these strings are a set.
+fn is_set(strings: Vec<String>) -> bool {
+    CodePointInversionListAndStringList::try_from(all(), strings).is_ok()
+}
+
+/// Strings, and whether they can be in the list of a set: one of a single character belongs among
+/// the code points.
+static STRINGS: [(&str, bool); 2] = [("abc", true), ("a", false)];
+
+/// Calls: `CodePointInversionListAndStringList::try_from`.
+#[test]
+fn try_from_quiet() {
+    none_asked(|| {
+        for (text, want) in STRINGS.iter() {
+            let Ok(strings) = strings_of(text) else {
+                return;
+            };
+            say("call");
+            let found = is_set(strings);
+            say("done");
+            expect_same(found, *want, text);
+        }
+    });
+}
+
+/// Returns whether the set contains the text, and whether it contains the text of its bytes.
+fn holds_text(set: &CodePointInversionListAndStringList<'_>, text: &str) -> [bool; 2] {
+    [set.contains_str(text), set.contains_utf8(text.as_bytes())]
+}
+
+/// Returns whether the set contains the character, and whether it contains its number.
+fn holds_points(set: &CodePointInversionListAndStringList<'_>, ch: char, cp: u32) -> [bool; 2] {
+    [set.contains(ch), set.contains32(cp)]
+}
+
+/// Texts in any order, one of them twice, and one of them a single character.
+///
+/// Calls: `CodePointInversionListAndStringList::size`,
+/// `CodePointInversionListAndStringList::code_points`,
+/// `CodePointInversionListAndStringList::string_slice`,
+/// `CodePointInversionListAndStringList::has_strings`,
+/// `CodePointInversionListAndStringList::contains`,
+/// `CodePointInversionListAndStringList::contains32`,
+/// `CodePointInversionListAndStringList::contains_str`,
+/// `CodePointInversionListAndStringList::contains_utf8`.
+#[test]
+fn gathered_quiet() {
+    none_asked(|| {
+        let Some(set) = gathered(&["a", "abc", "xyz", "abc"]) else {
+            return;
+        };
+        say("call");
+        let counts = counts_of(&set);
+        let points = (set.has_strings(), holds_points(&set, 'a', 0x61));
+        let held = [holds_text(&set, "abc"), holds_text(&set, "a")];
+        let not_held = [holds_text(&set, "ab"), holds_text(&set, "b")];
+        let others = [set.contains_utf8(&[0xFF]), are_equal(&set, &set)];
+        say("done");
+        expect_same(counts, [3, 1, 2], "size, code points, strings");
+        expect_same(points, (true, [true; 2]), "strings, a, its number");
+        expect_same(held, [[true; 2]; 2], "abc, a as a text");
+        expect_same(not_held, [[false; 2]; 2], "ab, b as a text");
+        expect_same(others, [false, true], "no text, equal to itself");
+    });
+}

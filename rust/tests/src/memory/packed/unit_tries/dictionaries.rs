@@ -1,0 +1,164 @@
+//! The keys that are prefixes of a text: the longest one, and all of them. Finding them does not
+//! allocate.
+
+use super::support::{A_AB, LEAD_PAIR, SIX, some_trie};
+use crate::icu_char16trie::char16trie::Char16Trie;
+use crate::memory::packed::support::expect_done;
+use crate::refusals::{none_asked, say};
+
+/// The units of a trie of the empty key with the value 7 and "a" with 1.
+const EMPTY_A: [u16; 3] = [0x230, 0x61, 0x8001];
+
+/// A text of units or of characters.
+enum Text {
+    Units(&'static [u16]),
+    Characters(&'static str),
+}
+
+/// The units of a trie, a text, and the length and value of the longest key that is a prefix of the
+/// text.
+type Row = (&'static [u16], Text, Option<(usize, i32)>);
+
+static LONGEST: [Row; 35] = [
+    (&A_AB, Text::Units(&[0x61, 0x62, 0x63]), Some((2, 2))),
+    (&A_AB, Text::Units(&[0x61, 0x62]), Some((2, 2))),
+    (&A_AB, Text::Units(&[0x61, 0x63]), Some((1, 1))),
+    (&A_AB, Text::Units(&[0x61]), Some((1, 1))),
+    (&A_AB, Text::Units(&[0x62]), None),
+    (&A_AB, Text::Units(&[]), None),
+    // A key in the text, but not at its start.
+    (&A_AB, Text::Units(&[0x63, 0x61]), None),
+    // The empty key is a prefix of every text.
+    (&[0x8007], Text::Units(&[]), Some((0, 7))),
+    (&[0x8007], Text::Units(&[0x61]), Some((0, 7))),
+    (&EMPTY_A, Text::Units(&[]), Some((0, 7))),
+    (&EMPTY_A, Text::Units(&[0x62]), Some((0, 7))),
+    (&EMPTY_A, Text::Units(&[0x61, 0x61]), Some((1, 1))),
+    // A text that ends within a linear match.
+    (&[0x31, 0x61, 0x62, 0x8003], Text::Units(&[0x61]), None),
+    (
+        &[0x31, 0x61, 0x62, 0x8003],
+        Text::Units(&[0x61, 0x62]),
+        Some((2, 3)),
+    ),
+    (
+        &[0x31, 0x61, 0x62, 0x8003],
+        Text::Units(&[0x61, 0x61, 0x62]),
+        None,
+    ),
+    (&SIX, Text::Units(&[0x63, 0x63]), Some((1, 3))),
+    (&SIX, Text::Units(&[0x67]), None),
+    // Units are matched, not characters.
+    (&LEAD_PAIR, Text::Units(&[0xD83D, 0xDE01]), Some((1, 1))),
+    (&LEAD_PAIR, Text::Units(&[0xD83D, 0xDE00]), Some((2, 2))),
+    // Invalid units: if a needed unit is missing, there is no match, and a truncated value is 0.
+    (&[], Text::Units(&[0x61]), None),
+    (&[0xFFFF], Text::Units(&[0x61]), Some((0, 0))),
+    (&[0x30], Text::Units(&[0x61]), None),
+    (
+        &[1, 0x61, 0x3FFF, 0x62, 0x8002],
+        Text::Units(&[0x61, 0x62]),
+        None,
+    ),
+    (
+        &[1, 0x61, 0x3FFF, 0x62, 0x8002],
+        Text::Units(&[0x62]),
+        Some((1, 2)),
+    ),
+    // In a text of characters, the length of a key is in bytes.
+    (&A_AB, Text::Characters("abc"), Some((2, 2))),
+    (&A_AB, Text::Characters("ac"), Some((1, 1))),
+    (&A_AB, Text::Characters(""), None),
+    (&A_AB, Text::Characters("\u{e9}"), None),
+    (&EMPTY_A, Text::Characters("\u{e9}"), Some((0, 7))),
+    (
+        &[0x30, 0xE9, 0x8001],
+        Text::Characters("\u{e9}s"),
+        Some((2, 1)),
+    ),
+    (
+        &[0x31, 0x4E2D, 0x61, 0x8005],
+        Text::Characters("\u{4e2d}ab"),
+        Some((4, 5)),
+    ),
+    (&LEAD_PAIR, Text::Characters("\u{1f600}a"), Some((4, 2))),
+    // A key that ends between the two units of a character.
+    (&LEAD_PAIR, Text::Characters("\u{1f601}"), None),
+    (&[0x30, 0xD83D, 0x8001], Text::Characters("\u{1f600}"), None),
+    (&[], Text::Characters("a"), None),
+];
+
+/// The units of a trie, a text, and all keys that are prefixes of the text, which are at most two.
+type AllRow = (&'static [u16], &'static [u16], [Option<(usize, i32)>; 3]);
+
+static ALL: [AllRow; 7] = [
+    (
+        &A_AB,
+        &[0x61, 0x62, 0x63],
+        [Some((1, 1)), Some((2, 2)), None],
+    ),
+    (&A_AB, &[0x61], [Some((1, 1)), None, None]),
+    (&A_AB, &[0x62, 0x61], [None; 3]),
+    (&EMPTY_A, &[0x61], [Some((0, 7)), Some((1, 1)), None]),
+    (&EMPTY_A, &[], [Some((0, 7)), None, None]),
+    (
+        &LEAD_PAIR,
+        &[0xD83D, 0xDE00],
+        [Some((1, 1)), Some((2, 2)), None],
+    ),
+    (&[], &[0x61], [None; 3]),
+];
+
+/// Returns the longest key that is a prefix of a text.
+fn longest_of(trie: &Char16Trie<'_>, text: &Text) -> Option<(usize, i32)> {
+    match text {
+        Text::Units(units) => trie.longest_match(units),
+        Text::Characters(text) => trie.longest_match_str(text),
+    }
+}
+
+/// Expects this longest key that is a prefix of a text.
+fn expect_longest(units: &[u16], text: &Text, want: Option<(usize, i32)>) {
+    let Some(trie) = some_trie(units) else {
+        return;
+    };
+    say("call");
+    let found = longest_of(&trie, text);
+    expect_done((units, found), (units, want), "the longest match");
+}
+
+/// Calls: `Char16Trie::longest_match`, `Char16Trie::longest_match_str`.
+#[test]
+fn longest_matches_quiet() {
+    none_asked(|| {
+        for (units, text, want) in LONGEST.iter() {
+            expect_longest(units, text, *want);
+        }
+    });
+}
+
+/// Returns the first three items of the matches of a text, which has at most two.
+fn three_matches(trie: &Char16Trie<'_>, text: &[u16]) -> [Option<(usize, i32)>; 3] {
+    let mut matches = trie.matches(text);
+    [matches.next(), matches.next(), matches.next()]
+}
+
+/// Expects exactly these keys to be prefixes of a text.
+fn expect_matches(units: &[u16], text: &[u16], want: [Option<(usize, i32)>; 3]) {
+    let Some(trie) = some_trie(units) else {
+        return;
+    };
+    say("call");
+    let found = three_matches(&trie, text);
+    expect_done((units, found), (units, want), "all matches");
+}
+
+/// Calls: `Char16Trie::matches`, `Matches::next`.
+#[test]
+fn matches_quiet() {
+    none_asked(|| {
+        for (units, text, want) in ALL.iter() {
+            expect_matches(units, text, *want);
+        }
+    });
+}
