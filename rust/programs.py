@@ -13,6 +13,7 @@ PROGRAMS = {
     "ucptrie": [
         "ucptrie",
         "ucptrie_sets",
+        "ucptrie_source",
         "ucptrie_tables",
         "ucptrie_words",
         "ucd_files",

@@ -3,6 +3,8 @@ use crate::source::{frozen_with_title, push_boundaries, push_indices, push_words
 use icu_frozen_sets::frozen::FrozenTables;
 use icu_invlist::codepointinvlist::CodePointInversionList;
 use std::alloc::{AllocError, Global};
+use ucptrie_source::pattern::Number::Decimal;
+use ucptrie_source::pattern::{push_named, push_pattern};
 
 /// The search in the boundaries.
 const SEARCH: &str = "
@@ -15,10 +17,13 @@ const SEARCH: &str = "
 }
 ";
 
-/// What the boundaries are.
-const BOUNDARIES: &str = "    \
-/// The set starts at the first boundary, ends before the second one, and so on.
+/// What precedes the boundaries. `@` is replaced by the name, and `%` by their number.
+const BOUNDARIES: &str = "\
+#[allow(dead_code, clippy::module_inception)]
+pub mod @ {
+    /// The set starts at the first boundary, ends before the second one, and so on.
     #[rustfmt::skip]
+    pub static BOUNDARIES: [u32; %] = [
 ";
 
 /// Returns the set in Rust: a module with the boundaries, and a search in them.
@@ -27,14 +32,9 @@ pub(crate) fn rust_text(
     set: &CodePointInversionList<'_>,
     name: &str,
 ) -> Result<String, AllocError> {
+    let length = [Decimal(set.as_inversion_list().len())];
     let mut text = title_of(alloc, set)?;
-    writeln!(
-        text,
-        "#[allow(dead_code, clippy::module_inception)]\npub mod {name} {{"
-    )?;
-    text.push_str(BOUNDARIES)?;
-    let length = set.as_inversion_list().len();
-    writeln!(text, "    pub static BOUNDARIES: [u32; {length}] = [")?;
+    push_pattern(&mut text, BOUNDARIES, name, &length)?;
     push_boundaries(&mut text, set)?;
     text.push_str(SEARCH)?;
     Ok(text)
@@ -55,27 +55,29 @@ const LOOK_UP: &str = "
 }
 ";
 
-/// What the tables are.
-const INDEX: &str = "    \
-/// For each block of 256 code points, the index of the first of its four words.
+/// What precedes the indices. `@` is replaced by the name.
+const INDEX: &str = "\
+#[allow(dead_code, clippy::module_inception)]
+pub mod @ {
+    /// For each block of 256 code points, the index of the first of its four words.
     #[rustfmt::skip]
     pub static INDEX: [u16; 4352] = [
 ";
 
+/// What precedes the words. `%` is replaced by their number.
+const WORDS: &str = "
+    ];
+
+    /// A bit for each code point of a block, 64 in each word.
+    #[rustfmt::skip]
+    pub static WORDS: [u64; %] = [
+";
+
 /// Appends a module with the tables of a frozen set, and a look-up in them.
 fn push_frozen(text: &mut String, tables: FrozenTables<'_>, name: &str) -> Result<(), AllocError> {
-    writeln!(
-        text,
-        "#[allow(dead_code, clippy::module_inception)]\npub mod {name} {{"
-    )?;
-    text.push_str(INDEX)?;
+    push_named(text, INDEX, name)?;
     push_indices(text, tables.index)?;
-    text.push_str("\n    ];\n\n    /// A bit for each code point of a block, 64 in each word.\n")?;
-    let length = tables.words.len();
-    writeln!(
-        text,
-        "    #[rustfmt::skip]\n    pub static WORDS: [u64; {length}] = ["
-    )?;
+    push_pattern(text, WORDS, "", &[Decimal(tables.words.len())])?;
     push_words(text, tables.words)?;
     text.push_str(LOOK_UP)
 }

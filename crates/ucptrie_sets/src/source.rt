@@ -2,21 +2,23 @@
 use icu_frozen_sets::frozen::FrozenCodePointSet;
 use icu_invlist::codepointinvlist::CodePointInversionList;
 use std::alloc::{AllocError, Global};
+use ucptrie_source::pattern::Number::Decimal;
+use ucptrie_source::pattern::push_pattern;
 
 /// How many cells a line has.
 const CELLS_IN_LINE: usize = 8;
+
+/// The first line of source. Each `%` is replaced by a number.
+const TITLE: &str = "// Made by ucptrie: a set of % code points in % ranges.\n";
 
 /// Returns the first line of source, a comment with the number of ranges.
 pub(crate) fn title_of(
     alloc: Global,
     set: &CodePointInversionList<'_>,
 ) -> Result<String, AllocError> {
-    let (size, ranges) = (set.size(), set.get_range_count());
+    let sizes = [Decimal(set.size() as usize), Decimal(set.get_range_count())];
     let mut text = String::new(alloc);
-    writeln!(
-        text,
-        "// Made by ucptrie: a set of {size} code points in {ranges} ranges."
-    )?;
+    push_pattern(&mut text, TITLE, "", &sizes)?;
     Ok(text)
 }
 

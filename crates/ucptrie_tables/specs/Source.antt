@@ -1,13 +1,9 @@
--- Source in C and in Rust: its names, and a pattern with a name.
-use Rattle.std.specs.Prelude.{ℕ, ◌==◌, ◌||◌, ◌&&◌, not, Bool, true, false, List, [], ◌∷◌, if◌then◌else◌}
+-- Source in C and in Rust: its names.
+use Rattle.std.specs.Prelude.{ℕ, ◌==◌, ◌||◌, ◌&&◌, not, Bool, true, false, List, [], ◌∷◌}
 use Rattle.std.specs.Char.{is_ascii_alphanumeric, is_ascii_digit}
-use Rattle.std.specs.List.{flat_map, list_all}
+use Rattle.std.specs.List.{list_all}
 use Rattle.ucptrie_tables.specs.declared.written.Form.{Form}
 use Rattle.ucptrie_tables.specs.declared.written.Form.TheVariants.{C, Rust}
-
--- A pattern with a name in place of each `@`.
-abbrev pub named : List ℕ → List ℕ → List ℕ
-named name pattern = flat_map (λ b. if b == 64 then name else b ∷ []) pattern
 
 -- A byte that a name in C and in Rust can have: an ASCII letter or digit, or `_`.
 abbrev pub is_name_byte : ℕ → Bool

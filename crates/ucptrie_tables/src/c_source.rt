@@ -1,10 +1,10 @@
 //! A table as source in C.
 use crate::cells::push_cells;
-use crate::pattern::Number::{Decimal, Hexadecimal};
-use crate::pattern::{push_named, push_pattern};
 use crate::source::{header_numbers, index1_offset, push_sizes};
 use crate::table::Table;
 use std::alloc::{AllocError, Global};
+use ucptrie_source::pattern::Number::{Decimal, Hexadecimal};
+use ucptrie_source::pattern::{push_named, push_pattern};
 
 /// The look-up in the three stages of the format, without ICU. Each `@` is replaced by the
 /// name.

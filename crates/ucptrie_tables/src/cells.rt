@@ -1,20 +1,8 @@
 //! The cells of a trie as numbers in a text.
-use crate::pattern::{Number, push_number};
 use icu_trie::value::TrieValue;
 use icu_zerovec::ZeroSlice;
 use std::alloc::AllocError;
-
-/// How many cells a line has.
-const CELLS_IN_LINE: usize = 16;
-
-/// Returns a number as ICU's tools write it: in decimal up to 9, and in hexadecimal above.
-fn number_of(cell: u32) -> Number {
-    if cell <= 9 {
-        Number::Decimal(cell as usize)
-    } else {
-        Number::Hexadecimal(cell)
-    }
-}
+use ucptrie_source::pattern::push_cell;
 
 /// Appends the cells' numbers, sixteen to a line. Every line but the first starts with the indent
 /// (usrc_writeArray).
@@ -24,13 +12,7 @@ pub(crate) fn push_cells<T: TrieValue>(
     indent: &str,
 ) -> Result<(), AllocError> {
     for (i, cell) in cells.iter().enumerate() {
-        if i % CELLS_IN_LINE != 0 {
-            text.push(',')?;
-        } else if i > 0 {
-            text.push_str(",\n")?;
-            text.push_str(indent)?;
-        }
-        push_number(text, number_of(cell.to_u32()))?;
+        push_cell(text, i, cell.to_u32(), indent)?;
     }
     Ok(())
 }

@@ -3,13 +3,13 @@ ghost use Rattle.std.specs.Prelude.{◌≡◌, ◌^◌, ◌<◌, ℕ, Some, IfOk
 ghost use Rattle.icu_trie.specs.Parts.{trie_value};
 ghost use Rattle.ucptrie_tables.specs.Shown.{AddsComments, IsExplained};
 
-use crate::pattern::Number::Decimal;
-use crate::pattern::push_pattern;
 use crate::shown::{answered, push_comments};
 use crate::source::{index1_offset, type_name};
 use crate::table::Table;
 use icu_trie::header::TrieType;
 use std::alloc::{AllocError, Global};
+use ucptrie_source::pattern::Number::Decimal;
+use ucptrie_source::pattern::push_pattern;
 
 /// Appends the line about a cell: which array it is in, its index, its value, and what it is. An
 /// untrusted trie may lack it.

@@ -1,10 +1,10 @@
 //! A table as source in Rust.
 use crate::cells::push_cells;
-use crate::pattern::Number::{Decimal, Hexadecimal};
-use crate::pattern::push_pattern;
 use crate::source::{index1_offset, push_sizes, type_code};
 use crate::table::Table;
 use std::alloc::{AllocError, Global};
+use ucptrie_source::pattern::Number::{Decimal, Hexadecimal};
+use ucptrie_source::pattern::push_pattern;
 
 /// The look-up, by the three stages of the format.
 const LOOK_UP: &str = "

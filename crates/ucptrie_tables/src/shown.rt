@@ -7,13 +7,13 @@ ghost use Rattle.icu_trie.specs.Ranges.{answers, IsCoherentTrie};
 ghost use Rattle.ucptab_table.specs.TableText.{answers_text};
 ghost use Rattle.ucptrie_tables.specs.Shown.{comment_line, AddsComments, IsShown};
 
-use crate::pattern::Number::{Decimal, Hexadecimal};
-use crate::pattern::push_pattern;
 use crate::sizes::bounds_of;
 use crate::source::type_name;
 use crate::table::Table;
 use std::alloc::{AllocError, Global};
 use ucptab_table::text::{answers_text, ranges_text};
+use ucptrie_source::pattern::Number::{Decimal, Hexadecimal};
+use ucptrie_source::pattern::push_pattern;
 
 /// The lines about the header.
 const HEADER: &str = "\

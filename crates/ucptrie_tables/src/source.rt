@@ -2,11 +2,11 @@
 ghost use Rattle.std.specs.Prelude.{◌≡◌};
 ghost use Rattle.ucptrie_tables.specs.Source.{is_name, is_name_byte};
 
-use crate::pattern::Number::{self, Decimal, Hexadecimal};
-use crate::pattern::push_pattern;
 use crate::table::Table;
 use icu_trie::header::TrieType;
 use std::alloc::AllocError;
+use ucptrie_source::pattern::Number::{self, Decimal, Hexadecimal};
+use ucptrie_source::pattern::push_pattern;
 
 /// Returns whether a name in C and in Rust can have a byte: an ASCII letter or digit, or `_`.
 fn is_name_byte(byte: u8) -> bool

@@ -1,10 +1,10 @@
 //! A table in TOML, as ICU's usrc_writeUCPTrie writes it.
 use crate::cells::push_cells;
-use crate::pattern::Number::Decimal;
-use crate::pattern::push_pattern;
 use crate::source::header_numbers;
 use crate::table::Table;
 use std::alloc::{AllocError, Global};
+use ucptrie_source::pattern::Number::Decimal;
+use ucptrie_source::pattern::push_pattern;
 
 /// What follows the data: the numbers of the header.
 const HEADER: &str = "

@@ -2,11 +2,11 @@
 ghost use Rattle.std.specs.Prelude.{◌≡◌, ◌<◌, [], false, length, IfOk, string_bytes};
 ghost use Rattle.ucptrie_tables.specs.Source.{has_names};
 
-use crate::pattern::Number::Decimal;
-use crate::pattern::{push_named, push_number, push_pattern};
 use crate::written::Form;
 use std::alloc::{AllocError, Global};
 use ucd_files::names::Name;
+use ucptrie_source::pattern::Number::Decimal;
+use ucptrie_source::pattern::{push_named, push_number, push_pattern};
 
 /// How many names are written at most. More are no enum that a program would use.
 const MOST: usize = 4096;

@@ -1,33 +1,50 @@
 //! The units of a trie as source in C and in Rust.
 use icu_zerovec::ZeroSlice;
 use std::alloc::{AllocError, Global};
+use ucptrie_source::pattern::Number::Decimal;
+use ucptrie_source::pattern::{push_cell, push_pattern};
 
-/// How many units a line has.
-const UNITS_IN_LINE: usize = 16;
+/// What precedes the units in C. `@` is replaced by the name, and `%` by the number of units, of
+/// bytes, and of units again.
+const C_FRONT: &str = "\
+// Made by ucptrie: the units of a UCharsTrie. Units: %, % bytes.
+// ICU (C++): icu::UCharsTrie trie(@_units);
+// bekstaudi.h, if the byte order is little-endian:
+//     bks_units_get(@_units, sizeof @_units, key, count, &value)
 
-/// Appends the units as ICU's tools write them, sixteen to a line: in decimal up to 9, and in
-/// hexadecimal above.
-fn push_units(text: &mut String, units: ZeroSlice<'_, u16>) -> Result<(), AllocError> {
-    for (i, unit) in units.iter().enumerate() {
-        if i > 0 {
-            text.push_str(if i % UNITS_IN_LINE == 0 { ",\n" } else { "," })?;
-        }
-        if unit <= 9 {
-            write!(text, "{unit}")?;
-        } else {
-            write!(text, "{unit:#x}")?;
-        }
-    }
-    Ok(())
-}
+#include <stdint.h>
 
-/// Appends a comment about the units.
-fn push_head(text: &mut String, units: ZeroSlice<'_, u16>) -> Result<(), AllocError> {
+static const uint16_t @_units[%]={
+";
+
+/// What precedes the units in Rust, as in C.
+const RUST_FRONT: &str = "\
+// Made by ucptrie: the units of a UCharsTrie. Units: %, % bytes.
+#[allow(dead_code, clippy::module_inception)]
+pub mod @ {
+    /// The crates `icu_collections` and `bekstaudi` read them:
+    /// `Char16Trie::new(ZeroVec::alloc_from_slice(&UNITS))`.
+    #[rustfmt::skip]
+    pub static UNITS: [u16; %] = [
+";
+
+/// Returns the units between these texts.
+fn text_of(
+    alloc: Global,
+    units: ZeroSlice<'_, u16>,
+    name: &str,
+    front: &str,
+    end: &str,
+) -> Result<String, AllocError> {
     let (count, bytes) = (units.len(), units.as_bytes().len());
-    write!(
-        text,
-        "// Made by ucptrie: the units of a UCharsTrie. Units: {count}, {bytes} bytes.\n"
-    )
+    let numbers = [Decimal(count), Decimal(bytes), Decimal(count)];
+    let mut text = String::new(alloc);
+    push_pattern(&mut text, front, name, &numbers)?;
+    for (i, unit) in units.iter().enumerate() {
+        push_cell(&mut text, i, u32::from(unit), "")?;
+    }
+    text.push_str(end)?;
+    Ok(text)
 }
 
 /// Returns the units in C: an array whose name starts with this one.
@@ -36,20 +53,7 @@ pub(crate) fn c_text(
     units: ZeroSlice<'_, u16>,
     name: &str,
 ) -> Result<String, AllocError> {
-    let mut text = String::new(alloc);
-    push_head(&mut text, units)?;
-    write!(
-        text,
-        "// ICU (C++): icu::UCharsTrie trie({name}_units);\n\
-         // bekstaudi.h, if the byte order is little-endian:\n\
-         //     bks_units_get({name}_units, sizeof {name}_units, key, count, &value)\n\n\
-         #include <stdint.h>\n\n"
-    )?;
-    let count = units.len();
-    write!(text, "static const uint16_t {name}_units[{count}]={{\n")?;
-    push_units(&mut text, units)?;
-    text.push_str("\n};\n")?;
-    Ok(text)
+    text_of(alloc, units, name, C_FRONT, "\n};\n")
 }
 
 /// Returns the units in Rust: a module of this name with a static array.
@@ -58,20 +62,5 @@ pub(crate) fn rust_text(
     units: ZeroSlice<'_, u16>,
     name: &str,
 ) -> Result<String, AllocError> {
-    let mut text = String::new(alloc);
-    push_head(&mut text, units)?;
-    write!(
-        text,
-        "#[allow(dead_code, clippy::module_inception)]\npub mod {name} {{\n"
-    )?;
-    text.push_str(
-        "    /// The crates `icu_collections` and `bekstaudi` read them:\n    \
-         /// `Char16Trie::new(ZeroVec::alloc_from_slice(&UNITS))`.\n    \
-         #[rustfmt::skip]\n",
-    )?;
-    let count = units.len();
-    write!(text, "    pub static UNITS: [u16; {count}] = [\n")?;
-    push_units(&mut text, units)?;
-    text.push_str("\n    ];\n}\n")?;
-    Ok(text)
+    text_of(alloc, units, name, RUST_FRONT, "\n    ];\n}\n")
 }

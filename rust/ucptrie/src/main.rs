@@ -1,6 +1,6 @@
-//! The program ucptrie: crates/ucptrie, crates/ucptrie_sets, crates/ucptrie_tables,
-//! crates/ucptrie_words, crates/ucd_files and crates/ucptab_table without their proofs, over
-//! `bekstaudi`, `clap`, `serde_json` and `toml`.
+//! The program ucptrie: crates/ucptrie, crates/ucptrie_sets, crates/ucptrie_source,
+//! crates/ucptrie_tables, crates/ucptrie_words, crates/ucd_files and crates/ucptab_table without
+//! their proofs, over `bekstaudi`, `clap`, `serde_json` and `toml`.
 #![forbid(unsafe_code)]
 
 extern crate alloc;
@@ -18,6 +18,8 @@ mod ucptab_table;
 mod ucptrie;
 #[allow(dead_code, unused_variables)]
 mod ucptrie_sets;
+#[allow(dead_code, unused_variables)]
+mod ucptrie_source;
 #[allow(dead_code, unused_variables)]
 mod ucptrie_tables;
 #[allow(dead_code, unused_variables)]

@@ -95,7 +95,7 @@ fn set_in_table(
     table: &Table,
     value: u32,
 ) -> Result<CodePointInversionList<'static>, Fault> {
-    match set_of_value(table, value) {
+    match set_of_value(&table.trie, value) {
         Ok(set) => Ok(set),
         Err(ValueSetFault::Memory) => Err(Fault::Memory),
         Err(fault) => Err(about(name, fault)),

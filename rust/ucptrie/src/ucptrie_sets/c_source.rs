@@ -7,20 +7,20 @@ use crate::support::prelude::*;
 use crate::ucptrie_sets::source::{
     frozen_with_title, push_boundaries, push_packed_indices, push_words, title_of,
 };
-use crate::ucptrie_tables::pattern::push_named;
+use crate::ucptrie_source::pattern::Number::Decimal;
+use crate::ucptrie_source::pattern::{push_named, push_pattern};
 use bekstaudi::codepointinvlist::CodePointInversionList;
 use bekstaudi::codepointinvlist::FrozenTables;
 
-/// The headers.
-const HEADERS: &str = "
+/// What precedes the boundaries. `@` is replaced by the name, and `%` by a number.
+const BOUNDARIES: &str = "
 #include <stdbool.h>
 #include <stdint.h>
 
-";
-
-/// What the boundaries are.
-const BOUNDARIES: &str = "\
 // The set starts at the first boundary, ends before the second one, and so on.
+enum { @_length = % };
+
+static const uint32_t @_boundaries[%] = {
 ";
 
 /// The search in the boundaries. Each `@` is replaced by the name.
@@ -45,16 +45,10 @@ static inline bool @_contains(uint32_t c) {
 /// Returns the set in C: an array with the boundaries, and a search in it. An array in C is not
 /// empty, so that of the empty set has a cell that is not read.
 pub(crate) fn c_text(set: &CodePointInversionList<'_>, name: &str) -> Result<String, AllocError> {
-    let mut text = title_of(set)?;
-    text.try_push_str(HEADERS)?;
-    text.try_push_str(BOUNDARIES)?;
     let length = set.as_inversion_list().len();
-    let cells = length.max(1);
-    writeln!(text, "enum {{ {name}_length = {length} }};\n")?;
-    writeln!(
-        text,
-        "static const uint32_t {name}_boundaries[{cells}] = {{"
-    )?;
+    let sizes = [Decimal(length), Decimal(length.max(1))];
+    let mut text = title_of(set)?;
+    push_pattern(&mut text, BOUNDARIES, name, &sizes)?;
     if length == 0 {
         text.try_push('0')?;
     }
@@ -63,11 +57,18 @@ pub(crate) fn c_text(set: &CodePointInversionList<'_>, name: &str) -> Result<Str
     Ok(text)
 }
 
-/// What the words of a frozen set are.
+/// What precedes the words of a frozen set. `@` is replaced by the name, and `%` by a number.
 const WORDS: &str = "\
 // The words of the frozen set, for bks_frozen_contains and bks_frozen_has of bekstaudi.h. The first
 // 1088 have four offsets each, one for each block of 256 code points. The others have a bit for
 // each code point of a block, 64 in each word.
+
+#include <stdbool.h>
+#include <stdint.h>
+
+enum { @_length = % };
+
+static const uint64_t @_words[@_length] = {
 ";
 
 /// The look-up in the words. Each `@` is replaced by the name.
@@ -85,14 +86,7 @@ static inline bool @_contains(uint32_t c) {
 
 /// Appends an array with the words of a frozen set, and a look-up in it.
 fn push_frozen(text: &mut String, tables: FrozenTables<'_>, name: &str) -> Result<(), AllocError> {
-    text.try_push_str(WORDS)?;
-    text.try_push_str(HEADERS)?;
-    let words = 1088 + tables.words.len();
-    writeln!(text, "enum {{ {name}_length = {words} }};\n")?;
-    writeln!(
-        text,
-        "static const uint64_t {name}_words[{name}_length] = {{"
-    )?;
+    push_pattern(text, WORDS, name, &[Decimal(1088 + tables.words.len())])?;
     push_packed_indices(text, tables.index)?;
     text.try_push_str(",\n")?;
     push_words(text, tables.words)?;

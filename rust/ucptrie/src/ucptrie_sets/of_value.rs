@@ -1,24 +1,24 @@
-//! The set of the code points that have a value in a table.
+//! The set of the code points that have a value in a trie.
 
 #[allow(unused_imports)]
 use crate::host::{HostRuntime, Text};
 use crate::ucptrie_sets::fault::ValueSetFault;
-use crate::ucptrie_tables::table::Table;
 use bekstaudi::codepointinvlist::CodePointInversionList;
+use bekstaudi::codepointtrie::CodePointTrie;
 
-/// Returns the set of the code points that have the value in the table.
+/// Returns the set of the code points that have the value in the trie.
 ///
 /// # Errors
-/// - `ValueSetFault::NotCoherent` if and only if the table's trie is not coherent. Tries that are
+/// - `ValueSetFault::NotCoherent` if and only if the trie is not coherent. Tries that are
 ///   built are coherent; a trie from a file may not be.
 /// - `ValueSetFault::Memory` if an allocation fails.
 pub fn set_of_value(
-    table: &Table,
+    trie: &CodePointTrie<'_, u32>,
     value: u32,
 ) -> Result<CodePointInversionList<'static>, ValueSetFault> {
-    if !table.trie.is_coherent() {
+    if !trie.is_coherent() {
         return Err(ValueSetFault::NotCoherent);
     }
-    let set = table.trie.try_get_set_for_value(value)?;
+    let set = trie.try_get_set_for_value(value)?;
     Ok(set)
 }

@@ -4,20 +4,22 @@ use crate::host::{HostRuntime, Text};
 use crate::support::AllocError;
 #[allow(unused_imports)]
 use crate::support::prelude::*;
+use crate::ucptrie_source::pattern::Number::Decimal;
+use crate::ucptrie_source::pattern::push_pattern;
 use bekstaudi::codepointinvlist::CodePointInversionList;
 use bekstaudi::codepointinvlist::FrozenCodePointSet;
 
 /// How many cells a line has.
 const CELLS_IN_LINE: usize = 8;
 
+/// The first line of source. Each `%` is replaced by a number.
+const TITLE: &str = "// Made by ucptrie: a set of % code points in % ranges.\n";
+
 /// Returns the first line of source, a comment with the number of ranges.
 pub(crate) fn title_of(set: &CodePointInversionList<'_>) -> Result<String, AllocError> {
-    let (size, ranges) = (set.size(), set.get_range_count());
+    let sizes = [Decimal(set.size() as usize), Decimal(set.get_range_count())];
     let mut text = String::new();
-    writeln!(
-        text,
-        "// Made by ucptrie: a set of {size} code points in {ranges} ranges."
-    )?;
+    push_pattern(&mut text, TITLE, "", &sizes)?;
     Ok(text)
 }
 

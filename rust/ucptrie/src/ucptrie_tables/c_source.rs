@@ -4,9 +4,9 @@ use crate::host::{HostRuntime, Text};
 use crate::support::AllocError;
 #[allow(unused_imports)]
 use crate::support::prelude::*;
+use crate::ucptrie_source::pattern::Number::{Decimal, Hexadecimal};
+use crate::ucptrie_source::pattern::{push_named, push_pattern};
 use crate::ucptrie_tables::cells::push_cells;
-use crate::ucptrie_tables::pattern::Number::{Decimal, Hexadecimal};
-use crate::ucptrie_tables::pattern::{push_named, push_pattern};
 use crate::ucptrie_tables::source::{header_numbers, index1_offset, push_sizes};
 use crate::ucptrie_tables::table::Table;
 

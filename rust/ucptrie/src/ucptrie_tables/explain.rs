@@ -5,8 +5,8 @@ use crate::host::{HostRuntime, Text};
 use crate::support::AllocError;
 #[allow(unused_imports)]
 use crate::support::prelude::*;
-use crate::ucptrie_tables::pattern::Number::Decimal;
-use crate::ucptrie_tables::pattern::push_pattern;
+use crate::ucptrie_source::pattern::Number::Decimal;
+use crate::ucptrie_source::pattern::push_pattern;
 use crate::ucptrie_tables::shown::{answered, push_comments};
 use crate::ucptrie_tables::source::{index1_offset, type_name};
 use crate::ucptrie_tables::table::Table;

@@ -14,8 +14,8 @@
 //!   two files
 //! - `rebuild`: the same values in a trie of another type, with another width or error value
 //! - `asked`: the numbers that words and texts ask for
-//! - `source`: names in C and in Rust; `c_source` and `rust_source` write these; `pattern`: texts
-//!   with a name and numbers in them; `cells`: the cells of a trie as numbers in a text
+//! - `source`: names in C and in Rust; `c_source` and `rust_source` write these; `cells`: the cells
+//!   of a trie as numbers in a text
 //! - `toml_text`: a table in TOML
 //! - `value_names`: names of values in C and in Rust
 //! - `fault`: why a table can't be made, written or read
@@ -31,7 +31,6 @@ pub mod compare;
 pub mod diff;
 pub mod explain;
 pub mod fault;
-pub mod pattern;
 pub mod properties;
 pub mod read;
 pub mod rebuild;

@@ -6,8 +6,8 @@ use crate::support::AllocError;
 #[allow(unused_imports)]
 use crate::support::prelude::*;
 use crate::ucptab_table::text::{answers_text, ranges_text};
-use crate::ucptrie_tables::pattern::Number::{Decimal, Hexadecimal};
-use crate::ucptrie_tables::pattern::push_pattern;
+use crate::ucptrie_source::pattern::Number::{Decimal, Hexadecimal};
+use crate::ucptrie_source::pattern::push_pattern;
 use crate::ucptrie_tables::sizes::bounds_of;
 use crate::ucptrie_tables::source::type_name;
 use crate::ucptrie_tables::table::Table;

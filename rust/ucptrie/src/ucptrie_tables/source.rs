@@ -5,8 +5,8 @@ use crate::host::{HostRuntime, Text};
 use crate::support::AllocError;
 #[allow(unused_imports)]
 use crate::support::prelude::*;
-use crate::ucptrie_tables::pattern::Number::{self, Decimal, Hexadecimal};
-use crate::ucptrie_tables::pattern::push_pattern;
+use crate::ucptrie_source::pattern::Number::{self, Decimal, Hexadecimal};
+use crate::ucptrie_source::pattern::push_pattern;
 use crate::ucptrie_tables::table::Table;
 use bekstaudi::codepointtrie::TrieType;
 

@@ -4,9 +4,9 @@ use crate::host::{HostRuntime, Text};
 use crate::support::AllocError;
 #[allow(unused_imports)]
 use crate::support::prelude::*;
+use crate::ucptrie_source::pattern::Number::Decimal;
+use crate::ucptrie_source::pattern::push_pattern;
 use crate::ucptrie_tables::cells::push_cells;
-use crate::ucptrie_tables::pattern::Number::Decimal;
-use crate::ucptrie_tables::pattern::push_pattern;
 use crate::ucptrie_tables::source::header_numbers;
 use crate::ucptrie_tables::table::Table;
 

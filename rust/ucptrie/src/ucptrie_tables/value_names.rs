@@ -6,8 +6,8 @@ use crate::support::AllocError;
 #[allow(unused_imports)]
 use crate::support::prelude::*;
 use crate::ucd_files::names::Name;
-use crate::ucptrie_tables::pattern::Number::Decimal;
-use crate::ucptrie_tables::pattern::{push_named, push_number, push_pattern};
+use crate::ucptrie_source::pattern::Number::Decimal;
+use crate::ucptrie_source::pattern::{push_named, push_number, push_pattern};
 use crate::ucptrie_tables::written::Form;
 
 /// How many names are written at most. More are no enum that a program would use.
