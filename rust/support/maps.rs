@@ -199,14 +199,32 @@ impl<K: Copy + Eq + Into<u64>, V> HashMap<K, V> {
         Ok(())
     }
 
-    /// Inserts an entry, or replaces that of its key.
-    pub fn try_insert(&mut self, key: K, value: V) -> Result<(), AllocError> {
+    /// Returns the position of a key, which is counted if it had no entry. It is then to get one.
+    fn place_for(&mut self, key: K) -> Result<usize, AllocError> {
         if self.count * 2 >= self.places.len() {
             self.grow()?;
         }
         let place = Self::place_of(&self.places, key);
         self.count += usize::from(self.places[place].is_none());
+        Ok(place)
+    }
+
+    /// Inserts an entry, or replaces that of its key.
+    pub fn try_insert(&mut self, key: K, value: V) -> Result<(), AllocError> {
+        let place = self.place_for(key)?;
         self.places[place] = Some((key, value));
         Ok(())
+    }
+
+    /// Returns the value of a key. If it has none, the default is inserted.
+    // Only the program ucptrie uses it.
+    #[allow(dead_code)]
+    pub fn try_or_default(&mut self, key: K) -> Result<&mut V, AllocError>
+    where
+        V: Default,
+    {
+        let place = self.place_for(key)?;
+        let (_, value) = self.places[place].get_or_insert_with(|| (key, V::default()));
+        Ok(value)
     }
 }

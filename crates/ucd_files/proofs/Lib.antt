@@ -1,3 +1,4 @@
+mod GroupLemmas
 mod KnownNames
 mod NameLemmas
 mod StatementSteps

@@ -6,3 +6,4 @@ pub mod Files
 pub mod ValueNames
 pub mod Titles
 pub mod Messages
+pub mod Inside

@@ -4,7 +4,8 @@ ghost use Rattle.ucd_files.specs.ValueNames.{alias_names, is_value_line, named, 
 ghost use Rattle.ucd_files.specs.Names.{pairs_of};
 
 use crate::fields::field;
-use crate::names::{Name, is_same_name, push_name, short_decimal};
+use crate::names::{is_same_name, short_decimal};
+use crate::value_names::ValueNames;
 use std::alloc::{AllocError, Global};
 use ucptab_table::input::first_line;
 use ucptab_table::rows::{after, content_of};
@@ -32,15 +33,15 @@ fn value_number(k: usize, content: &[u8]) -> usize
 
 /// Appends a name if it is not empty.
 fn push_named<'a>(
-    names: &mut Vec<Name<'a>>,
+    names: &mut ValueNames<'a>,
     number: usize,
     text: &'a [u8],
 ) -> Result<(), AllocError>
-    ensures { IfOk result (λ _. pairs_of names.new.items
-        ≡ pairs_of names.old.items ++ named number text.now) }
+    ensures { IfOk result (λ _. pairs_of names.new
+        ≡ pairs_of names.old ++ named number text.now) }
 {
     if !text.is_empty() {
-        push_name(names, number, text)?;
+        names.push(number, text)?;
     }
     Ok(())
 }
@@ -48,12 +49,12 @@ fn push_named<'a>(
 /// Appends the names in fields 1 to 4.
 #[tactic(auto, unfolding(crate::specs::ValueNames::names_in))]
 fn push_names<'a>(
-    names: &mut Vec<Name<'a>>,
+    names: &mut ValueNames<'a>,
     number: usize,
     content: &'a [u8],
 ) -> Result<(), AllocError>
-    ensures { IfOk result (λ _. pairs_of names.new.items
-        ≡ pairs_of names.old.items ++ names_in number content.now) }
+    ensures { IfOk result (λ _. pairs_of names.new
+        ≡ pairs_of names.old ++ names_in number content.now) }
 {
     push_named(names, number, field(1, content))?;
     push_named(names, number, field(2, content))?;
@@ -72,10 +73,10 @@ pub fn alias_names<'a>(
     alloc: Global,
     input: &'a [u8],
     property: &[u8],
-) -> Result<Vec<Name<'a>>, AllocError>
-    ensures { IfOk result (λ names. pairs_of names.items ≡ alias_names property.now input.now) }
+) -> Result<ValueNames<'a>, AllocError>
+    ensures { IfOk result (λ names. pairs_of names ≡ alias_names property.now input.now) }
 {
-    let mut names = Vec::new(alloc);
+    let mut names = ValueNames::new(alloc);
     let mut k = 0usize;
     let mut rest = input;
     while let Some((line, after)) = first_line(rest) {

@@ -1,8 +1,8 @@
 //! Names of values, and their numbers.
-ghost use Rattle.std.specs.Prelude.{◌≡◌, ◌<◌, ◌∷◌, ◌++◌, [], length, IfNone, IfOk, IfSome};
-ghost use Rattle.ucd_files.specs.Names.{is_alike, is_same_name, is_significant, loose, number_named, number_of, pairs_of, short_decimal};
+ghost use Rattle.std.specs.Prelude.{◌≡◌, ◌<◌, ◌∷◌, [], length, IfNone, IfSome};
+ghost use Rattle.ucd_files.specs.Names.{is_alike, is_same_name, is_significant, loose, number_named, number_of, short_decimal};
 
-use std::alloc::AllocError;
+use crate::value_names::ValueNames;
 use ucptab_table::digits::{decimal_number, hexadecimal};
 
 /// A name of a value, and the number of the value.
@@ -10,22 +10,6 @@ use ucptab_table::digits::{decimal_number, hexadecimal};
 pub struct Name<'a> {
     pub text: &'a [u8],
     pub number: usize,
-}
-
-/// Appends a name with its number.
-///
-/// # Errors
-/// Returns [`AllocError`] if an allocation fails.
-pub fn push_name<'a>(
-    names: &mut Vec<Name<'a>>,
-    number: usize,
-    text: &'a [u8],
-) -> Result<(), AllocError>
-    ensures { IfOk result
-        (λ _. pairs_of names.new.items ≡ pairs_of names.old.items ++ (text.now, number) ∷ []) }
-{
-    names.push(Name { text, number })?;
-    Ok(())
 }
 
 /// How the text of a value becomes a number.
@@ -38,7 +22,7 @@ pub enum Numbering<'a> {
     /// Each value is 1, whatever its text is: the code points of the lines are a set.
     One,
     /// A value has the number of the first name that is the same as its text.
-    Names(&'a [Name<'a>]),
+    Names(&'a ValueNames<'a>),
 }
 
 /// Returns whether a byte counts if names are compared: it is no space, `_` or `-`.
@@ -50,7 +34,7 @@ fn is_significant(byte: u8) -> bool
 
 /// Returns the first byte of a name that counts, in lower case, and what follows it. Returns
 /// `None` if no byte counts.
-fn first_significant(text: &[u8]) -> Option<(u8, &[u8])>
+pub(crate) fn first_significant(text: &[u8]) -> Option<(u8, &[u8])>
     ensures none { IfNone result (loose text.now ≡ []) }
     ensures some { IfSome result (λ found. loose text.now ≡ found.0 ∷ loose found.1.now) }
     ensures shorter { IfSome result (λ found. length found.1.now < length text.now) }
@@ -95,7 +79,7 @@ pub fn is_same_name(left: &[u8], right: &[u8]) -> bool
 
 /// Returns the number of the first of the names that is the same as the text.
 #[tactic(auto, unfolding(crate::specs::Names::number_named))]
-pub fn number_named(names: &[Name<'_>], text: &[u8]) -> Option<usize>
+pub(crate) fn number_named(names: &[Name<'_>], text: &[u8]) -> Option<usize>
     ensures { result ≡ number_named names.now text.now }
 {
     let found = names.iter().find(|name| is_same_name(name.text, text))?;
@@ -121,7 +105,7 @@ pub fn number_of(numbering: Numbering<'_>, text: &[u8]) -> Option<u32>
         Numbering::Hexadecimal => hexadecimal(text),
         Numbering::One => Some(1),
         Numbering::Names(names) => {
-            let number = number_named(names, text)?;
+            let number = names.number_named(text)?;
             u32::try_from(number).ok()
         }
     }

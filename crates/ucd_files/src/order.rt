@@ -7,8 +7,8 @@ ghost use Rattle.ucd_files.specs.ValueNames.{names_after, text_of_line, with_nam
 ghost use Rattle.ucd_files.specs.Names.{pairs_of};
 
 use crate::fields::missing_of;
-use crate::names::{Name, number_named, push_name};
 use crate::statement::{Columns, missing_text, value_text};
+use crate::value_names::ValueNames;
 use std::alloc::AllocError;
 use ucptab_table::input::first_line;
 use ucptab_table::rows::content_of;
@@ -30,13 +30,13 @@ pub(crate) fn text_of_line<'t>(columns: Columns<'_>, line: &'t [u8]) -> Option<&
 
 /// Appends a name with the next number, unless it is known.
 #[tactic(auto, using(crate::proofs::KnownNames::with_new, crate::proofs::KnownNames::with_known))]
-fn push_new<'a>(names: &mut Vec<Name<'a>>, text: &'a [u8]) -> Result<(), AllocError>
+fn push_new<'a>(names: &mut ValueNames<'a>, text: &'a [u8]) -> Result<(), AllocError>
     ensures { IfOk result
-        (λ _. pairs_of names.new.items ≡ with_name (pairs_of names.old.items) text.now) }
+        (λ _. pairs_of names.new ≡ with_name (pairs_of names.old) text.now) }
 {
-    if number_named(names, text).is_none() {
-        let number = names.len();
-        push_name(names, number, text)?;
+    if names.number_named(text).is_none() {
+        let number = names.as_slice().len();
+        names.push(number, text)?;
     }
     Ok(())
 }
@@ -51,9 +51,9 @@ fn push_new<'a>(names: &mut Vec<Name<'a>>, text: &'a [u8]) -> Result<(), AllocEr
 pub fn names_in_order<'a>(
     input: &'a [u8],
     columns: Columns<'_>,
-    names: Vec<Name<'a>>,
-) -> Result<Vec<Name<'a>>, AllocError>
-    ensures { IfOk result (λ all. pairs_of all.items ≡ names_after (pairs_of names.entry.items)
+    names: ValueNames<'a>,
+) -> Result<ValueNames<'a>, AllocError>
+    ensures { IfOk result (λ all. pairs_of all ≡ names_after (pairs_of names.entry)
         (filter_map (text_of_line columns.entry) (lines input.now))) }
 {
     let mut names = names;

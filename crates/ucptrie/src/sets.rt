@@ -14,8 +14,9 @@ use icu_trie_core::header::TrieType;
 use std::alloc::Global;
 use std::str;
 use ucd_files::kind::FileKind;
-use ucd_files::names::{Name, Numbering, is_same_name, number_of};
+use ucd_files::names::{Numbering, is_same_name, number_of};
 use ucd_files::statement::Columns;
+use ucd_files::value_names::ValueNames;
 use ucptab_table::rows::content_of;
 use ucptrie_sets::fault::{SetFileFault, SetWriteFault, ValueSetFault};
 use ucptrie_sets::of_value::set_of_value;
@@ -113,7 +114,7 @@ fn asked_number(alloc: Global, matches: &ArgMatches<'_>) -> Result<u32, Fault> {
 }
 
 /// Returns the number of the value with this name. No value has an empty name.
-fn number_named(alloc: Global, names: &[Name<'_>], text: &str) -> Result<u32, Fault> {
+fn number_named(alloc: Global, names: &ValueNames<'_>, text: &str) -> Result<u32, Fault> {
     match number_of(Numbering::Names(names), text.as_bytes()) {
         Some(number) if !is_same_name(&[], text.as_bytes()) => Ok(number),
         _ => Err(about(alloc, text, "no value of the property has this name")),
@@ -127,7 +128,7 @@ fn asked_value<'n>(
     matches: &ArgMatches<'_>,
     name: &str,
     columns: Columns<'_>,
-    names: &'n [Name<'n>],
+    names: &'n ValueNames<'n>,
 ) -> Result<(Numbering<'n>, u32), Fault> {
     match matches.get_str("value") {
         Some(text) => Ok((Numbering::Names(names), number_named(alloc, names, text)?)),
@@ -146,7 +147,7 @@ fn set_of_lines(
     name: &str,
     file: &[u8],
     columns: Columns<'_>,
-    names: &[Name<'_>],
+    names: &ValueNames<'_>,
 ) -> Result<CodePointInversionList<'static>, Fault> {
     let (numbering, value) = asked_value(alloc, matches, name, columns, names)?;
     match table_of_file(alloc, file, columns, numbering, options(u32::MAX)) {

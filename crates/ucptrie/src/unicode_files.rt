@@ -11,10 +11,11 @@ use ucd_files::fault::FileFault;
 use ucd_files::kind::{
     FileKind, are_code_points, are_decimal, has_missing_lines, has_property, kind_of,
 };
-use ucd_files::names::{Name, Numbering, is_same_name};
+use ucd_files::names::{Numbering, is_same_name};
 use ucd_files::order::names_in_order;
 use ucd_files::statement::Columns;
 use ucd_files::title::title_of;
+use ucd_files::value_names::ValueNames;
 use ucptab_table::input::line_at;
 use ucptab_table::message::line_message;
 use ucptrie_tables::fault::UnicodeFileFault;
@@ -153,21 +154,18 @@ fn names_in<'f>(
     alloc: Global,
     file: &'f [u8],
     columns: Columns<'_>,
-) -> Result<Vec<Name<'f>>, Fault> {
-    let mut names = Vec::new(alloc);
+) -> Result<ValueNames<'f>, Fault> {
+    let mut names = ValueNames::new(alloc);
     if !has_missing_lines(file, columns) {
-        names.push(Name {
-            text: b"",
-            number: 0,
-        })?;
+        names.push(0, b"")?;
     }
     Ok(names_in_order(file, columns, names)?)
 }
 
 /// Returns whether the lines have only code points, or the only value of a property is the property
 /// itself, as in `PropList.txt`.
-pub fn is_set(columns: Columns<'_>, names: &[Name<'_>]) -> bool {
-    match (columns, names) {
+pub fn is_set(columns: Columns<'_>, names: &ValueNames<'_>) -> bool {
+    match (columns, names.as_slice()) {
         (Columns::Field(0), _) => true,
         (Columns::Property(property), [value] | [_, value]) => is_same_name(value.text, property),
         _ => false,
@@ -179,13 +177,13 @@ fn aliases<'f>(
     alloc: Global,
     matches: &ArgMatches<'_>,
     file: &'f [u8],
-) -> Result<Vec<Name<'f>>, Fault> {
+) -> Result<ValueNames<'f>, Fault> {
     let Some(property) = matches.get_str("property") else {
         let why = "--aliases needs --property, the property whose values are named";
         return Err(about(alloc, "arguments", why));
     };
     let names = alias_names(alloc, file, property.as_bytes())?;
-    if names.is_empty() {
+    if names.as_slice().is_empty() {
         let why = "the file of aliases has no value of this property";
         return Err(about(alloc, property, why));
     }
@@ -208,7 +206,7 @@ pub fn names<'f>(
     file: &'f [u8],
     columns: Columns<'_>,
     named: &'f [u8],
-) -> Result<Vec<Name<'f>>, Fault> {
+) -> Result<ValueNames<'f>, Fault> {
     if matches.get_str("aliases").is_some() {
         aliases(alloc, matches, named)
     } else {
@@ -221,7 +219,7 @@ fn numbering<'n>(
     matches: &ArgMatches<'_>,
     file: &[u8],
     columns: Columns<'_>,
-    names: &'n [Name<'n>],
+    names: &'n ValueNames<'n>,
 ) -> Numbering<'n> {
     match matches.get_str("values") {
         Some("decimal") => Numbering::Decimal,
@@ -255,9 +253,9 @@ fn push_names(
     bytes: &mut Vec<u8>,
     form: Form<'_>,
     width: ValueWidth,
-    names: &[Name<'_>],
+    names: &ValueNames<'_>,
 ) -> Result<(), UnicodeFileFault> {
-    let source = names_source(alloc, form, width.bits(), names)?;
+    let source = names_source(alloc, form, width.bits(), names.as_slice())?;
     bytes.extend_from_slice(source.as_bytes())?;
     Ok(())
 }
@@ -268,7 +266,7 @@ fn built_of_file(
     matches: &ArgMatches<'_>,
     file: &[u8],
     columns: Columns<'_>,
-    names: &[Name<'_>],
+    names: &ValueNames<'_>,
     form: Form<'_>,
 ) -> Result<Vec<u8>, UnicodeFileFault> {
     let numbering = numbering(matches, file, columns, names);

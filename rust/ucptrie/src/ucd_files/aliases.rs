@@ -6,7 +6,8 @@ use crate::support::AllocError;
 #[allow(unused_imports)]
 use crate::support::prelude::*;
 use crate::ucd_files::fields::field;
-use crate::ucd_files::names::{Name, is_same_name, push_name, short_decimal};
+use crate::ucd_files::names::{is_same_name, short_decimal};
+use crate::ucd_files::value_names::ValueNames;
 use crate::ucptab_table::input::first_line;
 use crate::ucptab_table::rows::{after, content_of};
 
@@ -27,19 +28,19 @@ fn value_number(k: usize, content: &[u8]) -> usize {
 
 /// Appends a name if it is not empty.
 fn push_named<'a>(
-    names: &mut Vec<Name<'a>>,
+    names: &mut ValueNames<'a>,
     number: usize,
     text: &'a [u8],
 ) -> Result<(), AllocError> {
     if !text.is_empty() {
-        push_name(names, number, text)?;
+        names.try_push(number, text)?;
     }
     Ok(())
 }
 
 /// Appends the names in fields 1 to 4.
 fn push_names<'a>(
-    names: &mut Vec<Name<'a>>,
+    names: &mut ValueNames<'a>,
     number: usize,
     content: &'a [u8],
 ) -> Result<(), AllocError> {
@@ -56,8 +57,8 @@ fn push_names<'a>(
 ///
 /// # Errors
 /// Returns [`AllocError`] if an allocation fails.
-pub fn alias_names<'a>(input: &'a [u8], property: &[u8]) -> Result<Vec<Name<'a>>, AllocError> {
-    let mut names = Vec::new();
+pub fn alias_names<'a>(input: &'a [u8], property: &[u8]) -> Result<ValueNames<'a>, AllocError> {
+    let mut names = ValueNames::new();
     let mut k = 0usize;
     let mut rest = input;
     while let Some((line, after)) = first_line(rest) {

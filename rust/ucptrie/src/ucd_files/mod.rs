@@ -2,7 +2,8 @@
 //!
 //! - `fields`: the fields of a line, and `@missing` lines
 //! - `kind`: which kind of file some lines are
-//! - `names`: names of values, their numbers, and how a value is written
+//! - `names`: when two names are the same, and how a value is written
+//! - `value_names`: names of values and their numbers
 //! - `statement`: what one line says
 //! - `read`: what all lines say, as the writes of a map
 //! - `aliases`: names and numbers from `PropertyValueAliases.txt` or a list
@@ -21,3 +22,4 @@ pub mod order;
 pub mod read;
 pub mod statement;
 pub mod title;
+pub mod value_names;

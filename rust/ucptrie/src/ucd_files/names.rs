@@ -2,9 +2,7 @@
 
 #[allow(unused_imports)]
 use crate::host::{HostRuntime, Text};
-use crate::support::AllocError;
-#[allow(unused_imports)]
-use crate::support::prelude::*;
+use crate::ucd_files::value_names::ValueNames;
 use crate::ucptab_table::digits::{decimal_number, hexadecimal};
 
 /// A name of a value, and the number of the value.
@@ -12,19 +10,6 @@ use crate::ucptab_table::digits::{decimal_number, hexadecimal};
 pub struct Name<'a> {
     pub text: &'a [u8],
     pub number: usize,
-}
-
-/// Appends a name with its number.
-///
-/// # Errors
-/// Returns [`AllocError`] if an allocation fails.
-pub fn push_name<'a>(
-    names: &mut Vec<Name<'a>>,
-    number: usize,
-    text: &'a [u8],
-) -> Result<(), AllocError> {
-    names.try_push(Name { text, number })?;
-    Ok(())
 }
 
 /// How the text of a value becomes a number.
@@ -37,7 +22,7 @@ pub enum Numbering<'a> {
     /// Each value is 1, whatever its text is: the code points of the lines are a set.
     One,
     /// A value has the number of the first name that is the same as its text.
-    Names(&'a [Name<'a>]),
+    Names(&'a ValueNames<'a>),
 }
 
 /// Returns whether a byte counts if names are compared: it is no space, `_` or `-`.
@@ -47,7 +32,7 @@ fn is_significant(byte: u8) -> bool {
 
 /// Returns the first byte of a name that counts, in lower case, and what follows it. Returns
 /// `None` if no byte counts.
-fn first_significant(text: &[u8]) -> Option<(u8, &[u8])> {
+pub(crate) fn first_significant(text: &[u8]) -> Option<(u8, &[u8])> {
     let mut rest = text;
     while let [byte, after @ ..] = rest {
         if is_significant(*byte) {
@@ -82,7 +67,7 @@ pub fn is_same_name(left: &[u8], right: &[u8]) -> bool {
 }
 
 /// Returns the number of the first of the names that is the same as the text.
-pub fn number_named(names: &[Name<'_>], text: &[u8]) -> Option<usize> {
+pub(crate) fn number_named(names: &[Name<'_>], text: &[u8]) -> Option<usize> {
     let found = names.iter().find(|name| is_same_name(name.text, text))?;
     Some(found.number)
 }
@@ -100,7 +85,7 @@ pub fn number_of(numbering: Numbering<'_>, text: &[u8]) -> Option<u32> {
         Numbering::Hexadecimal => hexadecimal(text),
         Numbering::One => Some(1),
         Numbering::Names(names) => {
-            let number = number_named(names, text)?;
+            let number = names.number_named(text)?;
             u32::try_from(number).ok()
         }
     }

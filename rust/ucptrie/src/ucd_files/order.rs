@@ -6,8 +6,8 @@ use crate::support::AllocError;
 #[allow(unused_imports)]
 use crate::support::prelude::*;
 use crate::ucd_files::fields::missing_of;
-use crate::ucd_files::names::{Name, number_named, push_name};
 use crate::ucd_files::statement::{Columns, missing_text, value_text};
+use crate::ucd_files::value_names::ValueNames;
 use crate::ucptab_table::input::first_line;
 use crate::ucptab_table::rows::content_of;
 
@@ -24,10 +24,10 @@ pub(crate) fn text_of_line<'t>(columns: Columns<'_>, line: &'t [u8]) -> Option<&
 }
 
 /// Appends a name with the next number, unless it is known.
-fn push_new<'a>(names: &mut Vec<Name<'a>>, text: &'a [u8]) -> Result<(), AllocError> {
-    if number_named(names, text).is_none() {
-        let number = names.len();
-        push_name(names, number, text)?;
+fn push_new<'a>(names: &mut ValueNames<'a>, text: &'a [u8]) -> Result<(), AllocError> {
+    if names.number_named(text).is_none() {
+        let number = names.as_slice().len();
+        names.try_push(number, text)?;
     }
     Ok(())
 }
@@ -42,8 +42,8 @@ fn push_new<'a>(names: &mut Vec<Name<'a>>, text: &'a [u8]) -> Result<(), AllocEr
 pub fn names_in_order<'a>(
     input: &'a [u8],
     columns: Columns<'_>,
-    names: Vec<Name<'a>>,
-) -> Result<Vec<Name<'a>>, AllocError> {
+    names: ValueNames<'a>,
+) -> Result<ValueNames<'a>, AllocError> {
     let mut names = names;
     let mut rest = input;
     while let Some((line, after)) = first_line(rest) {

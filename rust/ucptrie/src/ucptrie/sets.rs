@@ -4,8 +4,9 @@ use crate::host::{HostRuntime, Text};
 #[allow(unused_imports)]
 use crate::support::prelude::*;
 use crate::ucd_files::kind::FileKind;
-use crate::ucd_files::names::{Name, Numbering, is_same_name, number_of};
+use crate::ucd_files::names::{Numbering, is_same_name, number_of};
 use crate::ucd_files::statement::Columns;
+use crate::ucd_files::value_names::ValueNames;
 use crate::ucptab_table::rows::content_of;
 use crate::ucptrie::build::unbuilt;
 use crate::ucptrie::fault::{Fault, about};
@@ -114,7 +115,7 @@ fn asked_number(matches: &ArgMatches) -> Result<u32, Fault> {
 }
 
 /// Returns the number of the value with this name. No value has an empty name.
-fn number_named(names: &[Name<'_>], text: &str) -> Result<u32, Fault> {
+fn number_named(names: &ValueNames<'_>, text: &str) -> Result<u32, Fault> {
     match number_of(Numbering::Names(names), text.as_bytes()) {
         Some(number) if !is_same_name(&[], text.as_bytes()) => Ok(number),
         _ => Err(about(text, "no value of the property has this name")),
@@ -127,7 +128,7 @@ fn asked_value<'n>(
     matches: &ArgMatches,
     name: &str,
     columns: Columns<'_>,
-    names: &'n [Name<'n>],
+    names: &'n ValueNames<'n>,
 ) -> Result<(Numbering<'n>, u32), Fault> {
     match matches.get_one::<String>("value").map(String::as_str) {
         Some(text) => Ok((Numbering::Names(names), number_named(names, text)?)),
@@ -145,7 +146,7 @@ fn set_of_lines(
     name: &str,
     file: &[u8],
     columns: Columns<'_>,
-    names: &[Name<'_>],
+    names: &ValueNames<'_>,
 ) -> Result<CodePointInversionList<'static>, Fault> {
     let (numbering, value) = asked_value(matches, name, columns, names)?;
     match table_of_file(file, columns, numbering, options(u32::MAX)) {

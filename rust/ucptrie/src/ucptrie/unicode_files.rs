@@ -8,10 +8,11 @@ use crate::ucd_files::fault::FileFault;
 use crate::ucd_files::kind::{
     FileKind, are_code_points, are_decimal, has_missing_lines, has_property, kind_of,
 };
-use crate::ucd_files::names::{Name, Numbering, is_same_name};
+use crate::ucd_files::names::{Numbering, is_same_name};
 use crate::ucd_files::order::names_in_order;
 use crate::ucd_files::statement::Columns;
 use crate::ucd_files::title::title_of;
+use crate::ucd_files::value_names::ValueNames;
 use crate::ucptab_table::input::line_at;
 use crate::ucptab_table::message::line_message;
 use crate::ucptrie::build::{options, unbuilt};
@@ -156,21 +157,18 @@ pub fn columns<'a>(
 /// Returns the names of the values in a file, in order of first appearance. The first number is 0
 /// if the file says which value code points without a line have. Otherwise it is 1, and 0 is for
 /// these.
-fn names_in<'f>(file: &'f [u8], columns: Columns<'_>) -> Result<Vec<Name<'f>>, Fault> {
-    let mut names = Vec::new();
+fn names_in<'f>(file: &'f [u8], columns: Columns<'_>) -> Result<ValueNames<'f>, Fault> {
+    let mut names = ValueNames::new();
     if !has_missing_lines(file, columns) {
-        names.try_push(Name {
-            text: b"",
-            number: 0,
-        })?;
+        names.try_push(0, b"")?;
     }
     Ok(names_in_order(file, columns, names)?)
 }
 
 /// Returns whether the lines have only code points, or the only value of a property is the property
 /// itself, as in `PropList.txt`.
-pub fn is_set(columns: Columns<'_>, names: &[Name<'_>]) -> bool {
-    match (columns, names) {
+pub fn is_set(columns: Columns<'_>, names: &ValueNames<'_>) -> bool {
+    match (columns, names.as_slice()) {
         (Columns::Field(0), _) => true,
         (Columns::Property(property), [value] | [_, value]) => is_same_name(value.text, property),
         _ => false,
@@ -178,13 +176,13 @@ pub fn is_set(columns: Columns<'_>, names: &[Name<'_>]) -> bool {
 }
 
 /// Returns the names of the property's values in a file of aliases.
-fn aliases<'f>(matches: &ArgMatches, file: &'f [u8]) -> Result<Vec<Name<'f>>, Fault> {
+fn aliases<'f>(matches: &ArgMatches, file: &'f [u8]) -> Result<ValueNames<'f>, Fault> {
     let Some(property) = matches.get_one::<String>("property").map(String::as_str) else {
         let why = "--aliases needs --property, the property whose values are named";
         return Err(about("arguments", why));
     };
     let names = alias_names(file, property.as_bytes())?;
-    if names.is_empty() {
+    if names.as_slice().is_empty() {
         let why = "the file of aliases has no value of this property";
         return Err(about(property, why));
     }
@@ -206,7 +204,7 @@ pub fn names<'f>(
     file: &'f [u8],
     columns: Columns<'_>,
     named: &'f [u8],
-) -> Result<Vec<Name<'f>>, Fault> {
+) -> Result<ValueNames<'f>, Fault> {
     if matches
         .get_one::<String>("aliases")
         .map(String::as_str)
@@ -223,7 +221,7 @@ fn numbering<'n>(
     matches: &ArgMatches,
     file: &[u8],
     columns: Columns<'_>,
-    names: &'n [Name<'n>],
+    names: &'n ValueNames<'n>,
 ) -> Numbering<'n> {
     match matches.get_one::<String>("values").map(String::as_str) {
         Some("decimal") => Numbering::Decimal,
@@ -262,9 +260,9 @@ fn push_names(
     bytes: &mut Vec<u8>,
     form: Form<'_>,
     width: ValueWidth,
-    names: &[Name<'_>],
+    names: &ValueNames<'_>,
 ) -> Result<(), UnicodeFileFault> {
-    let source = names_source(form, width.bits(), names)?;
+    let source = names_source(form, width.bits(), names.as_slice())?;
     bytes.try_extend_from_slice(source.as_bytes())?;
     Ok(())
 }
@@ -274,7 +272,7 @@ fn built_of_file(
     matches: &ArgMatches,
     file: &[u8],
     columns: Columns<'_>,
-    names: &[Name<'_>],
+    names: &ValueNames<'_>,
     form: Form<'_>,
 ) -> Result<Vec<u8>, UnicodeFileFault> {
     let numbering = numbering(matches, file, columns, names);

@@ -10,7 +10,7 @@ use Rattle.ucd_files.proofs.aliases.alias_names.Given as goal
 abbrev pub invariant-loop-line : goal.invariant-loop-line
 invariant-loop-line l =
     record {
-      names : pairs_of l.names.items ++ names_from l.k (map content_of (filter (is_value_line l.property) (lines l.rest)))
+      names : pairs_of l.names ++ names_from l.k (map content_of (filter (is_value_line l.property) (lines l.rest)))
           ≡ alias_names l.property l.input;
       room : l.k + length l.rest ≤ length l.input;
     }

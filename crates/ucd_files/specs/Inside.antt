@@ -1,0 +1,2 @@
+-- Definitions for private functions and their proofs. No public contract uses them.
+pub mod Groups

@@ -1,0 +1,75 @@
+//! Names of values, each of which is found without a comparison with all others.
+
+#[allow(unused_imports)]
+use crate::host::{HostRuntime, Text};
+use crate::support::AllocError;
+use crate::support::HashMap;
+#[allow(unused_imports)]
+use crate::support::prelude::*;
+use crate::ucd_files::names::{Name, first_significant, number_named};
+
+/// By what a hash is multiplied before a byte is added: the prime of the hash FNV-1a.
+const FACTOR: u64 = 0x100_0000_01b3;
+
+/// Names of values with their numbers, in order. Several can be the same name: the first one
+/// counts.
+#[derive(Debug)]
+pub struct ValueNames<'a> {
+    names: Vec<Name<'a>>,
+    // For each hash, the names that have it, in order. The hash is of what counts if names are
+    // compared, so names that are the same are in one group, and a look-up allocates nothing.
+    groups: HashMap<u64, Vec<Name<'a>>>,
+}
+
+/// Returns the hash of a name, which is the same for all names that are the same.
+fn hash_of(text: &[u8]) -> u64 {
+    let mut hash = 0u64;
+    let mut rest = text;
+    while let Some((byte, after)) = first_significant(rest) {
+        hash = hash.wrapping_mul(FACTOR).wrapping_add(u64::from(byte));
+        rest = after;
+    }
+    hash
+}
+
+/// Appends a name to the group of its hash.
+fn push_in_group<'a>(
+    groups: &mut HashMap<u64, Vec<Name<'a>>>,
+    name: Name<'a>,
+) -> Result<(), AllocError> {
+    groups.try_or_default(hash_of(name.text))?.try_push(name)?;
+    Ok(())
+}
+
+impl<'a> ValueNames<'a> {
+    /// Creates an empty list of names. Allocates nothing.
+    pub fn new() -> Self {
+        ValueNames {
+            names: Vec::new(),
+            groups: HashMap::new(),
+        }
+    }
+
+    /// Returns the names in order.
+    pub fn as_slice(&self) -> &[Name<'a>] {
+        self.names.as_slice()
+    }
+
+    /// Returns the number of the first of the names that is the same as the text.
+    pub fn number_named(&self, text: &[u8]) -> Option<usize> {
+        let group = self.groups.get(&hash_of(text))?;
+        number_named(group, text)
+    }
+
+    /// Appends a name with its number.
+    ///
+    /// # Errors
+    /// Returns [`AllocError`] if an allocation fails.
+    pub fn try_push(&mut self, number: usize, text: &'a [u8]) -> Result<(), AllocError> {
+        let name = Name { text, number };
+        self.names.try_room(1)?;
+        push_in_group(&mut self.groups, name)?;
+        self.names.push(name);
+        Ok(())
+    }
+}
