@@ -7,6 +7,7 @@ mod RebuildLemmas
 mod ShownLemmas
 mod SizeLemmas
 mod SourceLemmas
+mod StatedLemmas
 mod TableLemmas
 mod TomlLemmas
 mod WidthLemmas

@@ -8,6 +8,7 @@ pub mod Rebuilt
 pub mod UnicodeFiles
 pub mod Shown
 pub mod Source
+pub mod Stated
 pub mod Tables
 pub mod TomlFiles
 pub mod ValueWidth

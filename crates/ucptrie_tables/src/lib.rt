@@ -8,6 +8,7 @@
 //! - `properties`: the table of one of the properties in a TOML file
 //! - `unicode_file`: the table of a file of the Unicode Character Database
 //! - `written`: a table in one of the forms, as the bytes of a file
+//! - `stated`: the null value and the error value in comments among rows
 //! - `shown`: what a table is, in lines, and its ranges; `sizes`: the bounds on its cells
 //! - `explain`: how a look-up goes, cell by cell
 //! - `diff`: the ranges in which two tables differ; `compare`: the first difference of
@@ -21,12 +22,13 @@
 //! - `fault`: why a table can't be made, written or read
 #![tactic(auto)]
 
-ghost use Rattle.std.specs.Prelude.{◌≡◌, ◌++◌, ℕ, [], ◌∷◌, Err, IfErr, IfOk};
+ghost use Rattle.std.specs.Prelude.{◌≡◌, ◌++◌, ℕ, List, [], ◌∷◌, Err, IfErr, IfOk};
 ghost use Rattle.serde_json.specs.Written.{compact_text};
 ghost use Rattle.icu_trie_formats.specs.TrieJson.{json_of};
 ghost use Rattle.ucptab_table.specs.TableText.{IsFirstFault, IsTableText, IsTooLargeInput};
 ghost use Rattle.ucptab_table.specs.declared.fault.RowFault.{RowFault};
 ghost use Rattle.ucptab_table.specs.declared.fault.TableError.TheVariants.{Row, TooLarge};
+ghost use Rattle.ucptrie_tables.specs.Stated.{stating_lines};
 ghost use Rattle.ucptrie_tables.specs.Tables.{binary_bytes, IsTableOf, IsWhyNotBuilt};
 ghost use Rattle.ucptrie_tables.specs.declared.fault.BuildFault.TheVariants.{Table as TableFault};
 ghost use Rattle.ucptrie_tables.specs.declared.table.Table.{Table};
@@ -45,6 +47,7 @@ mod rust_source;
 pub mod shown;
 pub mod sizes;
 pub mod source;
+pub mod stated;
 pub mod table;
 mod toml_text;
 pub mod unicode_file;
@@ -60,7 +63,8 @@ use std::alloc::Global;
 
 /// Builds the table of the rows, and returns it in a form, as the bytes of a file.
 ///
-/// In the form `Rows` this is the text that `ucptab` prints if no number is asked.
+/// In the form `Rows` this is the text that `ucptab` prints if no number is asked, after comments
+/// that state the null value and the error value.
 ///
 /// # Errors
 /// Returns [`BuildFault::Table`] for the first line that is not a row, for a map that is too large
@@ -74,7 +78,9 @@ pub fn built(
     form: Form<'_>,
 ) -> Result<Vec<u8>, BuildFault>
     ensures rows { form.entry ≡ Form.Rows → IfOk result
-        (λ bytes. IsTableText rows.now options.default options.error [] bytes.items) }
+        (λ bytes. (t : Table) × (IsTableOf rows.now options t × ((text : List ℕ)
+        × (IsTableText rows.now options.default options.error [] text
+        × (bytes.items ≡ stating_lines t.trie ++ text))))) }
     ensures icu { form.entry ≡ Form.Icu → IfOk result
         (λ bytes. (t : Table) × (IsTableOf rows.now options t × (bytes.items ≡ binary_bytes t))) }
     ensures json { form.entry ≡ Form.Json → IfOk result

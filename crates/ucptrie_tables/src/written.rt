@@ -11,11 +11,13 @@ ghost use Rattle.icu_trie_binary.specs.WrittenTrie.{binary_of, why_not_written};
 ghost use Rattle.icu_trie_formats.specs.TrieJson.{json_of};
 ghost use Rattle.ucptab_table.specs.TableText.{runs_text};
 ghost use Rattle.ucptrie_tables.specs.Inside.Numbers.{HasNumbersOf, IsWhyNotNarrowed};
+ghost use Rattle.ucptrie_tables.specs.Stated.{stating_lines, StatesValues};
 ghost use Rattle.ucptrie_tables.specs.Tables.{binary_bytes, HasBinaryForm, IsWhyNotWritten};
 
 use crate::c_source::c_text;
 use crate::fault::BuildFault;
 use crate::rust_source::rust_text;
+use crate::stated::rows_text;
 use crate::table::Table;
 use crate::toml_text::toml_text;
 use crate::values::with_values_of;
@@ -28,7 +30,6 @@ use icu_trie_formats::json::to_json;
 use icu_zerovec::MemoryError;
 use std::alloc::Global;
 use ucptab_table::fault::TableError;
-use ucptab_table::text::ranges_text;
 
 /// The forms in which a table is written.
 #[derive(Clone, Copy, Debug, PartialEq, Eq)]
@@ -43,7 +44,8 @@ pub enum Form<'a> {
     C(&'a str),
     /// Source in Rust: a module of this name.
     Rust(&'a str),
-    /// The rows of `ucptab`: a line for each range of equal values.
+    /// The rows of `ucptab`, a line for each range of equal values, after comments that state the
+    /// null value and the error value.
     Rows,
 }
 
@@ -103,7 +105,9 @@ pub fn written(alloc: Global, table: &Table, form: Form<'_>) -> Result<Vec<u8>, 
         → (value : ℕ → ℕ)
         → ((u : ℕ) → u < code_point_limit → answers table.now.trie u ≡ Some (value u))
         → IfOk result (λ bytes. (runs : List (Run ℕ)) × (AreMaximalRuns value runs
-        × (bytes.items ≡ runs_text runs))) }
+        × (bytes.items ≡ stating_lines table.now.trie ++ runs_text runs))) }
+    ensures stated { form.entry ≡ Form.Rows
+        → IfOk result (λ bytes. StatesValues table.now.trie bytes.items) }
     ensures room { form.entry ≡ Form.Icu → OnOk result (HasBinaryForm table.now) }
     ensures err { IfErr result (IsWhyNotWritten form.entry table.now) }
 {
@@ -113,7 +117,7 @@ pub fn written(alloc: Global, table: &Table, form: Form<'_>) -> Result<Vec<u8>, 
         Form::Json => json_text(alloc, table)?,
         Form::C(name) => c_text(alloc, table, name)?,
         Form::Rust(name) => rust_text(alloc, table, name)?,
-        Form::Rows => ranges_text(alloc, &table.trie)?,
+        Form::Rows => rows_text(alloc, &table.trie)?,
     };
     Ok(text.into_bytes())
 }

@@ -19,9 +19,9 @@ trap 'exit 130' INT TERM
 cd "$work"
 
 failed=
-# compare WHAT RANGES: trie.toml must have these ranges.
+# compare WHAT RANGES: trie.toml must have these ranges, after two comments.
 compare() {
-    if "$root/ucptrie" convert trie.toml --as rows >out && cmp -s out "$2"; then
+    if "$root/ucptrie" convert trie.toml --as rows >rows && tail -n +3 rows >out && cmp -s out "$2"; then
         echo "$1: $(wc -l <"$2") ranges compared"
     else
         echo "$1: the first lines that differ from $2:"; diff out "$2" | head -n 6

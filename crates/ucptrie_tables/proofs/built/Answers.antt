@@ -1,7 +1,8 @@
-use Rattle.std.proofs.Common.{◌≡◌, Err, inl, inr, arith, rules}
+use Rattle.std.proofs.Common.{◌≡◌, Err, inl, inr, refl, arith, rules}
 use Rattle.std.proofs.lemmas.Bool.Decides.{nat_tests}
 use Rattle.std.proofs.lemmas.Result.{IfErr-weaker, IfOk-weaker}
 use Rattle.icu_trie_builder.specs.Writes.{value_after}
+use Rattle.ucptab_table.specs.TableText.{runs_text}
 use Rattle.ucptrie_tables.proofs.built.Goals as goal
 
 pub returns-in_err-table-clause-err : goal.returns-in_err-table-clause-err
@@ -23,4 +24,7 @@ returns-clause-rows c = λ is.
     let t = c.in_ok-table.ensures.ok.trie in
     let printed = c.written.ensures.rows is t.of_writes.built.coherent (value_after t.writes c.args.options.default)
     (λ u below. grind (arith, nat_tests, t.of_writes.answers.look_up u)) in
-    IfOk-weaker c.written.result _ _ (λ bytes text. (t.writes, (t.rows, text))) printed
+    IfOk-weaker c.written.result _ _ (λ bytes is_rows. (
+      c.in_ok-table.table,
+      (c.in_ok-table.ensures.ok, (runs_text is_rows.0, ((t.writes, (t.rows, (is_rows.0, (is_rows.1.0, refl)))), is_rows.1.1))),
+    )) printed

@@ -8,6 +8,7 @@
 //! - `properties`: the table of one of the properties in a TOML file
 //! - `unicode_file`: the table of a file of the Unicode Character Database
 //! - `written`: a table in one of the forms, as the bytes of a file
+//! - `stated`: the null value and the error value in comments among rows
 //! - `shown`: what a table is, in lines, and its ranges; `sizes`: the bounds on its cells
 //! - `explain`: how a look-up goes, cell by cell
 //! - `diff`: the ranges in which two tables differ; `compare`: the first difference of
@@ -38,6 +39,7 @@ mod rust_source;
 pub mod shown;
 pub mod sizes;
 pub mod source;
+pub mod stated;
 pub mod table;
 mod toml_text;
 pub mod unicode_file;
@@ -52,7 +54,8 @@ use crate::ucptrie_tables::written::{Form, written};
 
 /// Builds the table of the rows, and returns it in a form, as the bytes of a file.
 ///
-/// In the form `Rows` this is the text that `ucptab` prints if no number is asked.
+/// In the form `Rows` this is the text that `ucptab` prints if no number is asked, after comments
+/// that state the null value and the error value.
 ///
 /// # Errors
 /// Returns [`BuildFault::Table`] for the first line that is not a row, for a map that is too large

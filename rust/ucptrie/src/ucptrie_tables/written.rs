@@ -5,10 +5,10 @@ use crate::host::{HostRuntime, Text};
 #[allow(unused_imports)]
 use crate::support::prelude::*;
 use crate::ucptab_table::fault::TableError;
-use crate::ucptab_table::text::ranges_text;
 use crate::ucptrie_tables::c_source::c_text;
 use crate::ucptrie_tables::fault::BuildFault;
 use crate::ucptrie_tables::rust_source::rust_text;
+use crate::ucptrie_tables::stated::rows_text;
 use crate::ucptrie_tables::table::Table;
 use crate::ucptrie_tables::toml_text::toml_text;
 use crate::ucptrie_tables::values::with_values_of;
@@ -33,7 +33,8 @@ pub enum Form<'a> {
     C(&'a str),
     /// Source in Rust: a module of this name.
     Rust(&'a str),
-    /// The rows of `ucptab`: a line for each range of equal values.
+    /// The rows of `ucptab`, a line for each range of equal values, after comments that state the
+    /// null value and the error value.
     Rows,
 }
 
@@ -77,7 +78,7 @@ pub fn written(table: &Table, form: Form<'_>) -> Result<Vec<u8>, BuildFault> {
         Form::Json => json_text(table)?,
         Form::C(name) => c_text(table, name)?,
         Form::Rust(name) => rust_text(table, name)?,
-        Form::Rows => ranges_text(&table.trie)?,
+        Form::Rows => rows_text(&table.trie)?,
     };
     Ok(text.into_bytes())
 }
