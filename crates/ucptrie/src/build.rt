@@ -10,6 +10,7 @@ use ucptab_table::fault::TableError;
 use ucptab_table::message::row_message;
 use ucptrie_tables::built;
 use ucptrie_tables::fault::BuildFault;
+use ucptrie_tables::stated::stated_values;
 use ucptrie_tables::table::TableOptions;
 use ucptrie_tables::width::ValueWidth;
 
@@ -20,6 +21,17 @@ pub fn options(matches: &ArgMatches<'_>) -> TableOptions {
         width: width(matches).unwrap_or(ValueWidth::Bits32),
         default: number(matches, "default").unwrap_or(0),
         error: number(matches, "error").unwrap_or(0),
+    }
+}
+
+/// Returns what a table of rows is to be. Comments among the rows may state the values that the
+/// arguments do not give.
+fn options_of_rows(matches: &ArgMatches<'_>, rows: &[u8]) -> TableOptions {
+    let stated = stated_values(rows);
+    TableOptions {
+        default: number(matches, "default").or(stated.null).unwrap_or(0),
+        error: number(matches, "error").or(stated.error).unwrap_or(0),
+        ..options(matches)
     }
 }
 
@@ -46,9 +58,10 @@ fn build_rows(
     name: &str,
     rows: &[u8],
 ) -> Result<Vec<u8>, Fault> {
-    match built(alloc, rows, options(matches), form(matches)) {
+    let options = options_of_rows(matches, rows);
+    match built(alloc, rows, options, form(matches)) {
         Ok(bytes) => Ok(bytes),
-        // The value may be one of the arguments.
+        // The value may be one of the arguments, or stated.
         Err(BuildFault::Width(value, width)) => Err(plain(alloc, BuildFault::Width(value, width))),
         Err(fault) => Err(unbuilt(alloc, name, rows, fault)),
     }

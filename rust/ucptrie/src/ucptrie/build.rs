@@ -11,6 +11,7 @@ use crate::ucptrie::tables::{form, number, trie_type, width};
 use crate::ucptrie::unicode_files::{build_file, found_kind, has_columns, named_kind};
 use crate::ucptrie_tables::built;
 use crate::ucptrie_tables::fault::BuildFault;
+use crate::ucptrie_tables::stated::stated_values;
 use crate::ucptrie_tables::table::TableOptions;
 use crate::ucptrie_tables::width::ValueWidth;
 use bekstaudi::codepointtrie::TrieType;
@@ -23,6 +24,17 @@ pub fn options(matches: &ArgMatches) -> TableOptions {
         width: width(matches).unwrap_or(ValueWidth::Bits32),
         default: number(matches, "default").unwrap_or(0),
         error: number(matches, "error").unwrap_or(0),
+    }
+}
+
+/// Returns what a table of rows is to be. Comments among the rows may state the values that the
+/// arguments do not give.
+fn options_of_rows(matches: &ArgMatches, rows: &[u8]) -> TableOptions {
+    let stated = stated_values(rows);
+    TableOptions {
+        default: number(matches, "default").or(stated.null).unwrap_or(0),
+        error: number(matches, "error").or(stated.error).unwrap_or(0),
+        ..options(matches)
     }
 }
 
@@ -44,9 +56,10 @@ pub fn unbuilt(name: &str, rows: &[u8], fault: BuildFault) -> Fault {
 
 /// Builds a table of rows, in the form that the arguments name. `name` is what they were read from.
 fn build_rows(matches: &ArgMatches, name: &str, rows: &[u8]) -> Result<Vec<u8>, Fault> {
-    match built(rows, options(matches), form(matches)) {
+    let options = options_of_rows(matches, rows);
+    match built(rows, options, form(matches)) {
         Ok(bytes) => Ok(bytes),
-        // The value may be one of the arguments.
+        // The value may be one of the arguments, or stated.
         Err(BuildFault::Width(value, width)) => Err(plain(BuildFault::Width(value, width))),
         Err(fault) => Err(unbuilt(name, rows, fault)),
     }

@@ -202,12 +202,11 @@ const BUILD: [Argument; 14] = [
     },
     Argument {
         id: "default",
-        default: &["0"],
-        help: "The value of a code point in no row",
+        help: "The value of a code point in no row; by default the stated null value, or 0",
         ..NUMBER
     },
     Argument {
-        default: &["0"],
+        help: "The value above 10FFFF; by default the stated error value, or 0",
         ..ERROR
     },
     FORM,
