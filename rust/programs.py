@@ -42,7 +42,7 @@ RULES = [
     (r"\buse std::str;\n", ""),
     (r"\buse std::\{error, fmt\};", "use core::{error, fmt};"),
     (r"\buse std::\{((?:env|fs|io)(?:, (?:env|fs|io))*)\};", r"use crate::host::{\1};"),
-    (r"\bstd::(env|fs|io|process|collections::BTreeSet)\b", lambda it: f"crate::host::{it[1].split('::')[-1]}"),
+    (r"\bstd::(env|fs|io|process|time|collections::BTreeSet)\b", lambda it: f"crate::host::{it[1].split('::')[-1]}"),
     (r"\beprintln!\(rt; ", "writeln!(io::stderr(), "),
     # clap, serde_json and toml.
     (r"\buse clap::builder::ValueParser;", "use crate::formats::ValueParser;"),

@@ -11,6 +11,7 @@ mod names;
 mod offsets;
 mod output;
 mod overlap;
+mod progress;
 mod sets;
 mod streams;
 mod tables;
@@ -25,6 +26,7 @@ use crate::fault::{Fault, about, about_arguments};
 use crate::heading::with_heading;
 use crate::names::test_name;
 use crate::output::{deliver, target_of};
+use crate::progress::{report, started};
 use crate::sets::set;
 use crate::streams::{bytes_at, input_name, put, say};
 use crate::tables::{number, table_at};
@@ -65,11 +67,14 @@ fn make(
     command: &str,
     matches: &ArgMatches<'_>,
 ) -> Result<(), Fault> {
+    let start = started(rt);
     let target = target_of(rt.alloc(), matches)?;
     test_name(rt.alloc(), matches)?;
     let path = matches.get_str("file").unwrap_or("-");
     let file = bytes_at(rt, path)?;
+    report(rt, start, "read", file.len());
     let bytes = made(rt, command, matches, input_name(path), &file)?;
+    report(rt, start, "made", bytes.len());
     let whole = with_heading(rt.alloc(), matches, words, path, &file, bytes)?;
     let is_binary = matches.get_str("as") == Some("icu");
     deliver(rt, target, &whole, is_binary)

@@ -56,3 +56,8 @@ pub fn put(rt: &HostRuntime, bytes: &[u8]) -> Result<(), Fault> {
 pub fn say(rt: &HostRuntime, line: &str) {
     let _ = eprintln!(rt; "ucptrie: {line}");
 }
+
+/// Prints on standard error that a step is done, and over how many bytes.
+pub fn say_step(rt: &HostRuntime, step: &str, bytes: usize) {
+    let _ = eprintln!(rt; "ucptrie: {step} {bytes} bytes");
+}

@@ -19,6 +19,11 @@ impl HostRuntime {
     pub fn stdout(&self) -> Stdout {
         Stdout
     }
+
+    /// Returns the standard error.
+    pub fn stderr(&self) -> std::io::Stderr {
+        std::io::stderr()
+    }
 }
 
 /// The standard output. Each write reports its own failure.
@@ -152,6 +157,29 @@ pub mod fs {
     /// Removes a file.
     pub fn remove_file(_: &HostRuntime, path: &str) -> io::Result<()> {
         std::fs::remove_file(path)
+    }
+}
+
+/// The clock.
+pub mod time {
+    use super::HostRuntime;
+    use std::io;
+    use std::time::Duration;
+
+    /// What the clock showed.
+    #[derive(Clone, Copy)]
+    pub struct Instant(std::time::Instant);
+
+    impl Instant {
+        /// Returns what the clock shows.
+        pub fn now(_: &HostRuntime) -> io::Result<Instant> {
+            Ok(Instant(std::time::Instant::now()))
+        }
+
+        /// Returns the time since then.
+        pub fn elapsed(&self, _: &HostRuntime) -> io::Result<Duration> {
+            Ok(self.0.elapsed())
+        }
     }
 }
 

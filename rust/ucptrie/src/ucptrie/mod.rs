@@ -14,6 +14,7 @@ mod names;
 mod offsets;
 mod output;
 mod overlap;
+mod progress;
 mod sets;
 mod streams;
 mod tables;
@@ -31,6 +32,7 @@ use crate::ucptrie::fault::{Fault, about, about_arguments};
 use crate::ucptrie::heading::with_heading;
 use crate::ucptrie::names::test_name;
 use crate::ucptrie::output::{deliver, target_of};
+use crate::ucptrie::progress::{report, started};
 use crate::ucptrie::sets::set;
 use crate::ucptrie::streams::{bytes_at, input_name, put, say};
 use crate::ucptrie::tables::{number, table_at};
@@ -67,6 +69,7 @@ fn make(
     command: &str,
     matches: &ArgMatches,
 ) -> Result<(), Fault> {
+    let start = started(rt);
     let target = target_of(matches)?;
     test_name(matches)?;
     let path = matches
@@ -74,7 +77,9 @@ fn make(
         .map(String::as_str)
         .unwrap_or("-");
     let file = bytes_at(rt, path)?;
+    report(rt, start, "read", file.len());
     let bytes = made(rt, command, matches, input_name(path), &file)?;
+    report(rt, start, "made", bytes.len());
     let whole = with_heading(matches, words, path, &file, bytes)?;
     let is_binary = matches.get_one::<String>("as").map(String::as_str) == Some("icu");
     deliver(rt, target, &whole, is_binary)

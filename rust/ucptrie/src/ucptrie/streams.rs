@@ -59,3 +59,8 @@ pub fn put(rt: &HostRuntime, bytes: &[u8]) -> Result<(), Fault> {
 pub fn say(rt: &HostRuntime, line: &str) {
     let _ = writeln!(io::stderr(), "ucptrie: {line}");
 }
+
+/// Prints on standard error that a step is done, and over how many bytes.
+pub fn say_step(rt: &HostRuntime, step: &str, bytes: usize) {
+    let _ = writeln!(io::stderr(), "ucptrie: {step} {bytes} bytes");
+}
