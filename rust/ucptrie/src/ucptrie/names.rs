@@ -7,13 +7,15 @@ use crate::ucptrie::fault::{Fault, about};
 use crate::ucptrie_tables::source::is_name;
 use clap::ArgMatches;
 
-/// The words that cannot name a module in Rust: its keywords, including the reserved ones, and `_`.
-static KEPT_BY_RUST: [&str; 53] = [
+/// The words that cannot name a module in Rust: its keywords, including the reserved ones, `_`, and
+/// what the source means by `Result`, `TryFrom` and `#[rustfmt::skip]`.
+static KEPT_BY_RUST: [&str; 56] = [
     "_", "abstract", "as", "async", "await", "become", "box", "break", "const", "continue",
     "crate", "do", "dyn", "else", "enum", "extern", "false", "final", "fn", "for", "gen", "if",
     "impl", "in", "let", "loop", "macro", "match", "mod", "move", "mut", "override", "priv", "pub",
-    "ref", "return", "self", "Self", "static", "struct", "super", "trait", "true", "try", "type",
-    "typeof", "unsafe", "unsized", "use", "virtual", "where", "while", "yield",
+    "ref", "Result", "return", "rustfmt", "self", "Self", "static", "struct", "super", "trait",
+    "true", "try", "TryFrom", "type", "typeof", "unsafe", "unsized", "use", "virtual", "where",
+    "while", "yield",
 ];
 
 /// Returns whether Rust keeps a word for itself.
