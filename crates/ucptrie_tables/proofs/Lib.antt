@@ -1,5 +1,6 @@
 mod AskedLemmas
 mod DifferenceLemmas
+mod IdentifierLemmas
 mod JsonLemmas
 mod Printed
 mod SameNumbers

@@ -11,4 +11,5 @@ pub mod Source
 pub mod Stated
 pub mod Tables
 pub mod TomlFiles
+pub mod ValueIdentifiers
 pub mod ValueWidth

@@ -1,6 +1,9 @@
 //! Names of values in source: an enum in C or in Rust.
-ghost use Rattle.std.specs.Prelude.{◌≡◌, ◌<◌, [], false, length, IfOk, string_bytes};
+ghost use Rattle.std.specs.Prelude.{◌≡◌, ◌<◌, ◌++◌, [], ◌∷◌, false, true, length, map, IfOk, OnOk, string_bytes};
+ghost use Rattle.std.specs.List.{list_any};
+ghost use Rattle.std.specs.Str.{bytes_eq};
 ghost use Rattle.ucptrie_tables.specs.Source.{has_names};
+ghost use Rattle.ucptrie_tables.specs.ValueIdentifiers.{before_word, c_byte, camel_case, is_reserved, is_taken, letter, rust_name, value_name, AreIdentifiers};
 
 use crate::written::Form;
 use std::alloc::{AllocError, Global};
@@ -11,104 +14,304 @@ use ucptrie_source::pattern::{push_named, push_number, push_pattern};
 /// How many names are written at most. More are no enum that a program would use.
 const MOST: usize = 4096;
 
-/// Returns whether the name at this index is the longest one of its number, and the first such one.
-fn is_chosen(names: &[Name<'_>], index: usize) -> bool {
-    let Some(name) = names.get(index) else {
-        return false;
-    };
-    for (i, other) in names.iter().enumerate() {
-        let is_longer = other.text.len() > name.text.len();
-        let is_before = other.text.len() == name.text.len() && i < index;
-        if other.number == name.number && (is_longer || is_before) {
-            return false;
+/// Returns whether one of the names has this number and at least so many bytes.
+fn has_name(names: &[Name<'_>], number: usize, length: usize) -> bool {
+    for name in names {
+        if name.number == number && name.text.len() >= length {
+            return true;
         }
     }
-    true
+    false
 }
 
-/// Appends the bytes that a name in source can have. Any other byte becomes `_`, or ends a word if
-/// words start with a capital letter.
-fn push_identifier(text: &mut String, name: &[u8], has_capitals: bool) -> Result<(), AllocError> {
-    let mut is_start = true;
-    let mut was_digit = false;
+/// Returns whether a name between others is the longest one of its number, and the first such one.
+fn is_chosen(before: &[Name<'_>], name: &Name<'_>, after: &[Name<'_>]) -> bool {
+    let length = name.text.len();
+    !has_name(before, name.number, length)
+        && !has_name(after, name.number, length.saturating_add(1))
+}
+
+/// Returns what precedes the first byte of a word in Rust: `V` before a digit at the start of an
+/// identifier, and `_` between two digits. `last` is the letter or digit before the word, or 0 at
+/// the start of an identifier.
+fn before_word(last: u8, byte: u8) -> &'static str
+    ensures { result.now ≡ before_word last byte }
+{
+    if !byte.is_ascii_digit() {
+        return "";
+    }
+    if last == 0 {
+        return "V";
+    }
+    if last.is_ascii_digit() { "_" } else { "" }
+}
+
+/// Appends an ASCII character.
+fn push_ascii(text: &mut String, byte: u8) -> Result<(), AllocError>
+    requires { byte < 128 }
+    ensures { OnOk result (string_bytes text.new ≡ string_bytes text.old ++ byte ∷ []) }
+{
+    text.push(char::from(byte))
+}
+
+/// Appends a letter or digit of a word. The first one of a word is a capital letter.
+fn push_letter(text: &mut String, last: u8, is_first: bool, byte: u8) -> Result<(), AllocError>
+    requires { byte < 128 }
+    ensures { OnOk result (string_bytes text.new
+        ≡ string_bytes text.old ++ letter last is_first byte) }
+{
+    if is_first {
+        text.push_str(before_word(last, byte))?;
+        return push_ascii(text, byte.to_ascii_uppercase());
+    }
+    push_ascii(text, byte)
+}
+
+/// Appends the words of a name in upper camel case. A word is a run of ASCII letters and digits.
+/// `before` is the letter or digit before the name, or 0 at the start of an identifier.
+fn push_words(text: &mut String, before: u8, name: &[u8]) -> Result<(), AllocError>
+    ensures { OnOk result (string_bytes text.new
+        ≡ string_bytes text.old ++ camel_case before true name.now) }
+{
+    let mut last = before;
+    let mut is_first = true;
     for byte in name {
         if !byte.is_ascii_alphanumeric() {
-            is_start = true;
-            if !has_capitals {
-                text.push('_')?;
-            }
+            is_first = true;
             continue;
         }
-        if has_capitals && is_start && was_digit && byte.is_ascii_digit() {
-            text.push('_')?;
-        }
-        let shown = if has_capitals && is_start {
-            byte.to_ascii_uppercase()
-        } else {
-            *byte
-        };
-        text.push(char::from(shown))?;
-        was_digit = byte.is_ascii_digit();
-        is_start = false;
+        push_letter(text, last, is_first, *byte)?;
+        last = *byte;
+        is_first = false;
     }
     Ok(())
 }
 
-/// Appends the name of a value, without a digit at its start. The empty name is that of code
-/// points without a line.
-fn push_value_name(text: &mut String, name: &[u8], has_capitals: bool) -> Result<(), AllocError> {
-    match name {
-        [] => return text.push_str("Unlisted"),
-        [b'-', ..] if has_capitals => text.push_str("Minus")?,
-        [first, ..] if first.is_ascii_digit() => text.push('V')?,
-        _ => {}
+/// Appends the name of a value in Rust: its words, after `Minus` if it starts with `-`.
+fn push_rust_name(text: &mut String, name: &[u8]) -> Result<(), AllocError>
+    ensures { OnOk result (string_bytes text.new ≡ string_bytes text.old ++ rust_name name.now) }
+{
+    if let [b'-', ..] = name {
+        text.push_str("Minus")?;
+        return push_words(text, b's', name);
     }
-    push_identifier(text, name, has_capitals)
+    push_words(text, 0, name)
 }
 
-/// Appends the line of a value in an enum: a prefix, its name and its number.
-fn push_value(
-    text: &mut String,
-    prefix: &str,
+/// Returns a byte of a name in C: `_` for a byte that is no ASCII letter or digit.
+fn c_byte(byte: u8) -> u8
+    ensures value { result ≡ c_byte byte }
+    ensures ascii { result < 128 }
+{
+    if byte.is_ascii_alphanumeric() {
+        byte
+    } else {
+        b'_'
+    }
+}
+
+/// Appends the name of a value in C, byte by byte.
+fn push_c_name(text: &mut String, name: &[u8]) -> Result<(), AllocError>
+    ensures { OnOk result (string_bytes text.new ≡ string_bytes text.old ++ map c_byte name.now) }
+{
+    for byte in name {
+        push_ascii(text, c_byte(*byte))?;
+    }
+    Ok(())
+}
+
+/// Appends the name of a value in source. In C a name that starts with a digit follows `V`. The
+/// empty name is that of code points without a line.
+fn push_value_name(text: &mut String, name: &[u8], is_rust: bool) -> Result<(), AllocError>
+    ensures { OnOk result (string_bytes text.new
+        ≡ string_bytes text.old ++ value_name is_rust name.now) }
+{
+    let [first, ..] = name else {
+        return text.push_str("Unlisted");
+    };
+    if is_rust {
+        return push_rust_name(text, name);
+    }
+    if first.is_ascii_digit() {
+        text.push('V')?;
+    }
+    push_c_name(text, name)
+}
+
+/// A value of an enum in source.
+#[derive(Drop)]
+pub struct EnumValue {
+    /// The name of the value in the enum. In C it follows the table's name and `_`.
+    pub identifier: String,
+    /// The number of the value.
+    pub number: usize,
+}
+
+/// What cannot be a variant in Rust.
+static RESERVED_IN_RUST: [&str; 2] = ["", "Self"];
+
+/// What the source of a table in C defines, without the table's name and `_`.
+static RESERVED_IN_C: [&str; 9] = [
+    "dataLength",
+    "fastLimit",
+    "get",
+    "highStart",
+    "index1",
+    "trie",
+    "trieData",
+    "trieIndex",
+    "value",
+];
+
+/// Returns whether a value cannot have an identifier, whatever the other values are.
+fn is_reserved(is_rust: bool, identifier: &str) -> bool
+    ensures { result ≡ is_reserved is_rust identifier.now }
+{
+    if is_rust {
+        RESERVED_IN_RUST.contains(&identifier)
+    } else {
+        RESERVED_IN_C.contains(&identifier)
+    }
+}
+
+/// Returns whether a text is the identifier of one of the values.
+fn is_identifier_of(values: &[EnumValue], text: &str) -> bool
+    ensures { result
+        ≡ list_any (λ v. bytes_eq text.now (string_bytes v.identifier)) values.now }
+{
+    values.iter().any(|value| text == value.identifier.as_str())
+}
+
+/// Returns whether an identifier is reserved, or that of one of the values.
+fn is_taken(values: &[EnumValue], is_rust: bool, identifier: &str) -> bool
+    ensures { result ≡ is_taken values.now is_rust identifier.now }
+{
+    is_reserved(is_rust, identifier) || is_identifier_of(values, identifier)
+}
+
+/// Appends a number to an identifier.
+fn push_suffix(identifier: &mut String, number: usize) -> Result<(), AllocError> {
+    let last = identifier.as_bytes().last().copied().unwrap_or(0);
+    identifier.push_str(before_word(last, b'0'))?;
+    push_number(identifier, Decimal(number))
+}
+
+/// Appends the number of a value to its identifier until the identifier is not taken: to most of
+/// them not at all.
+fn make_free(
+    identifier: &mut String,
+    number: usize,
+    values: &[EnumValue],
+    is_rust: bool,
+) -> Result<(), AllocError>
+    ensures { OnOk result (is_taken values.now is_rust (string_bytes identifier.new) ≡ false) }
+{
+    for _ in 0..u64::MAX {
+        if !is_taken(values, is_rust, identifier.as_str()) {
+            return Ok(());
+        }
+        push_suffix(identifier, number)?;
+    }
+    // An identifier with so many digits does not fit into memory.
+    Err(AllocError)
+}
+
+/// Returns the identifier of a value: its name in source, and the value's number behind it if the
+/// name is reserved or that of one of the values.
+fn identifier_of(
+    alloc: Global,
     name: &Name<'_>,
-    has_capitals: bool,
-) -> Result<(), AllocError> {
-    text.push_str(prefix)?;
-    push_value_name(text, name.text, has_capitals)?;
+    values: &[EnumValue],
+    is_rust: bool,
+) -> Result<String, AllocError>
+    ensures { IfOk result
+        (λ text. is_taken values.now is_rust (string_bytes text) ≡ false) }
+{
+    let mut identifier = String::new(alloc);
+    push_value_name(&mut identifier, name.text, is_rust)?;
+    make_free(&mut identifier, name.number, values, is_rust)?;
+    Ok(identifier)
+}
+
+/// Appends the value of a name.
+fn push_value(
+    alloc: Global,
+    values: &mut Vec<EnumValue>,
+    name: &Name<'_>,
+    is_rust: bool,
+) -> Result<(), AllocError>
+    ensures { OnOk result (AreIdentifiers is_rust values.old.items
+        → AreIdentifiers is_rust values.new.items) }
+{
+    let identifier = identifier_of(alloc, name, values, is_rust)?;
+    values.push(EnumValue {
+        identifier,
+        number: name.number,
+    })?;
+    Ok(())
+}
+
+/// Returns the values of an enum in Rust or in C: of each number up to `highest` the longest name.
+///
+/// No identifier is reserved, and no two are equal: if a name is reserved or that of a value
+/// before, the number of the value is behind it.
+///
+/// # Errors
+/// Returns [`AllocError`] if an allocation fails.
+pub fn enum_values(
+    alloc: Global,
+    names: &[Name<'_>],
+    is_rust: bool,
+    highest: usize,
+) -> Result<Vec<EnumValue>, AllocError>
+    ensures { IfOk result (λ values. AreIdentifiers is_rust values.items) }
+{
+    let mut values = Vec::new(alloc);
+    for (i, name) in names.iter().enumerate() {
+        let (before, after) = names.split_at(i);
+        if name.number <= highest && is_chosen(before, name, after) {
+            push_value(alloc, &mut values, name, is_rust)?;
+        }
+    }
+    Ok(values)
+}
+
+/// Appends the line of a value in an enum, after its prefix.
+fn push_line(text: &mut String, value: &EnumValue) -> Result<(), AllocError> {
+    text.push_str(value.identifier.as_str())?;
     text.push_str(" = ")?;
-    push_number(text, Decimal(name.number))?;
+    push_number(text, Decimal(value.number))?;
     text.push_str(",\n")
 }
 
-/// Appends the lines of the values in an enum, each with a prefix.
+/// Appends the lines of the values in an enum. Each starts with `start`, in which `@` is replaced
+/// by the table's name.
 fn push_values(
     text: &mut String,
-    prefix: &str,
-    names: &[Name<'_>],
-    has_capitals: bool,
+    start: &str,
+    table: &str,
+    values: &[EnumValue],
 ) -> Result<(), AllocError> {
-    for (i, name) in names.iter().enumerate() {
-        if is_chosen(names, i) {
-            push_value(text, prefix, name, has_capitals)?;
-        }
+    for value in values {
+        push_named(text, start, table)?;
+        push_line(text, value)?;
     }
     Ok(())
 }
 
 /// Appends an arm of a `match` over the numbers of the values of an enum in Rust.
-fn push_arm(text: &mut String, title: &str, name: &Name<'_>) -> Result<(), AllocError> {
-    let number = [Decimal(name.number)];
-    push_pattern(text, "            % => @::", title, &number)?;
-    push_value_name(text, name.text, true)?;
+fn push_arm(text: &mut String, title: &str, value: &EnumValue) -> Result<(), AllocError> {
+    text.push_str("            ")?;
+    push_number(text, Decimal(value.number))?;
+    push_named(text, " => @::", title)?;
+    text.push_str(value.identifier.as_str())?;
     text.push_str(",\n")
 }
 
 /// Appends the arms of a `match` over the numbers of the values of an enum in Rust.
-fn push_arms(text: &mut String, title: &str, names: &[Name<'_>]) -> Result<(), AllocError> {
-    for (i, name) in names.iter().enumerate() {
-        if is_chosen(names, i) {
-            push_arm(text, title, name)?;
-        }
+fn push_arms(text: &mut String, title: &str, values: &[EnumValue]) -> Result<(), AllocError> {
+    for value in values {
+        push_arm(text, title, value)?;
     }
     Ok(())
 }
@@ -131,33 +334,71 @@ const TRY_FROM: &str = "\
 impl TryFrom<u%> for @ {
     type Error = u%;
 
-    #[allow(unreachable_patterns)]
     #[rustfmt::skip]
     fn try_from(value: u%) -> Result<@, u%> {
         Ok(match value {
 ";
 
+/// The arm of numbers without a name in Rust.
+const NO_NAME: &str = "            _ => return Err(value),\n";
+
 /// What follows the arms in Rust.
-const END: &str = "            \
-_ => return Err(value),
-        })
+const END: &str = "        \
+})
     }
 }
 ";
 
-/// Appends the values as an enum in Rust with this title, and the `match` over their numbers.
+/// Appends the values as an enum in Rust with this title, and the `match` over their numbers. Its
+/// last arm is for numbers of so many bits without a name, if there are any.
 fn push_rust_enum(
     text: &mut String,
     title: &str,
     bits: u32,
-    names: &[Name<'_>],
+    values: &[EnumValue],
 ) -> Result<(), AllocError> {
     push_named(text, "pub enum @ {\n", title)?;
-    push_values(text, "    ", names, true)?;
-    let bits = Decimal(bits as usize);
-    push_pattern(text, TRY_FROM, title, &[bits, bits, bits, bits])?;
-    push_arms(text, title, names)?;
+    push_values(text, "    ", "", values)?;
+    let number = Decimal(bits as usize);
+    push_pattern(text, TRY_FROM, title, &[number, number, number, number])?;
+    push_arms(text, title, values)?;
+    if values.len() <= highest_of(bits) {
+        text.push_str(NO_NAME)?;
+    }
     text.push_str(END)
+}
+
+/// Appends the name of the enum in Rust: the words of the module's name, and `Value` behind them if
+/// the words have a meaning in the source, as `Table` beside a module `Table`.
+fn push_title(title: &mut String, module: &str) -> Result<(), AllocError> {
+    push_words(title, 0, module.as_bytes())?;
+    if [module, "", "Result", "Self", "TryFrom"].contains(&title.as_str()) {
+        title.push_str("Value")?;
+    }
+    Ok(())
+}
+
+/// Returns the highest number of 8, 16 or 32 bits.
+fn highest_of(bits: u32) -> usize {
+    match bits {
+        8 => 0xff,
+        16 => 0xffff,
+        _ => 0xffff_ffff,
+    }
+}
+
+/// Appends the values as an enum in Rust, named after the module.
+fn push_rust_names(
+    text: &mut String,
+    alloc: Global,
+    module: &str,
+    bits: u32,
+    values: &[EnumValue],
+) -> Result<(), AllocError> {
+    let mut title = String::new(alloc);
+    push_title(&mut title, module)?;
+    push_pattern(text, MODULE, module, &[Decimal(bits as usize)])?;
+    push_rust_enum(text, title.as_str(), bits, values)
 }
 
 /// Returns the values as an enum in Rust, named after the module.
@@ -167,23 +408,25 @@ fn rust_names(
     bits: u32,
     names: &[Name<'_>],
 ) -> Result<String, AllocError> {
-    let mut title = String::new(alloc);
-    push_identifier(&mut title, module.as_bytes(), true)?;
+    let values = enum_values(alloc, names, true, highest_of(bits))?;
     let mut text = String::new(alloc);
-    push_pattern(&mut text, MODULE, module, &[Decimal(bits as usize)])?;
-    push_rust_enum(&mut text, title.as_str(), bits, names)?;
+    push_rust_names(&mut text, alloc, module, bits, &values)?;
     Ok(text)
+}
+
+/// Appends the values as an enum in C, whose names start with the table's.
+fn push_c_names(text: &mut String, table: &str, values: &[EnumValue]) -> Result<(), AllocError> {
+    let start = "\n// The values of @, by name.\nenum @_value {\n";
+    push_named(text, start, table)?;
+    push_values(text, "    @_", table, values)?;
+    text.push_str("};\n")
 }
 
 /// Returns the values as an enum in C, whose names start with the table's.
 fn c_names(alloc: Global, table: &str, names: &[Name<'_>]) -> Result<String, AllocError> {
-    let mut prefix = String::new(alloc);
-    push_named(&mut prefix, "    @_", table)?;
+    let values = enum_values(alloc, names, false, usize::MAX)?;
     let mut text = String::new(alloc);
-    let start = "\n// The values of @, by name.\nenum @_value {\n";
-    push_named(&mut text, start, table)?;
-    push_values(&mut text, prefix.as_str(), names, false)?;
-    text.push_str("};\n")?;
+    push_c_names(&mut text, table, &values)?;
     Ok(text)
 }
 
