@@ -10,6 +10,7 @@ ghost use Rattle.icu_collections.specs.SetJson.{ends_of};
 use icu_collections::codepointinvlist::{
     CodePointInversionList, CodePointInversionListBuilder, FrozenCodePointSet, SetJsonError,
 };
+use icu_collections::codepointinvliststringlist::CodePointInversionListAndStringList;
 use icu_collections::zerovec::MemoryError;
 use std::alloc::Global;
 use std::ops::RangeInclusive;
@@ -191,4 +192,20 @@ pub fn kept_characters(
         push_if(&mut kept, c, set.contains(c))?;
     }
     Ok(kept)
+}
+
+/// Collects ranges into a set. `None` if an allocation fails.
+pub fn collected(
+    alloc: Global,
+    ranges: [RangeInclusive<u32>; 2],
+) -> Option<CodePointInversionList<'static>> {
+    CodePointInversionList::from_iter(alloc, ranges.into_iter()).ok()
+}
+
+/// Collects texts into a set of code points and texts. `None` if an allocation fails.
+pub fn collected_texts(
+    alloc: Global,
+    texts: &[&str],
+) -> Option<CodePointInversionListAndStringList<'static>> {
+    CodePointInversionListAndStringList::from_iter(alloc, texts.iter().copied()).ok()
 }

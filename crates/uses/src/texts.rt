@@ -1,11 +1,11 @@
 //! What a normalizer checks in a text before it copies it.
 ghost use Rattle.std.specs.Prelude.{◌≡◌, ◌↔◌, IsTrue, Some};
 ghost use Rattle.std.specs.List.{All};
-ghost use Rattle.std.specs.Str.{chars};
+ghost use Rattle.std.specs.Str.{IsCharBoundary, chars};
 ghost use Rattle.icu_collections.specs.CodePointTrie.{trie_value};
 
 use icu_collections::codepointtrie::CodePointTrie;
-use icu_collections::codepointtrie::text::find_value;
+use icu_collections::codepointtrie::text::{find_value, span_of_values};
 
 /// The value of the characters that no step of normalization changes.
 const YES: u8 = 1;
@@ -20,4 +20,12 @@ pub fn is_surely_normal(table: &CodePointTrie<'_, u8>, text: &str) -> bool
     ensures { IsTrue result ↔ All (λ c. trie_value table.now c ≡ Some 1) (chars text.now) }
 {
     find_value(table, text, |value| value != YES).is_none()
+}
+
+/// Returns how many bytes of the text come before the first character without the value 1 in the
+/// table. They are normalized in any context, and end with a whole character.
+pub fn normal_front(table: &CodePointTrie<'_, u8>, text: &str) -> usize
+    ensures { IsCharBoundary text.now result }
+{
+    span_of_values(table, text, |value| value == YES)
 }
