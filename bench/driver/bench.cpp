@@ -4,8 +4,6 @@
 #include "data.hpp"
 #include <algorithm>
 #include <cstdio>
-#include <cstdlib>
-#include <time.h>
 
 using std::string;
 using std::vector;
@@ -35,25 +33,6 @@ enum { LEAST_ROUNDS = 5, MOST_ROUNDS = 400 };
 // A row takes about this many seconds.
 static const double ROW_SECONDS = 0.05;
 
-static vector<string> words;
-
-void fail(const string &what) {
-    fprintf(stderr, "bench: %s\n", what.c_str());
-    exit(1);
-}
-
-bool wanted(const string &kernel) {
-    auto named = [&](const string &word) { return kernel.compare(0, word.size(), word) == 0; };
-    return words.empty() || std::any_of(words.begin(), words.end(), named);
-}
-
-// Processor time of this process, so that other processes on the machine matter less.
-static double seconds() {
-    timespec t;
-    clock_gettime(CLOCK_PROCESS_CPUTIME_ID, &t);
-    return t.tv_sec + 1e-9 * t.tv_nsec;
-}
-
 void row(const string &kernel, const string &data, double each, const Call &ours, const Call &rust,
          const Call &icu) {
     const Call *const calls[] = {&ours, &rust, &icu};
@@ -80,23 +59,11 @@ void row(const string &kernel, const string &data, double each, const Call &ours
     fflush(stdout);
 }
 
-uint32_t random_number(uint32_t below) {
-    static uint64_t state = 1;
-    state = state * 6364136223846793005u + 1442695040888963407u;
-    return (state >> 33) % below;
-}
-
 int main(int count, char **arguments) {
     int i = 1;
     for (; i < count && string(arguments[i]) != "--"; i++) read_table(arguments[i]);
-    for (i++; i < count; i++) words.push_back(arguments[i]);
-    for (const string &word : words) {
-        auto named = [&](const string &kernel) {
-            return kernel.compare(0, word.size(), word) == 0;
-        };
-        if (!std::any_of(std::begin(kernels), std::end(kernels), named))
-            fail("no kernel begins with " + word);
-    }
+    want({arguments + std::min(i + 1, count), arguments + count},
+         {std::begin(kernels), std::end(kernels)});
     tries();
     ranges();
     builds();

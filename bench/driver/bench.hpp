@@ -13,8 +13,14 @@ typedef std::function<uint64_t()> Call;
 
 [[noreturn]] void fail(const std::string &what);
 
+// Takes the words of the command line. Each has to be a kernel's name or a prefix of it.
+void want(const std::vector<std::string> &words, const std::vector<std::string> &kernels);
+
 // Whether the command line names no kernel at all, or this one by its name or a prefix of it.
 bool wanted(const std::string &kernel);
+
+// Processor time of this process, so that other processes on the machine matter less.
+double seconds();
 
 // Compares the results, times the calls in turns, and prints the least time of each library, in ns
 // per one of `each`. An empty call has no time.
@@ -30,6 +36,9 @@ template <typename T> void shuffle(std::vector<T> &all) {
 
 // The peak of heap bytes in use during the call, by any library.
 size_t most_of_heap(const std::function<void()> &call);
+
+// The heap bytes that the call leaves in use.
+size_t left_on_heap(const std::function<void()> &call);
 
 // The subjects.
 void tries();

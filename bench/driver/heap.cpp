@@ -38,10 +38,19 @@ void *realloc(void *block, size_t size) {
 }
 }
 
-size_t most_of_heap(const std::function<void()> &call) {
+static void watch(const std::function<void()> &call) {
     held = most = 0;
     watched = true;
     call();
     watched = false;
+}
+
+size_t most_of_heap(const std::function<void()> &call) {
+    watch(call);
     return most;
+}
+
+size_t left_on_heap(const std::function<void()> &call) {
+    watch(call);
+    return held;
 }

@@ -5,6 +5,7 @@
 #endif
 #include "bench.hpp"
 #include "calls.hpp"
+#include "lists.hpp"
 #include <algorithm>
 #include <cstdio>
 #include <unicode/ucharstrie.h>
@@ -18,82 +19,6 @@ using std::string;
 using std::vector;
 
 enum { UNITS_ROOM = 1 << 21, KEYS_ROOM = 1 << 22 };
-
-// Random keys without duplicates, and their values.
-struct List {
-    string name;
-    vector<UnicodeString> keys;
-    vector<int32_t> values;
-    // The keys one after another, and the position after each.
-    vector<uint16_t> joined;
-    vector<uint32_t> ends;
-};
-
-static void append(UnicodeString &key, const char *text) {
-    key.append(UnicodeString::fromUTF8(text));
-}
-
-template <typename T, size_t N> static T any_of(const T (&all)[N]) { return all[random_number(N)]; }
-
-// A name of two to six syllables.
-static UnicodeString name() {
-    static const char *const syllables[] = {"ka",  "lo",  "mi", "ren", "tu",  "sha", "vel", "or",
-                                            "in",  "ba",  "de", "fro", "gu",  "hal", "is",  "jo",
-                                            "kri", "lan", "mo", "ne",  "ol",  "pra", "qui", "ra",
-                                            "ste", "tor", "ul", "va",  "wen", "yx"};
-    UnicodeString key;
-    for (uint32_t n = 2 + random_number(5); n > 0; n--) append(key, any_of(syllables));
-    return key;
-}
-
-// A language, mostly with a script and a region.
-static UnicodeString locale() {
-    static const char *const scripts[] = {"-Latn", "-Cyrl", "-Arab", "-Hans", "-Hant",
-                                          "-Deva", "",      "",      "",      ""};
-    UnicodeString key;
-    for (uint32_t n = 2 + random_number(2); n > 0; n--)
-        key.append(char16_t('a' + random_number(26)));
-    append(key, any_of(scripts));
-    if (random_number(4) > 0) {
-        key.append(char16_t('-'));
-        for (int n = 0; n < 2; n++) key.append(char16_t('A' + random_number(26)));
-    }
-    return key;
-}
-
-// One to four pictures, joined or coloured.
-static UnicodeString emoji() {
-    UnicodeString key;
-    for (uint32_t n = 1 + random_number(4); n > 0; n--) {
-        key.append(UChar32(0x1F300 + random_number(0x350)));
-        if (random_number(3) == 0) key.append(UChar32(0x1F3FB + random_number(5)));
-        if (n > 1) key.append(char16_t(0x200D));
-    }
-    return key;
-}
-
-static UnicodeString han() {
-    UnicodeString key;
-    for (uint32_t n = 1 + random_number(3); n > 0; n--)
-        key.append(char16_t(0x4E00 + random_number(3000)));
-    return key;
-}
-
-// A list of about `count` keys. All values differ, or with `few_values` four of them alternate.
-static List list_of(const string &name, size_t count, UnicodeString (*key)(),
-                    bool few_values = false) {
-    List list = {name, {}, {}, {}, {}};
-    for (size_t i = 0; i < count; i++) list.keys.push_back(key());
-    std::sort(list.keys.begin(), list.keys.end());
-    list.keys.erase(std::unique(list.keys.begin(), list.keys.end()), list.keys.end());
-    shuffle(list.keys);
-    for (const UnicodeString &each : list.keys) {
-        list.values.push_back(few_values ? list.values.size() % 4 : list.values.size() * 7 + 1);
-        for (int32_t i = 0; i < each.length(); i++) list.joined.push_back(each[i]);
-        list.ends.push_back(list.joined.size());
-    }
-    return list;
-}
 
 static UnicodeString icu_units(const List &list, UStringTrieBuildOption option) {
     UErrorCode error = U_ZERO_ERROR;
@@ -162,16 +87,6 @@ static uint64_t icu_longest(const UnicodeString &units, const vector<uint16_t> &
         sum = mixed(mixed(sum, length), value);
     }
     return sum;
-}
-
-// The keys of a list, joined by spaces.
-static vector<uint16_t> text_of(const List &list) {
-    vector<uint16_t> text;
-    for (const UnicodeString &each : list.keys) {
-        for (int32_t i = 0; i < each.length(); i++) text.push_back(each[i]);
-        text.push_back(' ');
-    }
-    return text;
 }
 
 static vector<uint8_t> bytes_of(const UnicodeString &units) {
@@ -327,17 +242,15 @@ static void build(const List &list) {
 void unit_tries() {
     if (wanted("c16_iter") || wanted("c16_entries") || wanted("c16_look") ||
         wanted("c16_longest") || wanted("c_words") || wanted("cpp_words"))
-        for (const List &list : {list_of("words", 10000, name), list_of("locales", 4000, locale),
-                                 list_of("emoji", 3000, emoji), list_of("han", 20000, han)})
-            read(list);
+        for (const List &list : four_lists()) read(list);
     if (!wanted("c16_build")) return;
     for (bool few : {false, true}) {
         const string values = few ? "-4values" : "";
-        for (const List &list : {list_of("words" + values, 10000, name, few),
-                                 list_of("names" + values, 110000, name, few),
-                                 list_of("locales" + values, 4000, locale, few),
-                                 list_of("emoji" + values, 3000, emoji, few),
-                                 list_of("han" + values, 20000, han, few)})
+        for (const List &list : {list_of("words" + values, 10000, keys::name, few),
+                                 list_of("names" + values, 110000, keys::name, few),
+                                 list_of("locales" + values, 4000, keys::locale, few),
+                                 list_of("emoji" + values, 3000, keys::emoji, few),
+                                 list_of("han" + values, 20000, keys::han, few)})
             build(list);
     }
     // Ten keys; key k is 20,000 times the unit k.
