@@ -37,7 +37,9 @@ void row(const string &kernel, const string &data, double each, const Call &ours
          const Call &icu) {
     const Call *const calls[] = {&ours, &rust, &icu};
     static const char *const names[] = {"ours", "Rust", "ICU"};
-    double best[] = {1e9, 1e9, 1e9};
+    // The least time and the least but one of each library. The latter counts: now and then, the
+    // processor clock of a virtual machine reports no time for a whole round.
+    double least[] = {1e9, 1e9, 1e9}, best[] = {1e9, 1e9, 1e9};
     const uint64_t answer = ours();
     const double begun = seconds();
     // The libraries take turns in each round, so that a disturbance affects all of them alike.
@@ -48,7 +50,9 @@ void row(const string &kernel, const string &data, double each, const Call &ours
             if (!*calls[i]) continue;
             const double start = seconds();
             const uint64_t other = (*calls[i])();
-            best[i] = std::min(best[i], seconds() - start);
+            const double time = seconds() - start;
+            best[i] = std::min(best[i], std::max(time, least[i]));
+            least[i] = std::min(least[i], time);
             if (other != answer)
                 fail(kernel + ", " + data + ": " + names[i] + " answers otherwise");
         }

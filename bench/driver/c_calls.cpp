@@ -58,8 +58,10 @@ static uint64_t sum_of(const vector<uint8_t> &values, size_t count) {
 
 static uint64_t icu_values(const UCPTrie *trie, const string &text, vector<uint8_t> &values) {
     const uint8_t *at = reinterpret_cast<const uint8_t *>(text.data()), *end = at + text.size();
+    // A local copy: a write of a byte could change the vector itself, for the compiler.
+    uint8_t *const into = values.data();
     size_t count = 0;
-    while (at < end) UCPTRIE_FAST_U8_NEXT(trie, UCPTRIE_8, at, end, values[count++]);
+    while (at < end) UCPTRIE_FAST_U8_NEXT(trie, UCPTRIE_8, at, end, into[count++]);
     return sum_of(values, count);
 }
 
@@ -92,11 +94,14 @@ static void copies(const string &name, const Opened &ours, const UCPTrie *icu, c
         [&] {
             const uint8_t *at = reinterpret_cast<const uint8_t *>(one.bytes.data()),
                           *end = at + one.bytes.size();
+            const UCPTrie *const trie = icu;
+            uint8_t *const into = values.data();
+            const size_t most = room;
             uint64_t sum = 0;
             while (at < end) {
                 size_t count = 0;
-                while (count < room && at < end)
-                    UCPTRIE_FAST_U8_NEXT(icu, UCPTRIE_8, at, end, values[count++]);
+                while (count < most && at < end)
+                    UCPTRIE_FAST_U8_NEXT(trie, UCPTRIE_8, at, end, into[count++]);
                 sum += sum_of(values, count);
             }
             return sum;

@@ -172,8 +172,11 @@ static void over_texts(const AlongText &along, const Table &table, bool is_fast)
 __attribute__((noinline)) static uint64_t copied(const UCPTrie *trie, const string &text,
                                                  vector<uint8_t> &values, uint64_t sum) {
     const uint8_t *at = reinterpret_cast<const uint8_t *>(text.data()), *end = at + text.size();
-    for (size_t i = 0; at < end && i < values.size(); i++)
-        UCPTRIE_FAST_U8_NEXT(trie, UCPTRIE_8, at, end, values[i]);
+    // Local copies: a write of a byte could change the vector itself, for the compiler.
+    uint8_t *const into = values.data();
+    const size_t room = values.size();
+    for (size_t i = 0; at < end && i < room; i++)
+        UCPTRIE_FAST_U8_NEXT(trie, UCPTRIE_8, at, end, into[i]);
     for (uint8_t value : values) sum += value;
     return sum;
 }
