@@ -189,6 +189,8 @@ UNTYPED_BODIES = """
 """
 # Changes to one source: pattern, replacement, and how often the pattern occurs.
 EDITS = {
+    # The kit's library needs `std::simd`.
+    "icu_collections_c/well_formed": [(r"simdutf8::is_utf8\(", "is_utf8_by_position(", 1)],
     # Reads of cells, by the functions of rust/support/cells.
     "icu_zerovec/cells": [
         (r"let start = i \* T::WIDTH;\n.*", "T::from_unaligned(cell(bytes, T::WIDTH, i)?)", 1),

@@ -26,3 +26,5 @@ mod TextStepLemmas
 mod UnitPageLemmas
 mod NearLemmas
 mod WideLemmas
+mod Utf8LeadLemmas
+mod Utf8PositionLemmas

@@ -8,7 +8,7 @@
 //! - `opening`: opens a trie in ICU's binary form
 //! - `building`: builds a trie from rows, in ICU's binary form
 //! - `tries`: a trie as C sees it, and its values
-//! - `texts`: the values of the characters of a text
+//! - `texts`: the values of the characters of a text; `well_formed`: whether it is UTF-8
 //! - `ranges`: the ranges of a trie, and whether it is coherent
 //! - `value_sets`: the set of the code points with a value
 //! - `sets`: sets as lists of their boundaries, and queries of them
@@ -64,4 +64,5 @@ pub mod unit_tries;
 mod units;
 pub mod value_sets;
 pub mod version;
+pub mod well_formed;
 mod wide_characters;

@@ -15,6 +15,7 @@ ghost use Rattle.icu_collections_c.specs.Inside.TextCells.{parts_from};
 use crate::cells::{UnsignedValue, count_of, last_value, value_at, value_there};
 use crate::status::Refusal;
 use crate::tries::{Trie, header_of, value_of};
+use crate::well_formed::{count_of_characters, is_utf8};
 use icu_trie_core::header::CodePointTrieHeader;
 use icu_trie_text::copy_parts::{Copied, PartValues, copy_parts};
 use icu_trie_text::first_utf16::first_code_point;
@@ -154,23 +155,11 @@ fn copy_to<T: UnsignedValue>(
     copied.values
 }
 
-/// Returns how many characters a text has.
-fn count_of_characters(text: &str) -> usize
-    ensures count { result ≡ length (chars text.now) }
-    ensures bound { result ≤ length text.now }
-{
-    let mut count = 0;
-    for c in text.chars() {
-        let _ = c;
-        count += 1;
-    }
-    count
-}
-
 /// Writes the values of the characters of a text to the start of a buffer, as many as fit, and
 /// returns how many characters there are. The value is `none` if the trie has no cell at all.
 #[inline(always)]
-fn write_text<T: UnsignedValue>(trie: &Trie<'_>, text: &str, values: &mut [T], none: T) -> usize
+fn write_text<T: UnsignedValue>(trie: &Trie<'_>, text: &[u8], values: &mut [T], none: T) -> usize
+    requires { IsUtf8 text.now }
     ensures count { result ≡ length (chars text.now) }
     ensures bound { result ≤ length text.now }
     ensures values { values.new
@@ -178,7 +167,7 @@ fn write_text<T: UnsignedValue>(trie: &Trie<'_>, text: &str, values: &mut [T], n
         (map (λ c. unwrap_or (trie_value (parts_in T.unpack T.WIDTH trie.now) c) none)
         (chars text.now)) values.old }
 {
-    let copied = copy_text(trie, text.as_bytes(), values, none);
+    let copied = copy_text(trie, text, values, none);
     if copied.bytes < text.len() {
         return count_of_characters(text);
     }
@@ -221,10 +210,10 @@ pub extern "C" fn bks_trie8_get_utf8(trie: &Trie<'_>, text: &[u8], values: &mut 
         values.old values.new result }
     ensures bound { (n : ℕ) → result ≡ pos n → n ≤ length text.now }
 {
-    match str::from_utf8(text) {
-        Ok(text) => write_text(trie, text, values, 0) as i64,
-        Err(_) => Refusal::NoText.number(),
+    if !is_utf8(text) {
+        return Refusal::NoText.number();
     }
+    write_text(trie, text, values, 0) as i64
 }
 
 /// Writes the values of the characters of a UTF-8 text, in a trie of 16-bit values, to the start of
@@ -240,10 +229,10 @@ pub extern "C" fn bks_trie16_get_utf8(trie: &Trie<'_>, text: &[u8], values: &mut
         values.old values.new result }
     ensures bound { (n : ℕ) → result ≡ pos n → n ≤ length text.now }
 {
-    match str::from_utf8(text) {
-        Ok(text) => write_text(trie, text, values, 0) as i64,
-        Err(_) => Refusal::NoText.number(),
+    if !is_utf8(text) {
+        return Refusal::NoText.number();
     }
+    write_text(trie, text, values, 0) as i64
 }
 
 /// Writes the values of the characters of a UTF-8 text, in a trie of 32-bit values, to the start of
@@ -259,10 +248,10 @@ pub extern "C" fn bks_trie32_get_utf8(trie: &Trie<'_>, text: &[u8], values: &mut
         values.old values.new result }
     ensures bound { (n : ℕ) → result ≡ pos n → n ≤ length text.now }
 {
-    match str::from_utf8(text) {
-        Ok(text) => write_text(trie, text, values, 0) as i64,
-        Err(_) => Refusal::NoText.number(),
+    if !is_utf8(text) {
+        return Refusal::NoText.number();
     }
+    write_text(trie, text, values, 0) as i64
 }
 
 /// Writes the values of the characters of a text that may be ill-formed UTF-8, in a trie of 8-bit

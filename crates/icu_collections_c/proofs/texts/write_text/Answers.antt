@@ -11,22 +11,22 @@ pub returns-then-copied-text-clause-values : goal.returns-then-copied-text-claus
 returns-then-copied-text-clause-values g c =
     copied_text (λ (u : ℕ). unwrap_or (trie_value (parts_in g.T.AsULE.unpack g.T.AsULE.WIDTH c.args.trie.now) u) c.args.none)
     c.args.text.now c.args.values.now c.copy_text-copied.new.values c.copy_text-copied.result.values c.copy_text-copied.result.bytes
-    c.utf8.text (rw c.as_bytes.ensures.value at c.copy_text-copied.ensures)
+    c.requires c.copy_text-copied.ensures
 
 pub returns-clause-values : goal.returns-clause-values
 returns-clause-values g c =
     copied_text (λ (u : ℕ). unwrap_or (trie_value (parts_in g.T.AsULE.unpack g.T.AsULE.WIDTH c.args.trie.now) u) c.args.none)
     c.args.text.now c.args.values.now c.copy_text-copied.new.values c.copy_text-copied.result.values c.copy_text-copied.result.bytes
-    c.utf8.text (rw c.as_bytes.ensures.value at c.copy_text-copied.ensures)
+    c.requires c.copy_text-copied.ensures
 
 pub returns-clause-count : goal.returns-clause-count
 returns-clause-count g c =
     copied_count (λ (u : ℕ). unwrap_or (trie_value (parts_in g.T.AsULE.unpack g.T.AsULE.WIDTH c.args.trie.now) u) c.args.none)
     c.args.text.now c.args.values.now c.copy_text-copied.new.values c.copy_text-copied.result.values c.copy_text-copied.result.bytes
-    c.utf8.text (rw c.as_bytes.ensures.value at c.copy_text-copied.ensures) (omega (arith, c.if-copied-text.false))
+    c.requires c.copy_text-copied.ensures (omega (arith, c.if-copied-text.false))
 
 pub returns-clause-bound : goal.returns-clause-bound
 returns-clause-bound g c =
     let count = returns-clause-count g c in
-    let bytes = ap (λ (bs : _). length bs) (encodes-chars c.args.text.now c.utf8.text) in
+    let bytes = ap (λ (bs : _). length bs) (encodes-chars c.args.text.now c.requires) in
     omega (arith, count, bytes, length-le-encodes (chars c.args.text.now))
