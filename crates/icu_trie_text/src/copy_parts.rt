@@ -197,7 +197,8 @@ fn near_three<T, V: PartValues<T>>(trie: &V, bytes: &[u8]) -> Option<T>
 }
 
 /// Returns the value of the four-byte character at the start of the bytes. `None` if there is none.
-#[inline(always)]
+/// It is a call, so that the loop over characters of two and three bytes keeps its registers.
+#[inline(never)]
 fn near_four<T, V: PartValues<T>>(trie: &V, bytes: &[u8]) -> Option<T>
     requires bytes { 4 ≤ length bytes.now }
     requires from { 0xF0 ≤ slice_index bytes.now 0 }
