@@ -1,6 +1,6 @@
 //! Names of values, and their numbers.
 ghost use Rattle.std.specs.Prelude.{◌≡◌, ◌<◌, ◌∷◌, [], length, IfNone, IfSome};
-ghost use Rattle.ucd_files.specs.Names.{is_alike, is_same_name, is_significant, loose, number_named, number_of, short_decimal};
+ghost use Rattle.ucd_files.specs.Names.{is_alike, is_same_name, is_significant, loose, number_of, short_decimal};
 
 use crate::value_names::ValueNames;
 use ucptab_table::digits::{decimal_number, hexadecimal};
@@ -75,15 +75,6 @@ pub fn is_same_name(left: &[u8], right: &[u8]) -> bool
     ensures { result ≡ is_same_name left.now right.now }
 {
     left.starts_with(b"-".as_slice()) == right.starts_with(b"-".as_slice()) && is_alike(left, right)
-}
-
-/// Returns the number of the first of the names that is the same as the text.
-#[tactic(auto, unfolding(crate::specs::Names::number_named))]
-pub(crate) fn number_named(names: &[Name<'_>], text: &[u8]) -> Option<usize>
-    ensures { result ≡ number_named names.now text.now }
-{
-    let found = names.iter().find(|name| is_same_name(name.text, text))?;
-    Some(found.number)
 }
 
 /// Returns the number of at most 32 bits that decimal digits write.

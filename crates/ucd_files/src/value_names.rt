@@ -1,9 +1,10 @@
 //! Names of values, each of which is found without a comparison with all others.
-ghost use Rattle.std.specs.Prelude.{◌≡◌, ℕ, ◌∷◌, ◌++◌, [], IfOk, OnErr, OnOk};
-ghost use Rattle.ucd_files.specs.Inside.Groups.{group, name_hash, with_hash};
+ghost use Rattle.std.specs.Prelude.{◌≡◌, ℕ, ◌==◌, ◌∷◌, ◌++◌, [], if◌then◌else◌, slice_get, IfOk, OnErr, OnOk};
+ghost use Rattle.std.specs.List.{filter_map};
+ghost use Rattle.ucd_files.specs.Inside.Groups.{group, name_hash};
 ghost use Rattle.ucd_files.specs.Names.{number_named, pairs_of};
 
-use crate::names::{Name, first_significant, number_named};
+use crate::names::{Name, first_significant, is_same_name};
 use std::alloc::{AllocError, Global};
 use std::collections::HashMap;
 use std::marker::Model;
@@ -16,9 +17,10 @@ const FACTOR: u64 = 0x100_0000_01b3;
 #[derive(Debug, Drop)]
 pub struct ValueNames<'a> {
     names: Vec<Name<'a>>,
-    // For each hash, the names that have it, in order. The hash is of what counts if names are
-    // compared, so names that are the same are in one group, and a look-up allocates nothing.
-    groups: HashMap<u64, Vec<Name<'a>>>,
+    // For each hash, the indices of the names that have it, in order. The hash is of what counts if
+    // names are compared, so names that are the same are in one group, and a look-up allocates
+    // nothing.
+    groups: HashMap<u64, Vec<usize>>,
 }
 
 impl<'a> Model for ValueNames<'a> {
@@ -49,17 +51,32 @@ fn hash_of(text: &[u8]) -> u64
     hash
 }
 
-/// Appends a name to the group of its hash.
-fn push_in_group<'a>(
-    groups: &mut HashMap<u64, Vec<Name<'a>>>,
-    name: Name<'a>,
+/// Appends the index of a name to the group of its hash.
+fn push_in_group(
+    groups: &mut HashMap<u64, Vec<usize>>,
+    hash: u64,
+    index: usize,
 ) -> Result<(), AllocError>
-    ensures ok { OnOk result ((hash : ℕ) → group groups.new hash
-        ≡ group groups.old hash ++ with_hash hash (name.entry ∷ [])) }
-    ensures err { OnErr result ((hash : ℕ) → group groups.new hash ≡ group groups.old hash) }
+    ensures ok { OnOk result ((other : ℕ) → group groups.new other
+        ≡ group groups.old other ++ (if hash == other then index ∷ [] else [])) }
+    ensures err { OnErr result ((other : ℕ) → group groups.new other ≡ group groups.old other) }
 {
-    groups.entry(hash_of(name.text))?.or_default().push(name)?;
+    groups.entry(hash)?.or_default().push(index)?;
     Ok(())
+}
+
+/// Returns the number of the first of the names at these indices that is the same as the text.
+fn number_among(names: &[Name<'_>], indices: &[usize], text: &[u8]) -> Option<usize>
+    ensures { result ≡ number_named (filter_map (slice_get names.now) indices.now) text.now }
+{
+    for index in indices {
+        if let Some(name) = names.get(*index) {
+            if is_same_name(name.text, text) {
+                return Some(name.number);
+            }
+        }
+    }
+    None
 }
 
 impl<'a> ValueNames<'a> {
@@ -86,7 +103,7 @@ impl<'a> ValueNames<'a> {
         ensures { result ≡ number_named self.now text.now }
     {
         let group = self.groups.get(&hash_of(text))?;
-        number_named(group, text)
+        number_among(self.names.as_slice(), group, text)
     }
 
     /// Appends a name with its number.
@@ -97,10 +114,9 @@ impl<'a> ValueNames<'a> {
         ensures { IfOk result
             (λ _. pairs_of self.new ≡ pairs_of self.old ++ (text.now, number) ∷ []) }
     {
-        let name = Name { text, number };
         self.names.reserve(1)?;
-        push_in_group(&mut self.groups, name)?;
-        self.names.push_reserved(name);
+        push_in_group(&mut self.groups, hash_of(text), self.names.len())?;
+        self.names.push_reserved(Name { text, number });
         Ok(())
     }
 }

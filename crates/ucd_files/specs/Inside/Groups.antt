@@ -1,5 +1,5 @@
 -- Names of values in groups, by their hash. A look-up compares the names of one group only.
-use Rattle.std.specs.Prelude.{◌≡◌, ℕ, ◌+◌, ◌*◌, ◌%◌, ◌^◌, ◌==◌, nat_eq, List, [], Vec, fold}
+use Rattle.std.specs.Prelude.{◌≡◌, ℕ, ◌+◌, ◌*◌, ◌%◌, ◌^◌, ◌==◌, nat_eq, List, [], Vec, Some, fold, map, slice_get}
 use Rattle.std.specs.Global.{Global}
 use Rattle.std.specs.HashMap.{HashMap, get}
 use Rattle.std.specs.List.{filter}
@@ -19,10 +19,11 @@ name_hash text = fold mixed 0 (loose text)
 abbrev pub with_hash : ℕ → List Name → List Name
 with_hash hash names = filter (λ name. name_hash name.text.now == hash) names
 
--- The group of a hash. It is empty if the map has none.
-abbrev pub group : {S : Type 0} → HashMap ℕ (Vec Name Global) S → ℕ → List Name
-group groups hash = option_map_or (λ names. names.items) (get nat_eq groups hash) []
+-- The group of a hash: the indices of names. It is empty if the map has none.
+abbrev pub group : {S : Type 0} → HashMap ℕ (Vec ℕ Global) S → ℕ → List ℕ
+group groups hash = option_map_or (λ indices. indices.items) (get nat_eq groups hash) []
 
--- The group of each hash has the names with this hash, in order.
-abbrev pub AreGroups : {S : Type 0} → HashMap ℕ (Vec Name Global) S → List Name → Type 0
-AreGroups groups names = (hash : ℕ) → group groups hash ≡ with_hash hash names
+-- The group of each hash has the indices of the names with this hash, in order.
+abbrev pub AreGroups : {S : Type 0} → HashMap ℕ (Vec ℕ Global) S → List Name → Type 0
+AreGroups groups names = (hash : ℕ)
+    → map (slice_get names) (group groups hash) ≡ map Some (with_hash hash names)

@@ -66,12 +66,6 @@ pub fn is_same_name(left: &[u8], right: &[u8]) -> bool {
     left.starts_with(b"-".as_slice()) == right.starts_with(b"-".as_slice()) && is_alike(left, right)
 }
 
-/// Returns the number of the first of the names that is the same as the text.
-pub(crate) fn number_named(names: &[Name<'_>], text: &[u8]) -> Option<usize> {
-    let found = names.iter().find(|name| is_same_name(name.text, text))?;
-    Some(found.number)
-}
-
 /// Returns the number of at most 32 bits that decimal digits write.
 pub(crate) fn short_decimal(text: &[u8]) -> Option<u32> {
     let number = decimal_number(text)?;

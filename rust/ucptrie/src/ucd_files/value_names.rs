@@ -6,7 +6,7 @@ use crate::support::AllocError;
 use crate::support::HashMap;
 #[allow(unused_imports)]
 use crate::support::prelude::*;
-use crate::ucd_files::names::{Name, first_significant, number_named};
+use crate::ucd_files::names::{Name, first_significant, is_same_name};
 
 /// By what a hash is multiplied before a byte is added: the prime of the hash FNV-1a.
 const FACTOR: u64 = 0x100_0000_01b3;
@@ -16,9 +16,10 @@ const FACTOR: u64 = 0x100_0000_01b3;
 #[derive(Debug)]
 pub struct ValueNames<'a> {
     names: Vec<Name<'a>>,
-    // For each hash, the names that have it, in order. The hash is of what counts if names are
-    // compared, so names that are the same are in one group, and a look-up allocates nothing.
-    groups: HashMap<u64, Vec<Name<'a>>>,
+    // For each hash, the indices of the names that have it, in order. The hash is of what counts if
+    // names are compared, so names that are the same are in one group, and a look-up allocates
+    // nothing.
+    groups: HashMap<u64, Vec<usize>>,
 }
 
 /// Returns the hash of a name, which is the same for all names that are the same.
@@ -32,13 +33,26 @@ fn hash_of(text: &[u8]) -> u64 {
     hash
 }
 
-/// Appends a name to the group of its hash.
-fn push_in_group<'a>(
-    groups: &mut HashMap<u64, Vec<Name<'a>>>,
-    name: Name<'a>,
+/// Appends the index of a name to the group of its hash.
+fn push_in_group(
+    groups: &mut HashMap<u64, Vec<usize>>,
+    hash: u64,
+    index: usize,
 ) -> Result<(), AllocError> {
-    groups.try_or_default(hash_of(name.text))?.try_push(name)?;
+    groups.try_or_default(hash)?.try_push(index)?;
     Ok(())
+}
+
+/// Returns the number of the first of the names at these indices that is the same as the text.
+fn number_among(names: &[Name<'_>], indices: &[usize], text: &[u8]) -> Option<usize> {
+    for index in indices {
+        if let Some(name) = names.get(*index) {
+            if is_same_name(name.text, text) {
+                return Some(name.number);
+            }
+        }
+    }
+    None
 }
 
 impl<'a> ValueNames<'a> {
@@ -58,7 +72,7 @@ impl<'a> ValueNames<'a> {
     /// Returns the number of the first of the names that is the same as the text.
     pub fn number_named(&self, text: &[u8]) -> Option<usize> {
         let group = self.groups.get(&hash_of(text))?;
-        number_named(group, text)
+        number_among(self.names.as_slice(), group, text)
     }
 
     /// Appends a name with its number.
@@ -66,10 +80,9 @@ impl<'a> ValueNames<'a> {
     /// # Errors
     /// Returns [`AllocError`] if an allocation fails.
     pub fn try_push(&mut self, number: usize, text: &'a [u8]) -> Result<(), AllocError> {
-        let name = Name { text, number };
         self.names.try_room(1)?;
-        push_in_group(&mut self.groups, name)?;
-        self.names.push(name);
+        push_in_group(&mut self.groups, hash_of(text), self.names.len())?;
+        self.names.push(Name { text, number });
         Ok(())
     }
 }
