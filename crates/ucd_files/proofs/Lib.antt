@@ -1,3 +1,4 @@
+pub mod CallerLemmas
 mod GroupLemmas
 mod KnownNames
 mod NameLemmas

@@ -44,7 +44,7 @@ number_named names text =
 unfoldable pub short_number : ℕ → Option ℕ
 short_number n = if nat_le n 0xFFFFFFFF then Some n else None
 
--- A number of at most 32 bits in decimal digits.
+-- A number of at most 32 bits in 1 to 10 decimal digits.
 unfoldable pub short_decimal : List ℕ → Option ℕ
 short_decimal text = option_and_then short_number (decimal_number text)
 

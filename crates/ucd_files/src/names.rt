@@ -77,9 +77,10 @@ pub fn is_same_name(left: &[u8], right: &[u8]) -> bool
     left.starts_with(b"-".as_slice()) == right.starts_with(b"-".as_slice()) && is_alike(left, right)
 }
 
-/// Returns the number of at most 32 bits that decimal digits write.
+/// Returns the number that a text writes in 1 to 10 decimal digits. Returns `None` for any other
+/// text and for a number of more than 32 bits.
 #[tactic(auto, unfolding(crate::specs::Names::short_decimal, crate::specs::Names::short_number))]
-pub(crate) fn short_decimal(text: &[u8]) -> Option<u32>
+pub fn short_decimal(text: &[u8]) -> Option<u32>
     ensures { result ≡ short_decimal text.now }
 {
     let number = decimal_number(text)?;

@@ -1,21 +1,19 @@
 -- Values stated in comments: line by line, and read back from the text that states them.
-use Rattle.std.proofs.Common.{◌≡◌, ℕ, ◌-◌, ◌^◌, ◌<◌, ◌==◌, true, false, nat_lt, nat_le, List, [], ◌∷◌, ◌++◌, length, append_assoc, codes, decimal, slice_get, Option, Some, None, refl, sym, ap, ◌∙◌, arith}
-use Rattle.std.specs.Char.{is_digit}
+use Rattle.std.proofs.Common.{◌≡◌, ℕ, ◌-◌, ◌^◌, ◌<◌, ◌==◌, true, false, nat_lt, List, [], ◌∷◌, ◌++◌, length, append_assoc, codes, decimal, slice_get, Option, Some, None, refl, sym, ap, ◌∙◌, arith}
 use Rattle.std.specs.List.{AllPass, cons_option, filter_map, list_all, slice_split}
-use Rattle.std.specs.Option.{option_and_then, option_or, unwrap_or}
+use Rattle.std.specs.Option.{option_or, unwrap_or}
 use Rattle.std.specs.Str.Lines.{lines, lines_of_parts, strip_carriage_return}
 use Rattle.std.specs.Str.Parse.{AllDigits}
 use Rattle.std.proofs.lemmas.Bool.{and_from}
 use Rattle.std.proofs.lemmas.Bool.Decides.{nat_tests}
-use Rattle.std.proofs.lemmas.Fmt.{decimal_is_IsNumeral, length-decimal-le}
+use Rattle.std.proofs.lemmas.Fmt.{decimal_is_IsNumeral}
 use Rattle.std.proofs.lemmas.List.Elements.{All-weaker}
 use Rattle.std.proofs.lemmas.List.Folds.{list_all-append}
 use Rattle.std.proofs.lemmas.List.Splits.{length-slice_split, slice_split_at}
 use Rattle.std.proofs.lemmas.List.Sums.{AllPass-from_list_all}
 use Rattle.std.proofs.lemmas.Str.Parse.{digit_from_value}
 use Rattle.icu_trie.specs.Parts.{Parts, last_cell}
-use Rattle.ucptab_table.specs.TableText.{decimal_number, number_of}
-use Rattle.ucd_files.specs.Names.{short_number}
+use Rattle.ucd_files.proofs.CallerLemmas.{short_decimal-decimal}
 use Rattle.ucptrie_tables.specs.Stated.{StatesValues, mark_of, number_after, stated, stated_by, stating_line, stating_lines}
 
 -- ---- One line more
@@ -44,24 +42,9 @@ stated-all name None file none = rw none refl
 
 -- ---- Digits
 
-digits_pass : (ds : List ℕ) → AllDigits 10 ds → list_all (λ c. is_digit c 10) ds ≡ true
-digits_pass [] d = refl
-digits_pass (c ∷ ds) d = and_from _ _ (grind (arith, nat_tests, d.0)) (digits_pass ds d.1)
-
 digits_above : (ds : List ℕ) → AllDigits 10 ds → list_all (λ b. nat_lt 13 b) ds ≡ true
 digits_above [] d = refl
 digits_above (c ∷ ds) d = and_from _ _ (grind (arith, nat_tests, digit_from_value c d.0)) (digits_above ds d.1)
-
--- the number that decimal digits write is read again
-number_read : (n : ℕ) → n < 2 ^ 32 → option_and_then short_number (decimal_number (decimal n)) ≡ Some n
-unfolding number_of short_number
-number_read n small =
-    let is = decimal_is_IsNumeral n (omega (arith, small)) in
-    let some : nat_lt 0 (length (decimal n)) ≡ true = grind (arith, nat_tests, is.0.0) in
-    let most = length-decimal-le 10 n (omega arith) (omega (arith, small)) (omega (arith, small)) in
-    let few : nat_le (length (decimal n)) 10 ≡ true = grind (arith, nat_tests, most) in
-    let short : nat_le n 0xFFFFFFFF ≡ true = grind (arith, nat_tests, small) in
-    rw (some, few, digits_pass (decimal n) is.0.1, is.1, short) refl
 
 -- ---- Lines
 
@@ -114,9 +97,9 @@ StatesValues-comments t e rest small small_error is =
     ap lines (append_assoc (stating_line null_name n) error_line rest)
     ∙ (comment_read null_name n (error_line ++ rest) refl small
     ∙ ap (λ ls. null_read ∷ ls) (ap (λ line. lines (line ++ rest)) same ∙ comment_read error_name e rest refl small_error)) in
-    let own : stated_by null_name null_read ≡ Some n = number_read n small in
+    let own : stated_by null_name null_read ≡ Some n = short_decimal-decimal n small in
     let other : stated_by error_name null_read ≡ None = refl in
-    let own_error : stated_by error_name error_read ≡ Some e = number_read e small_error in
+    let own_error : stated_by error_name error_read ≡ Some e = short_decimal-decimal e small_error in
     record {
       null = ap (λ ls. slice_get (filter_map (stated_by null_name) ls) 0) all
           ∙ ap (λ o. slice_get (cons_option o (filter_map (stated_by null_name) (error_read ∷ lines rest))) 0) own;

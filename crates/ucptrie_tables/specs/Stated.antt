@@ -2,11 +2,10 @@
 -- not have: `# null value: N` and `# error value: N`, as `ucptrie show` prints them.
 use Rattle.std.specs.Prelude.{◌≡◌, ℕ, nat_eq, List, ◌++◌, codes, decimal, drop, length, slice_get, Option, Some, None, if◌then◌else◌}
 use Rattle.std.specs.List.{filter_map, starts_with}
-use Rattle.std.specs.Option.{option_and_then, unwrap_or}
+use Rattle.std.specs.Option.{unwrap_or}
 use Rattle.std.specs.Str.Lines.{lines}
 use Rattle.icu_trie.specs.Parts.{Parts, last_cell}
-use Rattle.ucptab_table.specs.TableText.{decimal_number}
-use Rattle.ucd_files.specs.Names.{short_number}
+use Rattle.ucd_files.specs.Names.{short_decimal}
 use Rattle.ucptrie_tables.specs.Shown.{comment_line}
 
 -- What a line that states a number under a name starts with: `# NAME: `.
@@ -16,8 +15,8 @@ mark_of name = codes "# " ++ (name ++ codes ": ")
 -- The number after a mark at the start of a line, in 1 to 10 decimal digits and of at most 32 bits.
 -- None for any other line.
 unfoldable pub number_after : List ℕ → List ℕ → Option ℕ
-number_after mark line = if starts_with nat_eq line mark
-    then option_and_then short_number (decimal_number (drop (length mark) line)) else None
+number_after mark line =
+    if starts_with nat_eq line mark then short_decimal (drop (length mark) line) else None
 
 -- The number that a line states under a name: N if the line is `# NAME: N`.
 abbrev pub stated_by : List ℕ → List ℕ → Option ℕ

@@ -9,7 +9,7 @@ ghost use Rattle.ucptrie_tables.specs.Stated.{number_after, stated, stating_line
 
 use icu_trie::cptrie::CodePointTrie;
 use std::alloc::{AllocError, Global};
-use ucptab_table::digits::decimal_number;
+use ucd_files::names::short_decimal;
 use ucptab_table::input::first_line;
 use ucptab_table::text::ranges_text;
 
@@ -24,15 +24,11 @@ pub struct StatedValues {
 
 /// Returns the number after a mark at the start of a line, in 1 to 10 decimal digits and of at most
 /// 32 bits, or `None` for any other line.
-#[tactic(auto, unfolding(crate::specs::Stated::number_after, ucd_files::specs::Names::short_number))]
+#[tactic(auto, unfolding(crate::specs::Stated::number_after))]
 fn number_after(mark: &[u8], line: &[u8]) -> Option<u32>
     ensures { result ≡ number_after mark.now line.now }
 {
-    if !line.starts_with(mark) {
-        return None;
-    }
-    let number = decimal_number(&line[mark.len()..])?;
-    u32::try_from(number).ok()
+    short_decimal(line.strip_prefix(mark)?)
 }
 
 /// Returns the values that comments among rows state: the null value by `# null value: N`, and the

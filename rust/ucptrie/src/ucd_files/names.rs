@@ -66,8 +66,9 @@ pub fn is_same_name(left: &[u8], right: &[u8]) -> bool {
     left.starts_with(b"-".as_slice()) == right.starts_with(b"-".as_slice()) && is_alike(left, right)
 }
 
-/// Returns the number of at most 32 bits that decimal digits write.
-pub(crate) fn short_decimal(text: &[u8]) -> Option<u32> {
+/// Returns the number that a text writes in 1 to 10 decimal digits. Returns `None` for any other
+/// text and for a number of more than 32 bits.
+pub fn short_decimal(text: &[u8]) -> Option<u32> {
     let number = decimal_number(text)?;
     u32::try_from(number).ok()
 }

@@ -5,7 +5,7 @@ use crate::host::{HostRuntime, Text};
 use crate::support::AllocError;
 #[allow(unused_imports)]
 use crate::support::prelude::*;
-use crate::ucptab_table::digits::decimal_number;
+use crate::ucd_files::names::short_decimal;
 use crate::ucptab_table::input::first_line;
 use crate::ucptab_table::text::ranges_text;
 use bekstaudi::codepointtrie::CodePointTrie;
@@ -22,11 +22,7 @@ pub struct StatedValues {
 /// Returns the number after a mark at the start of a line, in 1 to 10 decimal digits and of at most
 /// 32 bits, or `None` for any other line.
 fn number_after(mark: &[u8], line: &[u8]) -> Option<u32> {
-    if !line.starts_with(mark) {
-        return None;
-    }
-    let number = decimal_number(&line[mark.len()..])?;
-    u32::try_from(number).ok()
+    short_decimal(line.strip_prefix(mark)?)
 }
 
 /// Returns the values that comments among rows state: the null value by `# null value: N`, and the
