@@ -12,4 +12,5 @@ mod StatedLemmas
 mod TableLemmas
 mod TomlLemmas
 mod WidthLemmas
+mod WordLemmas
 mod WriteLemmas

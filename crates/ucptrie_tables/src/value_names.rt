@@ -1,9 +1,9 @@
 //! Names of values in source: an enum in C or in Rust.
-ghost use Rattle.std.specs.Prelude.{◌≡◌, ◌<◌, ◌++◌, [], ◌∷◌, false, true, length, map, IfOk, OnOk, string_bytes};
+ghost use Rattle.std.specs.Prelude.{◌≡◌, ◌<◌, ◌++◌, if◌then◌else◌, [], ◌∷◌, false, true, length, map, IfOk, OnOk, string_bytes};
 ghost use Rattle.std.specs.List.{list_any};
 ghost use Rattle.std.specs.Str.{bytes_eq};
 ghost use Rattle.ucptrie_tables.specs.Source.{has_names};
-ghost use Rattle.ucptrie_tables.specs.ValueIdentifiers.{before_word, c_byte, camel_case, is_reserved, is_taken, letter, rust_name, value_name, AreIdentifiers};
+ghost use Rattle.ucptrie_tables.specs.ValueIdentifiers.{before_word, c_byte, enum_name, has_name, is_longest, is_reserved, is_taken, last_byte, listed, rust_name, value_name, with_number, with_word, with_words, words, AreIdentifiers, AreValuesOf, IsFirstFree, IsWithValue};
 
 use crate::written::Form;
 use std::alloc::{AllocError, Global};
@@ -15,25 +15,26 @@ use ucptrie_source::pattern::{push_named, push_number, push_pattern};
 const MOST: usize = 4096;
 
 /// Returns whether one of the names has this number and at least so many bytes.
-fn has_name(names: &[Name<'_>], number: usize, length: usize) -> bool {
-    for name in names {
-        if name.number == number && name.text.len() >= length {
-            return true;
-        }
-    }
-    false
+fn has_name(names: &[Name<'_>], number: usize, least: usize) -> bool
+    ensures { result ≡ has_name names.now number least }
+{
+    names
+        .iter()
+        .any(|name| name.number == number && least <= name.text.len())
 }
 
-/// Returns whether a name between others is the longest one of its number, and the first such one.
-fn is_chosen(before: &[Name<'_>], name: &Name<'_>, after: &[Name<'_>]) -> bool {
+/// Returns whether a name is the longest one of its number, and the first such one. `from` starts
+/// with the name.
+fn is_longest(before: &[Name<'_>], name: &Name<'_>, from: &[Name<'_>]) -> bool
+    ensures { result ≡ is_longest before.now name.now from.now }
+{
     let length = name.text.len();
-    !has_name(before, name.number, length)
-        && !has_name(after, name.number, length.saturating_add(1))
+    !has_name(before, name.number, length) && !has_name(from, name.number, length + 1)
 }
 
 /// Returns what precedes the first byte of a word in Rust: `V` before a digit at the start of an
-/// identifier, and `_` between two digits. `last` is the letter or digit before the word, or 0 at
-/// the start of an identifier.
+/// identifier, and `_` between two digits. `last` is the byte before the word, or 0 at the start of
+/// an identifier.
 fn before_word(last: u8, byte: u8) -> &'static str
     ensures { result.now ≡ before_word last byte }
 {
@@ -46,6 +47,13 @@ fn before_word(last: u8, byte: u8) -> &'static str
     if last.is_ascii_digit() { "_" } else { "" }
 }
 
+/// Returns the last byte of a text, or 0 if it is empty.
+fn last_byte(text: &str) -> u8
+    ensures { result ≡ last_byte text.now }
+{
+    text.as_bytes().last().copied().unwrap_or(0)
+}
+
 /// Appends an ASCII character.
 fn push_ascii(text: &mut String, byte: u8) -> Result<(), AllocError>
     requires { byte < 128 }
@@ -55,12 +63,14 @@ fn push_ascii(text: &mut String, byte: u8) -> Result<(), AllocError>
 }
 
 /// Appends a letter or digit of a word. The first one of a word is a capital letter.
-fn push_letter(text: &mut String, last: u8, is_first: bool, byte: u8) -> Result<(), AllocError>
+fn push_letter(text: &mut String, is_first: bool, byte: u8) -> Result<(), AllocError>
     requires { byte < 128 }
-    ensures { OnOk result (string_bytes text.new
-        ≡ string_bytes text.old ++ letter last is_first byte) }
+    ensures { OnOk result (string_bytes text.new ≡ (if is_first
+        then with_word (string_bytes text.old) (byte ∷ [])
+        else string_bytes text.old ++ byte ∷ [])) }
 {
     if is_first {
+        let last = last_byte(text.as_str());
         text.push_str(before_word(last, byte))?;
         return push_ascii(text, byte.to_ascii_uppercase());
     }
@@ -68,34 +78,32 @@ fn push_letter(text: &mut String, last: u8, is_first: bool, byte: u8) -> Result<
 }
 
 /// Appends the words of a name in upper camel case. A word is a run of ASCII letters and digits.
-/// `before` is the letter or digit before the name, or 0 at the start of an identifier.
-fn push_words(text: &mut String, before: u8, name: &[u8]) -> Result<(), AllocError>
-    ensures { OnOk result (string_bytes text.new
-        ≡ string_bytes text.old ++ camel_case before true name.now) }
+fn push_words(text: &mut String, name: &[u8]) -> Result<(), AllocError>
+    ensures { OnOk result
+        (string_bytes text.new ≡ with_words (string_bytes text.old) (words name.now)) }
 {
-    let mut last = before;
     let mut is_first = true;
     for byte in name {
         if !byte.is_ascii_alphanumeric() {
             is_first = true;
             continue;
         }
-        push_letter(text, last, is_first, *byte)?;
-        last = *byte;
+        push_letter(text, is_first, *byte)?;
         is_first = false;
     }
     Ok(())
 }
 
-/// Appends the name of a value in Rust: its words, after `Minus` if it starts with `-`.
-fn push_rust_name(text: &mut String, name: &[u8]) -> Result<(), AllocError>
-    ensures { OnOk result (string_bytes text.new ≡ string_bytes text.old ++ rust_name name.now) }
+/// Returns the name of a value in Rust: its words, after `Minus` if it starts with `-`.
+fn rust_name(alloc: Global, name: &[u8]) -> Result<String, AllocError>
+    ensures { IfOk result (λ text. string_bytes text ≡ rust_name name.now) }
 {
+    let mut text = String::new(alloc);
     if let [b'-', ..] = name {
         text.push_str("Minus")?;
-        return push_words(text, b's', name);
     }
-    push_words(text, 0, name)
+    push_words(&mut text, name)?;
+    Ok(text)
 }
 
 /// Returns a byte of a name in C: `_` for a byte that is no ASCII letter or digit.
@@ -120,22 +128,24 @@ fn push_c_name(text: &mut String, name: &[u8]) -> Result<(), AllocError>
     Ok(())
 }
 
-/// Appends the name of a value in source. In C a name that starts with a digit follows `V`. The
+/// Returns the name of a value in source. In C a name that starts with a digit follows `V`. The
 /// empty name is that of code points without a line.
-fn push_value_name(text: &mut String, name: &[u8], is_rust: bool) -> Result<(), AllocError>
-    ensures { OnOk result (string_bytes text.new
-        ≡ string_bytes text.old ++ value_name is_rust name.now) }
+fn value_name(alloc: Global, name: &[u8], is_rust: bool) -> Result<String, AllocError>
+    ensures { IfOk result (λ text. string_bytes text ≡ value_name is_rust name.now) }
 {
+    let mut text = String::new(alloc);
     let [first, ..] = name else {
-        return text.push_str("Unlisted");
+        text.push_str("Unlisted")?;
+        return Ok(text);
     };
     if is_rust {
-        return push_rust_name(text, name);
+        return rust_name(alloc, name);
     }
     if first.is_ascii_digit() {
         text.push('V')?;
     }
-    push_c_name(text, name)
+    push_c_name(&mut text, name)?;
+    Ok(text)
 }
 
 /// A value of an enum in source.
@@ -189,9 +199,13 @@ fn is_taken(values: &[EnumValue], is_rust: bool, identifier: &str) -> bool
     is_reserved(is_rust, identifier) || is_identifier_of(values, identifier)
 }
 
-/// Appends a number to an identifier.
-fn push_suffix(identifier: &mut String, number: usize) -> Result<(), AllocError> {
-    let last = identifier.as_bytes().last().copied().unwrap_or(0);
+/// Appends a number to an identifier: after `V` if it is empty, and after `_` if it ends in a
+/// digit.
+fn push_suffix(identifier: &mut String, number: usize) -> Result<(), AllocError>
+    ensures { OnOk result
+        (string_bytes identifier.new ≡ with_number number (string_bytes identifier.old)) }
+{
+    let last = last_byte(identifier.as_str());
     identifier.push_str(before_word(last, b'0'))?;
     push_number(identifier, Decimal(number))
 }
@@ -204,16 +218,13 @@ fn make_free(
     values: &[EnumValue],
     is_rust: bool,
 ) -> Result<(), AllocError>
-    ensures { OnOk result (is_taken values.now is_rust (string_bytes identifier.new) ≡ false) }
+    ensures { OnOk result (IsFirstFree is_rust values.now number
+        (string_bytes identifier.old) (string_bytes identifier.new)) }
 {
-    for _ in 0..u64::MAX {
-        if !is_taken(values, is_rust, identifier.as_str()) {
-            return Ok(());
-        }
+    while is_taken(values, is_rust, identifier.as_str()) {
         push_suffix(identifier, number)?;
     }
-    // An identifier with so many digits does not fit into memory.
-    Err(AllocError)
+    Ok(())
 }
 
 /// Returns the identifier of a value: its name in source, and the value's number behind it if the
@@ -224,11 +235,10 @@ fn identifier_of(
     values: &[EnumValue],
     is_rust: bool,
 ) -> Result<String, AllocError>
-    ensures { IfOk result
-        (λ text. is_taken values.now is_rust (string_bytes text) ≡ false) }
+    ensures { IfOk result (λ text. IsFirstFree is_rust values.now name.now.number
+        (value_name is_rust name.now.text.now) (string_bytes text)) }
 {
-    let mut identifier = String::new(alloc);
-    push_value_name(&mut identifier, name.text, is_rust)?;
+    let mut identifier = value_name(alloc, name.text, is_rust)?;
     make_free(&mut identifier, name.number, values, is_rust)?;
     Ok(identifier)
 }
@@ -240,8 +250,7 @@ fn push_value(
     name: &Name<'_>,
     is_rust: bool,
 ) -> Result<(), AllocError>
-    ensures { OnOk result (AreIdentifiers is_rust values.old.items
-        → AreIdentifiers is_rust values.new.items) }
+    ensures { OnOk result (IsWithValue is_rust values.old.items name.now values.new.items) }
 {
     let identifier = identifier_of(alloc, name, values, is_rust)?;
     values.push(EnumValue {
@@ -251,10 +260,11 @@ fn push_value(
     Ok(())
 }
 
-/// Returns the values of an enum in Rust or in C: of each number up to `highest` the longest name.
+/// Returns the values of an enum in Rust or in C, in order: of each number up to `highest` the
+/// longest name, and of several the first.
 ///
-/// No identifier is reserved, and no two are equal: if a name is reserved or that of a value
-/// before, the number of the value is behind it.
+/// The identifier is what the name gives in Rust or in C. If that is reserved or the identifier of
+/// a value before, the number of the value is behind it, as often as needed.
 ///
 /// # Errors
 /// Returns [`AllocError`] if an allocation fails.
@@ -264,12 +274,14 @@ pub fn enum_values(
     is_rust: bool,
     highest: usize,
 ) -> Result<Vec<EnumValue>, AllocError>
-    ensures { IfOk result (λ values. AreIdentifiers is_rust values.items) }
+    ensures values { IfOk result (λ values.
+        AreValuesOf is_rust (listed highest [] names.now) values.items) }
+    ensures identifiers { IfOk result (λ values. AreIdentifiers is_rust values.items) }
 {
     let mut values = Vec::new(alloc);
     for (i, name) in names.iter().enumerate() {
-        let (before, after) = names.split_at(i);
-        if name.number <= highest && is_chosen(before, name, after) {
+        let (before, from) = names.split_at(i);
+        if name.number <= highest && is_longest(before, name, from) {
             push_value(alloc, &mut values, name, is_rust)?;
         }
     }
@@ -368,14 +380,17 @@ fn push_rust_enum(
     text.push_str(END)
 }
 
-/// Appends the name of the enum in Rust: the words of the module's name, and `Value` behind them if
+/// Returns the name of the enum in Rust: the words of the module's name, and `Value` behind them if
 /// the words have a meaning in the source, as `Table` beside a module `Table`.
-fn push_title(title: &mut String, module: &str) -> Result<(), AllocError> {
-    push_words(title, 0, module.as_bytes())?;
-    if [module, "", "Result", "Self", "TryFrom"].contains(&title.as_str()) {
-        title.push_str("Value")?;
+fn enum_name(alloc: Global, module_name: &str) -> Result<String, AllocError>
+    ensures { IfOk result (λ text. string_bytes text ≡ enum_name module_name.now) }
+{
+    let mut name = String::new(alloc);
+    push_words(&mut name, module_name.as_bytes())?;
+    if [module_name, "", "Result", "Self", "TryFrom"].contains(&name.as_str()) {
+        name.push_str("Value")?;
     }
-    Ok(())
+    Ok(name)
 }
 
 /// Returns the highest number of 8, 16 or 32 bits.
@@ -395,8 +410,7 @@ fn push_rust_names(
     bits: u32,
     values: &[EnumValue],
 ) -> Result<(), AllocError> {
-    let mut title = String::new(alloc);
-    push_title(&mut title, module)?;
+    let title = enum_name(alloc, module)?;
     push_pattern(text, MODULE, module, &[Decimal(bits as usize)])?;
     push_rust_enum(text, title.as_str(), bits, values)
 }

@@ -1,6 +1,11 @@
-use Rattle.ucptrie_tables.specs.ValueIdentifiers.{AreIdentifiers}
+use Rattle.std.proofs.Common.{[], List, drop, take}
+use Rattle.std.specs.List.{FoldsTo}
+use Rattle.ucptrie_tables.specs.declared.value_names.EnumValue.{EnumValue}
+use Rattle.ucptrie_tables.specs.ValueIdentifiers.{listed, AreValuesOf, IsWithValue}
 use Rattle.ucptrie_tables.proofs.value_names.enum_values.Given as goal
 
--- the values so far
+-- what the names from here on add to the values gives those of all names
 abbrev pub invariant-loop-i : goal.invariant-loop-i
-invariant-loop-i l = AreIdentifiers l.is_rust l.values.items
+invariant-loop-i l = (all : List EnumValue)
+    → FoldsTo (IsWithValue l.is_rust) l.values.items (listed l.highest (take l.i l.names) (drop l.i l.names)) all
+    → AreValuesOf l.is_rust (listed l.highest [] l.names) all
