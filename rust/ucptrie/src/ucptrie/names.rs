@@ -7,25 +7,28 @@ use crate::ucptrie::fault::{Fault, about};
 use crate::ucptrie_tables::source::is_name;
 use clap::ArgMatches;
 
-/// The words that cannot name a module in Rust: its keywords, including the reserved ones, `_`, and
-/// what the source means by `Result`, `TryFrom` and `#[rustfmt::skip]`.
-static KEPT_BY_RUST: [&str; 56] = [
+/// The words that cannot name a module in Rust: its keywords, including the reserved ones, and `_`.
+static RESERVED_BY_RUST: [&str; 53] = [
     "_", "abstract", "as", "async", "await", "become", "box", "break", "const", "continue",
     "crate", "do", "dyn", "else", "enum", "extern", "false", "final", "fn", "for", "gen", "if",
     "impl", "in", "let", "loop", "macro", "match", "mod", "move", "mut", "override", "priv", "pub",
-    "ref", "Result", "return", "rustfmt", "self", "Self", "static", "struct", "super", "trait",
-    "true", "try", "TryFrom", "type", "typeof", "unsafe", "unsized", "use", "virtual", "where",
-    "while", "yield",
+    "ref", "return", "self", "Self", "static", "struct", "super", "trait", "true", "try", "type",
+    "typeof", "unsafe", "unsized", "use", "virtual", "where", "while", "yield",
 ];
 
-/// Returns whether Rust keeps a word for itself.
-fn is_kept(word: &str) -> bool {
-    for kept in KEPT_BY_RUST.iter() {
-        if *kept == word {
-            return true;
-        }
+/// What the source in Rust uses and a module of the same name would hide: two names of the standard
+/// library, and the `rustfmt` of `#[rustfmt::skip]`.
+static USED_BY_SOURCE: [&str; 3] = ["Result", "rustfmt", "TryFrom"];
+
+/// Returns why a name can't be that of a module in Rust, or `None` if it can.
+fn why_no_module(name: &str) -> Option<&'static str> {
+    if RESERVED_BY_RUST.contains(&name) {
+        return Some("a reserved word of Rust");
     }
-    false
+    if USED_BY_SOURCE.contains(&name) {
+        return Some("a name that the source in Rust uses");
+    }
+    None
 }
 
 /// Returns the name in source that the arguments give.
@@ -44,12 +47,14 @@ pub fn test_name(matches: &ArgMatches) -> Result<(), Fault> {
         let why = "expected letters, digits and _, not starting with a digit";
         return Err(about(name, why));
     }
-    if matches!(
+    if !matches!(
         matches.get_one::<String>("as").map(String::as_str),
         Some("rust" | "rust-frozen")
-    ) && is_kept(name)
-    {
-        return Err(about(name, "a reserved word of Rust"));
+    ) {
+        return Ok(());
     }
-    Ok(())
+    match why_no_module(name) {
+        Some(why) => Err(about(name, why)),
+        None => Ok(()),
+    }
 }
