@@ -8,13 +8,16 @@ use Rattle.std.specs.List.{filter, filter_map, find}
 use Rattle.std.specs.Option.{option_map}
 use Rattle.std.specs.Prelude.{None, Some, ◌==◌, if◌then◌else◌, fold}
 use Rattle.ucd_files.specs.Inside.Groups.{mixed, name_hash, with_hash}
-use Rattle.ucd_files.specs.Names.{is_alike, is_same_name, loose, number_named}
+use Rattle.ucd_files.specs.Names.{is_alike, is_match, is_same_name, loose, number_named}
+use Rattle.ucd_files.specs.declared.names.Matching.{Matching}
+use Rattle.ucd_files.specs.declared.names.Matching.TheVariants.{Exact, Loose}
 use Rattle.ucd_files.specs.declared.names.Name.{Name}
 
--- Names that are the same have the same hash.
-same_hash : (left right : List ℕ) → is_same_name left right ≡ true → name_hash left ≡ name_hash right
-unfolding is_same_name is_alike name_hash
-same_hash left right same =
+-- Names that match have the same hash.
+same_hash : (matching : Matching) (left right : List ℕ) → is_match matching left right ≡ true → name_hash left ≡ name_hash right
+unfolding is_match is_same_name is_alike name_hash
+same_hash Exact left right same = ap (λ bytes. fold mixed 0 (loose bytes)) ((bytes_eq-Decides left right).0 same)
+same_hash Loose left right same =
     let alike : loose left ≡ loose right = (bytes_eq-Decides (loose left) (loose right)).0 (and_parts _ _ same).1 in
     ap (λ bytes. fold mixed 0 bytes) alike
 
@@ -77,42 +80,43 @@ group-more names name hash old new is held =
 
 -- ---- Look-ups
 
-module _ (names : List Name) (indices text : List ℕ) (i : ℕ) (below : i < length indices) where
+module _ (matching : Matching) (names : List Name) (indices text : List ℕ) (i : ℕ) (below : i < length indices) where
   -- the name at the next index is the same
-  pub same_at : (name : Name) → slice_get names (get_or indices i 0) ≡ Some name → is_same_name name.text.now text ≡ true
-      → number_named (filter_map (slice_get names) (drop i indices)) text ≡ Some name.number
+  pub same_at : (name : Name) → slice_get names (get_or indices i 0) ≡ Some name → is_match matching name.text.now text ≡ true
+      → number_named matching (filter_map (slice_get names) (drop i indices)) text ≡ Some name.number
   unfolding number_named
   same_at name at same = rw (drop_more indices i 0 below, at, same) refl
 
   -- the name at the next index is another one
-  pub other_at : (name : Name) → slice_get names (get_or indices i 0) ≡ Some name → is_same_name name.text.now text ≡ false
-      → number_named (filter_map (slice_get names) (drop (i + 1) indices)) text
-      ≡ number_named (filter_map (slice_get names) (drop i indices)) text
+  pub other_at : (name : Name) → slice_get names (get_or indices i 0) ≡ Some name → is_match matching name.text.now text ≡ false
+      → number_named matching (filter_map (slice_get names) (drop (i + 1) indices)) text
+      ≡ number_named matching (filter_map (slice_get names) (drop i indices)) text
   unfolding number_named
   other_at name at other = rw (drop_more indices i 0 below, at, other) refl
 
   -- the next index has no name
   pub none_at : slice_get names (get_or indices i 0) ≡ None
-      → number_named (filter_map (slice_get names) (drop (i + 1) indices)) text
-      ≡ number_named (filter_map (slice_get names) (drop i indices)) text
+      → number_named matching (filter_map (slice_get names) (drop (i + 1) indices)) text
+      ≡ number_named matching (filter_map (slice_get names) (drop i indices)) text
   unfolding number_named
   none_at at = rw (drop_more indices i 0 below, at) refl
 
-pub none_left : (names : List Name) (indices text : List ℕ) (i : ℕ) → length indices ≤ i
-    → number_named (filter_map (slice_get names) (drop i indices)) text ≡ None
+pub none_left : (matching : Matching) (names : List Name) (indices text : List ℕ) (i : ℕ) → length indices ≤ i
+    → number_named matching (filter_map (slice_get names) (drop i indices)) text ≡ None
 unfolding number_named
-none_left names indices text i over = rw (drop_all i indices over) refl
+none_left matching names indices text i over = rw (drop_all i indices over) refl
 
-pub number_in_group : (names : List Name) (indices : List ℕ) (text : List ℕ) (hash : ℕ)
+pub number_in_group : (matching : Matching) (names : List Name) (indices : List ℕ) (text : List ℕ) (hash : ℕ)
     → map (slice_get names) indices ≡ map Some (with_hash hash names) → hash ≡ name_hash text
-    → number_named (filter_map (slice_get names) indices) text ≡ number_named names text
+    → number_named matching (filter_map (slice_get names) indices) text ≡ number_named matching names text
 unfolding number_named
-number_in_group names indices text hash is is_hash = rw (among names (with_hash hash names) indices is)
+number_in_group matching names indices text hash is is_hash = rw (among names (with_hash hash names) indices is)
     (ap (λ name. option_map (λ n. n.number) name)
-    (find-filter (λ name. is_same_name name.text.now text) (λ name. name_hash name.text.now == hash)
-    (λ name same. eq-eqb _ _ (same_hash name.text.now text same ∙ sym is_hash)) names))
+    (find-filter (λ name. is_match matching name.text.now text) (λ name. name_hash name.text.now == hash)
+    (λ name same. eq-eqb _ _ (same_hash matching name.text.now text same ∙ sym is_hash)) names))
 
-pub none_in_group : (names : List Name) (text : List ℕ) (hash : ℕ) → [] ≡ map Some (with_hash hash names) → hash ≡ name_hash text
-    → number_named names text ≡ None
+pub none_in_group : (matching : Matching) (names : List Name) (text : List ℕ) (hash : ℕ)
+    → [] ≡ map Some (with_hash hash names) → hash ≡ name_hash text
+    → number_named matching names text ≡ None
 unfolding number_named
-none_in_group names text hash is is_hash = sym (number_in_group names [] text hash is is_hash)
+none_in_group matching names text hash is is_hash = sym (number_in_group matching names [] text hash is is_hash)

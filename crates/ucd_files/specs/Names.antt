@@ -6,6 +6,8 @@ use Rattle.std.specs.Option.{option_and_then, option_map}
 use Rattle.std.specs.Cmp.Lexicographic.{pointwise}
 use mathlib.Core.Bool.{beq}
 use Rattle.ucptab_table.specs.TableText.{decimal_number, hexadecimal}
+use Rattle.ucd_files.specs.declared.names.Matching.{Matching}
+use Rattle.ucd_files.specs.declared.names.Matching.TheVariants.{Exact, Loose}
 use Rattle.ucd_files.specs.declared.names.Name.{Name}
 use Rattle.ucd_files.specs.declared.names.Numbering.{Numbering}
 use Rattle.ucd_files.specs.declared.names.Numbering.TheVariants.{Decimal, Hexadecimal, One, Names}
@@ -35,10 +37,16 @@ is_same_name left right =
 abbrev pub pairs_of : List Name → List (List ℕ × ℕ)
 pairs_of names = map (λ name. (name.text.now, name.number)) names
 
--- The number of the first of the names that is the same as the text.
-unfoldable pub number_named : List Name → List ℕ → Option ℕ
-number_named names text =
-    option_map (λ name. name.number) (find (λ name. is_same_name name.text.now text) names)
+-- The two texts are one name: byte by byte, as a file repeats its own texts, or as the names in a
+-- file of aliases are compared.
+unfoldable pub is_match : Matching → List ℕ → List ℕ → Bool
+is_match Exact left right = pointwise nat_eq left right
+is_match Loose left right = is_same_name left right
+
+-- The number of the first of the names that matches the text.
+unfoldable pub number_named : Matching → List Name → List ℕ → Option ℕ
+number_named matching names text =
+    option_map (λ name. name.number) (find (λ name. is_match matching name.text.now text) names)
 
 -- A number if it has at most 32 bits.
 unfoldable pub short_number : ℕ → Option ℕ
@@ -53,4 +61,5 @@ unfoldable pub number_of : Numbering → List ℕ → Option ℕ
 number_of Decimal text = short_decimal text
 number_of Hexadecimal text = hexadecimal text
 number_of One text = Some 1
-number_of (Names names) text = option_and_then short_number (number_named names.now text)
+number_of (Names names matching) text =
+    option_and_then short_number (number_named matching names.now text)

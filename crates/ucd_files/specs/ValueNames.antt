@@ -4,8 +4,9 @@ use Rattle.std.specs.List.{filter, list_any}
 use Rattle.std.specs.Str.Lines.{lines}
 use Rattle.ucptab_table.specs.TableText.{after, content_of}
 use Rattle.ucd_files.specs.Fields.{field, missing_of}
-use Rattle.ucd_files.specs.Names.{is_same_name, short_decimal}
+use Rattle.ucd_files.specs.Names.{is_match, is_same_name, short_decimal}
 use Rattle.ucd_files.specs.Statements.{missing_text, value_text}
+use Rattle.ucd_files.specs.declared.names.Matching.TheVariants.{Exact}
 use Rattle.ucd_files.specs.declared.statement.Columns.{Columns}
 
 -- ---- PropertyValueAliases.txt
@@ -55,9 +56,9 @@ text_of_line columns line = some_text (unfolded (missing_of line)) where
   some_text None = None
   some_text (Some text) = if length text == 0 then None else Some text
 
--- One of the names is the same as the text.
+-- One of the names is the text.
 abbrev pub is_known : List (List ℕ × ℕ) → List ℕ → Bool
-is_known names text = list_any (λ name. is_same_name name.0 text) names
+is_known names text = list_any (λ name. is_match Exact name.0 text) names
 
 -- The names and one more. It gets the next number, unless it is known.
 abbrev pub with_name : List (List ℕ × ℕ) → List ℕ → List (List ℕ × ℕ)

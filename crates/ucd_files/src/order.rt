@@ -7,6 +7,7 @@ ghost use Rattle.ucd_files.specs.ValueNames.{names_after, text_of_line, with_nam
 ghost use Rattle.ucd_files.specs.Names.{pairs_of};
 
 use crate::fields::missing_of;
+use crate::names::Matching;
 use crate::statement::{Columns, missing_text, value_text};
 use crate::value_names::ValueNames;
 use std::alloc::AllocError;
@@ -34,7 +35,7 @@ fn push_new<'a>(names: &mut ValueNames<'a>, text: &'a [u8]) -> Result<(), AllocE
     ensures { IfOk result
         (λ _. pairs_of names.new ≡ with_name (pairs_of names.old) text.now) }
 {
-    if names.number_named(text).is_none() {
+    if names.number_named(Matching::Exact, text).is_none() {
         let number = names.as_slice().len();
         names.push(number, text)?;
     }

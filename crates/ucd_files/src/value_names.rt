@@ -4,7 +4,7 @@ ghost use Rattle.std.specs.List.{filter_map};
 ghost use Rattle.ucd_files.specs.Inside.Groups.{group, name_hash};
 ghost use Rattle.ucd_files.specs.Names.{number_named, pairs_of};
 
-use crate::names::{Name, first_significant, is_same_name};
+use crate::names::{Matching, Name, first_significant, is_match};
 use std::alloc::{AllocError, Global};
 use std::collections::HashMap;
 use std::marker::Model;
@@ -65,13 +65,19 @@ fn push_in_group(
     Ok(())
 }
 
-/// Returns the number of the first of the names at these indices that is the same as the text.
-fn number_among(names: &[Name<'_>], indices: &[usize], text: &[u8]) -> Option<usize>
-    ensures { result ≡ number_named (filter_map (slice_get names.now) indices.now) text.now }
+/// Returns the number of the first of the names at these indices that matches the text.
+fn number_among(
+    names: &[Name<'_>],
+    indices: &[usize],
+    matching: Matching,
+    text: &[u8],
+) -> Option<usize>
+    ensures { result
+        ≡ number_named matching (filter_map (slice_get names.now) indices.now) text.now }
 {
     for index in indices {
         if let Some(name) = names.get(*index) {
-            if is_same_name(name.text, text) {
+            if is_match(matching, name.text, text) {
                 return Some(name.number);
             }
         }
@@ -97,13 +103,13 @@ impl<'a> ValueNames<'a> {
         self.names.as_slice()
     }
 
-    /// Returns the number of the first of the names that is the same as the text.
+    /// Returns the number of the first of the names that matches the text.
     #[tactic(auto, using(crate::proofs::GroupLemmas::number_in_group, crate::proofs::GroupLemmas::none_in_group))]
-    pub fn number_named(&self, text: &[u8]) -> Option<usize>
-        ensures { result ≡ number_named self.now text.now }
+    pub fn number_named(&self, matching: Matching, text: &[u8]) -> Option<usize>
+        ensures { result ≡ number_named matching self.now text.now }
     {
         let group = self.groups.get(&hash_of(text))?;
-        number_among(self.names.as_slice(), group, text)
+        number_among(self.names.as_slice(), group, matching, text)
     }
 
     /// Appends a name with its number.

@@ -13,7 +13,8 @@ returns c =
     let indices = c.in_ok-group.group.now.items in
     let found : group c.self.inside.groups hash ≡ indices =
     ap (λ (o : Option (Vec ℕ Global)). option_map_or (λ v. v.items) o []) (sym c.in_ok-group.ensures.value) in
-    let same : c.number_among.result ≡ number_named (filter_map (slice_get names) indices) c.args.text.now = search rules in
+    let same : c.number_among.result ≡ number_named c.args.matching (filter_map (slice_get names) indices) c.args.text.now = search rules in
     let held : map (slice_get names) indices ≡ map Some (with_hash hash names) = rw (← found) (c.self.invariant hash) in
-    let all : number_named c.args.self.now c.args.text.now ≡ number_named names c.args.text.now = search rules in
-    same ∙ (number_in_group names indices c.args.text.now hash held c.hash_of.ensures ∙ sym all)
+    let all : number_named c.args.matching c.args.self.now c.args.text.now
+    ≡ number_named c.args.matching names c.args.text.now = search rules in
+    same ∙ (number_in_group c.args.matching names indices c.args.text.now hash held c.hash_of.ensures ∙ sym all)
