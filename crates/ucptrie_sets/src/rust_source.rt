@@ -19,7 +19,7 @@ const SEARCH: &str = "
 
 /// What precedes the boundaries. `@` is replaced by the name, and `%` by their number.
 const BOUNDARIES: &str = "\
-#[allow(dead_code, clippy::module_inception)]
+#[allow(dead_code, non_snake_case, clippy::module_inception)]
 pub mod @ {
     /// The set starts at the first boundary, ends before the second one, and so on.
     #[rustfmt::skip]
@@ -57,7 +57,7 @@ const LOOK_UP: &str = "
 
 /// What precedes the indices. `@` is replaced by the name.
 const INDEX: &str = "\
-#[allow(dead_code, clippy::module_inception)]
+#[allow(dead_code, non_snake_case, clippy::module_inception)]
 pub mod @ {
     /// For each block of 256 code points, the index of the first of its four words.
     #[rustfmt::skip]

@@ -135,4 +135,4 @@ abbrev pub enum_name : List ℕ → List ℕ
 enum_name from = with_words [] (words from) ++ (if has_meaning then codes "Value" else []) where
   has_meaning : Bool
   has_meaning = list_any (λ word. bytes_eq word (with_words [] (words from)))
-      (from ∷ codes "" ∷ codes "Result" ∷ codes "Self" ∷ codes "TryFrom" ∷ [])
+      (from ∷ codes "" ∷ codes "Option" ∷ codes "Result" ∷ codes "Self" ∷ codes "TryFrom" ∷ [])

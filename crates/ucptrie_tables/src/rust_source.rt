@@ -39,7 +39,7 @@ const LOOK_UP: &str = "
 
 /// The head of the module, with the header field by field.
 const HEAD: &str = "\
-#[allow(dead_code, clippy::module_inception)]
+#[allow(dead_code, non_snake_case, clippy::module_inception)]
 pub mod @ {
     pub type Value = u%;
 

@@ -12,7 +12,7 @@ use ucptrie_source::pattern::Number::Decimal;
 use ucptrie_source::pattern::{push_named, push_number, push_pattern};
 
 /// How many names are written at most. More are no enum that a program would use.
-const MOST: usize = 4096;
+pub(crate) const MOST: usize = 4096;
 
 /// Returns whether one of the names has this number and at least so many bytes.
 fn has_name(names: &[Name<'_>], number: usize, least: usize) -> bool
@@ -298,7 +298,7 @@ fn push_line(text: &mut String, value: &EnumValue) -> Result<(), AllocError> {
 
 /// Appends the lines of the values in an enum. Each starts with `start`, in which `@` is replaced
 /// by the table's name.
-fn push_values(
+pub(crate) fn push_values(
     text: &mut String,
     start: &str,
     table: &str,
@@ -343,7 +343,7 @@ const MODULE: &str = "
 const TRY_FROM: &str = "\
 }
 
-impl TryFrom<u%> for @ {
+impl core::convert::TryFrom<u%> for @ {
     type Error = u%;
 
     #[rustfmt::skip]
@@ -360,6 +360,22 @@ const END: &str = "        \
     }
 }
 ";
+
+/// What follows the conversion in Rust, up to the name of the module. Each `@` is replaced by the
+/// name of the enum.
+const OF: &str = "
+#[allow(dead_code)]
+impl @ {
+    /// Returns the value of `c`, or `None` if it has no name, as above 0x10FFFF.
+    #[rustfmt::skip]
+    pub fn of(c: u32) -> Option<@> {
+        core::convert::TryFrom::try_from(";
+
+/// Appends a look-up whose results are values of the enum in Rust.
+fn push_of(text: &mut String, title: &str, module: &str) -> Result<(), AllocError> {
+    push_named(text, OF, title)?;
+    push_named(text, "@::get(c)).ok()\n    }\n}\n", module)
+}
 
 /// Appends the values as an enum in Rust with this title, and the `match` over their numbers. Its
 /// last arm is for numbers of so many bits without a name, if there are any.
@@ -382,19 +398,19 @@ fn push_rust_enum(
 
 /// Returns the name of the enum in Rust: the words of the module's name, and `Value` behind them if
 /// the words have a meaning in the source, as `Table` beside a module `Table`.
-fn enum_name(alloc: Global, module_name: &str) -> Result<String, AllocError>
+pub(crate) fn enum_name(alloc: Global, module_name: &str) -> Result<String, AllocError>
     ensures { IfOk result (λ text. string_bytes text ≡ enum_name module_name.now) }
 {
     let mut name = String::new(alloc);
     push_words(&mut name, module_name.as_bytes())?;
-    if [module_name, "", "Result", "Self", "TryFrom"].contains(&name.as_str()) {
+    if [module_name, "", "Option", "Result", "Self", "TryFrom"].contains(&name.as_str()) {
         name.push_str("Value")?;
     }
     Ok(name)
 }
 
 /// Returns the highest number of 8, 16 or 32 bits.
-fn highest_of(bits: u32) -> usize {
+pub(crate) fn highest_of(bits: u32) -> usize {
     match bits {
         8 => 0xff,
         16 => 0xffff,
@@ -412,7 +428,8 @@ fn push_rust_names(
 ) -> Result<(), AllocError> {
     let title = enum_name(alloc, module)?;
     push_pattern(text, MODULE, module, &[Decimal(bits as usize)])?;
-    push_rust_enum(text, title.as_str(), bits, values)
+    push_rust_enum(text, title.as_str(), bits, values)?;
+    push_of(text, title.as_str(), module)
 }
 
 /// Returns the values as an enum in Rust, named after the module.

@@ -12,6 +12,15 @@ pub struct Name<'a> {
     pub number: usize,
 }
 
+/// When two texts are the same name.
+#[derive(Clone, Copy, Debug, PartialEq, Eq)]
+pub enum Matching {
+    /// If they are equal, byte by byte.
+    Exact,
+    /// If [`is_same_name`] says so.
+    Loose,
+}
+
 /// How the text of a value becomes a number.
 #[derive(Clone, Copy, Debug)]
 pub enum Numbering<'a> {
@@ -21,8 +30,8 @@ pub enum Numbering<'a> {
     Hexadecimal,
     /// Each value is 1, whatever its text is: the code points of the lines are a set.
     One,
-    /// A value has the number of the first name that is the same as its text.
-    Names(&'a ValueNames<'a>),
+    /// A value has the number of the first name that matches its text.
+    Names(&'a ValueNames<'a>, Matching),
 }
 
 /// Returns whether a byte counts if names are compared: it is no space, `_` or `-`.
@@ -66,6 +75,14 @@ pub fn is_same_name(left: &[u8], right: &[u8]) -> bool {
     left.starts_with(b"-".as_slice()) == right.starts_with(b"-".as_slice()) && is_alike(left, right)
 }
 
+/// Returns whether two texts are the same name.
+pub(crate) fn is_match(matching: Matching, left: &[u8], right: &[u8]) -> bool {
+    match matching {
+        Matching::Exact => left == right,
+        Matching::Loose => is_same_name(left, right),
+    }
+}
+
 /// Returns the number that a text writes in 1 to 10 decimal digits. Returns `None` for any other
 /// text and for a number of more than 32 bits.
 pub fn short_decimal(text: &[u8]) -> Option<u32> {
@@ -79,8 +96,8 @@ pub fn number_of(numbering: Numbering<'_>, text: &[u8]) -> Option<u32> {
         Numbering::Decimal => short_decimal(text),
         Numbering::Hexadecimal => hexadecimal(text),
         Numbering::One => Some(1),
-        Numbering::Names(names) => {
-            let number = names.number_named(text)?;
+        Numbering::Names(names, matching) => {
+            let number = names.number_named(matching, text)?;
             u32::try_from(number).ok()
         }
     }

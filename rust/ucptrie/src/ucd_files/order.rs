@@ -6,6 +6,7 @@ use crate::support::AllocError;
 #[allow(unused_imports)]
 use crate::support::prelude::*;
 use crate::ucd_files::fields::missing_of;
+use crate::ucd_files::names::Matching;
 use crate::ucd_files::statement::{Columns, missing_text, value_text};
 use crate::ucd_files::value_names::ValueNames;
 use crate::ucptab_table::input::first_line;
@@ -25,7 +26,7 @@ pub(crate) fn text_of_line<'t>(columns: Columns<'_>, line: &'t [u8]) -> Option<&
 
 /// Appends a name with the next number, unless it is known.
 fn push_new<'a>(names: &mut ValueNames<'a>, text: &'a [u8]) -> Result<(), AllocError> {
-    if names.number_named(text).is_none() {
+    if names.number_named(Matching::Exact, text).is_none() {
         let number = names.as_slice().len();
         names.try_push(number, text)?;
     }

@@ -6,7 +6,7 @@ use crate::support::AllocError;
 use crate::support::HashMap;
 #[allow(unused_imports)]
 use crate::support::prelude::*;
-use crate::ucd_files::names::{Name, first_significant, is_same_name};
+use crate::ucd_files::names::{Matching, Name, first_significant, is_match};
 
 /// By what a hash is multiplied before a byte is added: the prime of the hash FNV-1a.
 const FACTOR: u64 = 0x100_0000_01b3;
@@ -43,11 +43,16 @@ fn push_in_group(
     Ok(())
 }
 
-/// Returns the number of the first of the names at these indices that is the same as the text.
-fn number_among(names: &[Name<'_>], indices: &[usize], text: &[u8]) -> Option<usize> {
+/// Returns the number of the first of the names at these indices that matches the text.
+fn number_among(
+    names: &[Name<'_>],
+    indices: &[usize],
+    matching: Matching,
+    text: &[u8],
+) -> Option<usize> {
     for index in indices {
         if let Some(name) = names.get(*index) {
-            if is_same_name(name.text, text) {
+            if is_match(matching, name.text, text) {
                 return Some(name.number);
             }
         }
@@ -69,10 +74,10 @@ impl<'a> ValueNames<'a> {
         self.names.as_slice()
     }
 
-    /// Returns the number of the first of the names that is the same as the text.
-    pub fn number_named(&self, text: &[u8]) -> Option<usize> {
+    /// Returns the number of the first of the names that matches the text.
+    pub fn number_named(&self, matching: Matching, text: &[u8]) -> Option<usize> {
         let group = self.groups.get(&hash_of(text))?;
-        number_among(self.names.as_slice(), group, text)
+        number_among(self.names.as_slice(), group, matching, text)
     }
 
     /// Appends a name with its number.

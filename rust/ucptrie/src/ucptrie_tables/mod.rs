@@ -18,7 +18,7 @@
 //! - `source`: names in C and in Rust; `c_source` and `rust_source` write these; `cells`: the cells
 //!   of a trie as numbers in a text
 //! - `toml_text`: a table in TOML
-//! - `value_names`: names of values in C and in Rust
+//! - `value_names`: names of values in C and in Rust; `static_source`: a static trie in Rust
 //! - `fault`: why a table can't be made, written or read
 
 #[allow(unused_imports)]
@@ -40,6 +40,7 @@ pub mod shown;
 pub mod sizes;
 pub mod source;
 pub mod stated;
+pub mod static_source;
 pub mod table;
 mod toml_text;
 pub mod unicode_file;

@@ -24,7 +24,7 @@ static const uint16_t @_units[%]={
 /// What precedes the units in Rust, as in C.
 const RUST_FRONT: &str = "\
 // Made by ucptrie: the units of a UCharsTrie. Units: %, % bytes.
-#[allow(dead_code, clippy::module_inception)]
+#[allow(dead_code, non_snake_case, clippy::module_inception)]
 pub mod @ {
     /// The crates `icu_collections` and `bekstaudi` read them:
     /// `Char16Trie::new(ZeroVec::alloc_from_slice(&UNITS))`.
