@@ -11,6 +11,7 @@ HERE = os.path.dirname(os.path.realpath(__file__))
 PROGRAMS = {
     "ucptab": ["ucptab", "ucptab_table"],
     "ucptrie": [
+        "bzip2_reader",
         "ucptrie",
         "ucptrie_sets",
         "ucptrie_source",

@@ -2,7 +2,7 @@
 Rust, what they need that the code doesn't, and forms that rust/make has to refuse."""
 
 # Our crates that tests call beside the library.
-TESTED = "ucptab_table uses".split()
+TESTED = "bzip2_reader ucptab_table uses".split()
 # What these have in another form, beside the rules of rust/rules.py.
 TEST_RULES = [
     (r"\.collect(?:::<Vec<_>>)?\((rt\.alloc\(\)|alloc)\)", ".listed()"),

@@ -1,10 +1,12 @@
 //! The program ucptrie: crates/ucptrie, crates/ucptrie_sets, crates/ucptrie_source,
-//! crates/ucptrie_tables, crates/ucptrie_words, crates/ucd_files and crates/ucptab_table without
-//! their proofs, over `bekstaudi`, `clap`, `serde_json` and `toml`.
+//! crates/ucptrie_tables, crates/ucptrie_words, crates/bzip2_reader, crates/ucd_files and
+//! crates/ucptab_table without their proofs, over `bekstaudi`, `clap`, `serde_json` and `toml`.
 #![forbid(unsafe_code)]
 
 extern crate alloc;
 
+#[allow(dead_code, unused_variables)]
+mod bzip2_reader;
 mod formats;
 mod host;
 mod ledger;

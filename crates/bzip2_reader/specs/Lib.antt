@@ -1,0 +1,4 @@
+pub mod Bits
+pub mod Checksums
+pub mod Streams
+pub mod Inside

@@ -1,0 +1,30 @@
+//! Runs of equal bytes: four of them, and then how many more there are.
+
+#[allow(unused_imports)]
+use crate::host::{HostRuntime, Text};
+use crate::support::AllocError;
+#[allow(unused_imports)]
+use crate::support::prelude::*;
+
+/// How many equal bytes precede a number.
+const RUN: u8 = 4;
+
+/// Appends the text of a block, in which a number follows each four equal bytes.
+///
+/// # Errors
+/// Returns [`AllocError`] if an allocation fails.
+pub fn push_expanded(text: &mut Vec<u8>, bytes: &[u8]) -> Result<(), AllocError> {
+    let mut run = 0u8;
+    let mut last = 0u8;
+    for byte in bytes {
+        if run == RUN {
+            text.try_resize(text.len() + usize::from(*byte), last)?;
+            run = 0;
+        } else {
+            text.try_push(*byte)?;
+            run = if run > 0 && *byte == last { run + 1 } else { 1 };
+            last = *byte;
+        }
+    }
+    Ok(())
+}
