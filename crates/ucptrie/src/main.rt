@@ -4,6 +4,7 @@
 
 mod asked;
 mod build;
+mod compressed;
 mod convert;
 mod fault;
 mod heading;

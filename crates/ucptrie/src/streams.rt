@@ -1,4 +1,5 @@
 //! Files and streams, and the names by which faults call them.
+use crate::compressed::unpacked;
 use crate::fault::{Fault, about};
 use std::alloc::Global;
 use std::io::{Read, Write};
@@ -15,22 +16,22 @@ pub fn input_name(path: &str) -> &str {
     if path == "-" { INPUT } else { path }
 }
 
-/// Reads all of standard input.
-pub fn input(rt: &HostRuntime) -> Result<Vec<u8>, Fault> {
+/// Reads all of standard input, and decompresses it if `bzip2` wrote it.
+fn input(rt: &HostRuntime) -> Result<Vec<u8>, Fault> {
     let mut bytes = Vec::new(rt.alloc());
     match rt.stdin().read_to_end(&mut bytes) {
-        Ok(_) => Ok(bytes),
+        Ok(_) => unpacked(rt.alloc(), INPUT, bytes),
         Err(error) => Err(about(rt.alloc(), INPUT, error)),
     }
 }
 
-/// Reads a file, or standard input if its name is `-`.
+/// Reads a file, or standard input if its name is `-`, and decompresses it if `bzip2` wrote it.
 pub fn bytes_at(rt: &HostRuntime, path: &str) -> Result<Vec<u8>, Fault> {
     if path == "-" {
         return input(rt);
     }
     match fs::read(rt, path) {
-        Ok(bytes) => Ok(bytes),
+        Ok(bytes) => unpacked(rt.alloc(), path, bytes),
         Err(error) => Err(about(rt.alloc(), path, error)),
     }
 }

@@ -7,6 +7,7 @@ use crate::host::{HostRuntime, Text};
 use crate::support::prelude::*;
 mod asked;
 mod build;
+mod compressed;
 mod convert;
 mod fault;
 mod heading;

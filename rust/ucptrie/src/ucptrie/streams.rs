@@ -5,6 +5,7 @@ use crate::host::{HostRuntime, Text};
 use crate::host::{fs, io};
 #[allow(unused_imports)]
 use crate::support::prelude::*;
+use crate::ucptrie::compressed::unpacked;
 use crate::ucptrie::fault::{Fault, about};
 
 /// The name of standard input in messages.
@@ -18,22 +19,22 @@ pub fn input_name(path: &str) -> &str {
     if path == "-" { INPUT } else { path }
 }
 
-/// Reads all of standard input.
-pub fn input(rt: &HostRuntime) -> Result<Vec<u8>, Fault> {
+/// Reads all of standard input, and decompresses it if `bzip2` wrote it.
+fn input(rt: &HostRuntime) -> Result<Vec<u8>, Fault> {
     let mut bytes = Vec::new();
     match rt.stdin().read_to_end(&mut bytes) {
-        Ok(_) => Ok(bytes),
+        Ok(_) => unpacked(INPUT, bytes),
         Err(error) => Err(about(INPUT, error)),
     }
 }
 
-/// Reads a file, or standard input if its name is `-`.
+/// Reads a file, or standard input if its name is `-`, and decompresses it if `bzip2` wrote it.
 pub fn bytes_at(rt: &HostRuntime, path: &str) -> Result<Vec<u8>, Fault> {
     if path == "-" {
         return input(rt);
     }
     match fs::read(rt, path) {
-        Ok(bytes) => Ok(bytes),
+        Ok(bytes) => unpacked(path, bytes),
         Err(error) => Err(about(path, error)),
     }
 }
