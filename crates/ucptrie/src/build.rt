@@ -1,4 +1,5 @@
 //! The command `build`: a table of rows, or of a file of the Unicode Character Database.
+use crate::compressed::expect_text;
 use crate::fault::{Fault, about, plain, said};
 use crate::tables::{form, number, trie_type, width};
 use crate::unicode_files::{build_file, found_kind, has_columns, named_kind};
@@ -75,6 +76,7 @@ pub fn build(
     name: &str,
     file: &[u8],
 ) -> Result<Vec<u8>, Fault> {
+    expect_text(rt.alloc(), name, file)?;
     let has_values = matches.get_str("values").is_some();
     let kind = match named_kind(matches) {
         Some(kind) => kind,

@@ -1,8 +1,30 @@
-//! Input that is compressed.
+//! Input that is compressed: bzip2 is decompressed, and messages say what to do with other formats.
 use crate::fault::{Fault, about};
 use bzip2_reader::error::Bzip2Error;
 use bzip2_reader::stream::{decompressed, is_bzip2};
 use std::alloc::Global;
+
+/// The first bytes of files that are not text, and the message about each.
+static OTHERS: [(&[u8], &str); 6] = [
+    (
+        b"\x1f\x8b",
+        "found a gzip file: decompress it first, as in `gunzip -c FILE | ucptrie build -`",
+    ),
+    (
+        b"PK\x03\x04",
+        "found a zip file: decompress it first, as in `unzip -p FILE | ucptrie build -`",
+    ),
+    (
+        b"\xfd7zXZ",
+        "found an xz file: decompress it first, as in `xz -dc FILE | ucptrie build -`",
+    ),
+    (
+        b"\x28\xb5\x2f\xfd",
+        "found a zstd file: decompress it first, as in `zstd -dc FILE | ucptrie build -`",
+    ),
+    (b"\xfe\xff", "found UTF-16: convert it to UTF-8"),
+    (b"\xff\xfe", "found UTF-16: convert it to UTF-8"),
+];
 
 /// Returns the bytes of an input, decompressed if `bzip2` wrote them. `name` is what they were read
 /// from.
@@ -15,4 +37,15 @@ pub fn unpacked(alloc: Global, name: &str, bytes: Vec<u8>) -> Result<Vec<u8>, Fa
         Err(Bzip2Error::Memory) => Err(Fault::Memory),
         Err(fault) => Err(about(alloc, name, fault)),
     }
+}
+
+/// Returns a fault if bytes that are to be text start as in another format. `name` is what they
+/// were read from.
+pub fn expect_text(alloc: Global, name: &str, bytes: &[u8]) -> Result<(), Fault> {
+    for (start, why) in OTHERS.iter() {
+        if bytes.starts_with(*start) {
+            return Err(about(alloc, name, *why));
+        }
+    }
+    Ok(())
 }

@@ -1,5 +1,6 @@
 //! The command `set`: the set of the code points with a value, or of a file of sets, in a form.
 use crate::build::unbuilt;
+use crate::compressed::expect_text;
 use crate::fault::{Fault, about};
 use crate::names::name_in;
 use crate::offsets::starts_trie;
@@ -241,7 +242,11 @@ fn asked_set(
     name: &str,
     file: &[u8],
 ) -> Result<CodePointInversionList<'static>, Fault> {
-    match source_of(matches, file) {
+    let source = source_of(matches, file);
+    if matches!(source, Source::Lines(_)) {
+        expect_text(rt.alloc(), name, file)?;
+    }
+    match source {
         Source::Lines(FileKind::Rows) => set_of_rows(rt.alloc(), matches, name, file),
         Source::Lines(kind) => set_of_unicode_file(rt, matches, name, file, kind),
         Source::Table => set_of_table(rt.alloc(), matches, name, file),

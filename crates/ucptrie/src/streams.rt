@@ -1,5 +1,5 @@
 //! Files and streams, and the names by which faults call them.
-use crate::compressed::unpacked;
+use crate::compressed::{expect_text, unpacked};
 use crate::fault::{Fault, about};
 use std::alloc::Global;
 use std::io::{Read, Write};
@@ -34,6 +34,13 @@ pub fn bytes_at(rt: &HostRuntime, path: &str) -> Result<Vec<u8>, Fault> {
         Ok(bytes) => unpacked(rt.alloc(), path, bytes),
         Err(error) => Err(about(rt.alloc(), path, error)),
     }
+}
+
+/// Reads a text from a file, or from standard input if its name is `-`.
+pub fn text_at(rt: &HostRuntime, path: &str) -> Result<Vec<u8>, Fault> {
+    let bytes = bytes_at(rt, path)?;
+    expect_text(rt.alloc(), input_name(path), &bytes)?;
+    Ok(bytes)
 }
 
 /// Returns the fault of a write to standard output. It says nothing if the reader has closed the

@@ -1,7 +1,8 @@
 //! The tables of files, and how a table is to be written.
+use crate::compressed::expect_text;
 use crate::fault::{Fault, about, said};
 use crate::names::name_in;
-use crate::offsets::from_trie;
+use crate::offsets::{from_trie, starts_trie};
 use crate::streams::{bytes_at, input_name};
 use clap::ArgMatches;
 use icu_trie_core::header::TrieType;
@@ -119,6 +120,9 @@ pub fn table_in(
         return Err(about(alloc, name, "the file is empty"));
     }
     let part = from_trie(alloc, name, bytes, offset)?;
+    if offset.is_none() && !starts_trie(part) {
+        expect_text(alloc, name, part)?;
+    }
     let property = matches.get_str("property");
     match read_property(alloc, part, property) {
         Ok(table) => Ok(table),

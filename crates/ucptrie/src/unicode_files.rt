@@ -2,7 +2,7 @@
 use crate::build::{options, unbuilt};
 use crate::fault::{Fault, about, said};
 use crate::overlap::has_overlap;
-use crate::streams::bytes_at;
+use crate::streams::text_at;
 use crate::tables::{form, number};
 use clap::ArgMatches;
 use std::alloc::Global;
@@ -193,7 +193,7 @@ fn aliases<'f>(
 /// Returns the bytes of the file of aliases, or none if the arguments name no such file.
 pub fn named_file(rt: &HostRuntime, matches: &ArgMatches<'_>) -> Result<Vec<u8>, Fault> {
     match matches.get_str("aliases") {
-        Some(path) => bytes_at(rt, path),
+        Some(path) => text_at(rt, path),
         None => Ok(Vec::new(rt.alloc())),
     }
 }

@@ -1,4 +1,5 @@
 //! The command `words`: a word list as a unit trie.
+use crate::compressed::expect_text;
 use crate::fault::{Fault, about, said};
 use crate::names::name_in;
 use clap::ArgMatches;
@@ -47,6 +48,7 @@ fn trie<'f>(
             Err(fault) => Err(about(alloc, name, fault)),
         };
     }
+    expect_text(alloc, name, file)?;
     match trie_of_words(alloc, file) {
         Ok(trie) => Ok(trie),
         Err(fault) => Err(unbuilt(alloc, name, file, fault)),

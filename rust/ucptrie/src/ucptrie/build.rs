@@ -6,6 +6,7 @@ use crate::support::prelude::*;
 use crate::ucd_files::kind::FileKind;
 use crate::ucptab_table::fault::TableError;
 use crate::ucptab_table::message::row_message;
+use crate::ucptrie::compressed::expect_text;
 use crate::ucptrie::fault::{Fault, about, plain, said};
 use crate::ucptrie::tables::{form, number, trie_type, width};
 use crate::ucptrie::unicode_files::{build_file, found_kind, has_columns, named_kind};
@@ -73,6 +74,7 @@ pub fn build(
     name: &str,
     file: &[u8],
 ) -> Result<Vec<u8>, Fault> {
+    expect_text(name, file)?;
     let has_values = matches
         .get_one::<String>("values")
         .map(String::as_str)

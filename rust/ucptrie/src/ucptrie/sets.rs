@@ -9,6 +9,7 @@ use crate::ucd_files::statement::Columns;
 use crate::ucd_files::value_names::ValueNames;
 use crate::ucptab_table::rows::content_of;
 use crate::ucptrie::build::unbuilt;
+use crate::ucptrie::compressed::expect_text;
 use crate::ucptrie::fault::{Fault, about};
 use crate::ucptrie::names::name_in;
 use crate::ucptrie::offsets::starts_trie;
@@ -239,7 +240,11 @@ fn asked_set(
     name: &str,
     file: &[u8],
 ) -> Result<CodePointInversionList<'static>, Fault> {
-    match source_of(matches, file) {
+    let source = source_of(matches, file);
+    if matches!(source, Source::Lines(_)) {
+        expect_text(name, file)?;
+    }
+    match source {
         Source::Lines(FileKind::Rows) => set_of_rows(matches, name, file),
         Source::Lines(kind) => set_of_unicode_file(rt, matches, name, file, kind),
         Source::Table => set_of_table(matches, name, file),

@@ -5,7 +5,7 @@ use crate::host::{HostRuntime, Text};
 use crate::host::{fs, io};
 #[allow(unused_imports)]
 use crate::support::prelude::*;
-use crate::ucptrie::compressed::unpacked;
+use crate::ucptrie::compressed::{expect_text, unpacked};
 use crate::ucptrie::fault::{Fault, about};
 
 /// The name of standard input in messages.
@@ -37,6 +37,13 @@ pub fn bytes_at(rt: &HostRuntime, path: &str) -> Result<Vec<u8>, Fault> {
         Ok(bytes) => unpacked(path, bytes),
         Err(error) => Err(about(path, error)),
     }
+}
+
+/// Reads a text from a file, or from standard input if its name is `-`.
+pub fn text_at(rt: &HostRuntime, path: &str) -> Result<Vec<u8>, Fault> {
+    let bytes = bytes_at(rt, path)?;
+    expect_text(input_name(path), &bytes)?;
+    Ok(bytes)
 }
 
 /// Returns the fault of a write to standard output. It says nothing if the reader has closed the

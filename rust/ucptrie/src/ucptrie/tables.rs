@@ -4,9 +4,10 @@ use crate::host::{HostRuntime, Text};
 use crate::support::AllocError;
 #[allow(unused_imports)]
 use crate::support::prelude::*;
+use crate::ucptrie::compressed::expect_text;
 use crate::ucptrie::fault::{Fault, about, said};
 use crate::ucptrie::names::name_in;
-use crate::ucptrie::offsets::from_trie;
+use crate::ucptrie::offsets::{from_trie, starts_trie};
 use crate::ucptrie::streams::{bytes_at, input_name};
 use crate::ucptrie_tables::fault::{ReadFault, TomlFault};
 use crate::ucptrie_tables::properties::{PropertyFault, read_property};
@@ -117,6 +118,9 @@ pub fn table_in(
         return Err(about(name, "the file is empty"));
     }
     let part = from_trie(name, bytes, offset)?;
+    if offset.is_none() && !starts_trie(part) {
+        expect_text(name, part)?;
+    }
     let property = matches.get_one::<String>("property").map(String::as_str);
     match read_property(part, property) {
         Ok(table) => Ok(table),

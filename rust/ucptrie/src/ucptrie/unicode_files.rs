@@ -18,7 +18,7 @@ use crate::ucptab_table::message::line_message;
 use crate::ucptrie::build::{options, unbuilt};
 use crate::ucptrie::fault::{Fault, about, said};
 use crate::ucptrie::overlap::has_overlap;
-use crate::ucptrie::streams::bytes_at;
+use crate::ucptrie::streams::text_at;
 use crate::ucptrie::tables::{form, number};
 use crate::ucptrie_tables::fault::UnicodeFileFault;
 use crate::ucptrie_tables::unicode_file::table_of_file;
@@ -192,7 +192,7 @@ fn aliases<'f>(matches: &ArgMatches, file: &'f [u8]) -> Result<ValueNames<'f>, F
 /// Returns the bytes of the file of aliases, or none if the arguments name no such file.
 pub fn named_file(rt: &HostRuntime, matches: &ArgMatches) -> Result<Vec<u8>, Fault> {
     match matches.get_one::<String>("aliases").map(String::as_str) {
-        Some(path) => bytes_at(rt, path),
+        Some(path) => text_at(rt, path),
         None => Ok(Vec::new()),
     }
 }

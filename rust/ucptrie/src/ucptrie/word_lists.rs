@@ -6,6 +6,7 @@ use crate::support::AllocError;
 use crate::support::prelude::*;
 use crate::ucptab_table::input::line_at;
 use crate::ucptab_table::message::{line_message, push_quoted};
+use crate::ucptrie::compressed::expect_text;
 use crate::ucptrie::fault::{Fault, about, said};
 use crate::ucptrie::names::name_in;
 use crate::ucptrie_words::built::{trie_of_units, trie_of_words};
@@ -46,6 +47,7 @@ fn trie<'f>(matches: &ArgMatches, name: &str, file: &'f [u8]) -> Result<Char16Tr
             Err(fault) => Err(about(name, fault)),
         };
     }
+    expect_text(name, file)?;
     match trie_of_words(file) {
         Ok(trie) => Ok(trie),
         Err(fault) => Err(unbuilt(name, file, fault)),
