@@ -10,7 +10,7 @@ use std::marker::Brand;
 use std::process::ExitCode;
 use std::sync::ledger::{Blank, Ledger};
 use ucptab_table::fault::{RowFault, TableError};
-use ucptab_table::message::line_message;
+use ucptab_table::message::row_line_message;
 use ucptab_table::streams::{Failed, Sink, Source};
 use ucptab_table::text::write_fault;
 use ucptab_table::{run_words, write_usage};
@@ -98,9 +98,9 @@ fn say(rt: &HostRuntime, stream: &str, failure: &Option<io::Error>) {
     }
 }
 
-/// Says on standard error which line is not a row, and what was expected of it.
+/// Says on standard error which line is not a row, what was expected of it, and a hint.
 fn say_fault(rt: &HostRuntime, number: u64, fault: RowFault, line: &[u8]) {
-    if let Ok(message) = line_message(rt.alloc(), INPUT, number, fault.expected(), line) {
+    if let Ok(message) = row_line_message(rt.alloc(), INPUT, number, fault, line) {
         let _ = eprintln!(rt; "ucptab: {message}");
     }
 }

@@ -1,3 +1,4 @@
+pub mod Hints
 pub mod Inside
 pub mod Messages
 pub mod TableText

@@ -2,6 +2,7 @@
 use Rattle.std.specs.Prelude.{ℕ, ◌-◌, nat_le, nat_lt, ◌&&◌, ◌==◌, not, Bool, false, List, [], ◌∷◌, ◌++◌, length, take, replicate, codes, decimal, if◌then◌else◌}
 use Rattle.std.specs.List.{flat_map}
 use Rattle.std.specs.Fmt.{digits}
+use Rattle.ucptab_table.specs.Hints.{hint_of}
 use Rattle.ucptab_table.specs.declared.fault.RowFault.{RowFault}
 use Rattle.ucptab_table.specs.declared.fault.RowFault.TheVariants.{NotARow, CodePoint, Reversed, Value}
 
@@ -37,7 +38,12 @@ line_message_text input number expected line =
     (input ++ (58 ∷ (decimal number ++ (codes ": expected " ++ (expected ++ codes ", found ")))))
     ++ quoted line
 
--- The same about a row's fault.
+-- `: HINT` if the line does not have the form of a row.
+abbrev pub hint_text : RowFault → List ℕ → List ℕ
+hint_text NotARow line = codes ": " ++ hint_of line
+hint_text _ line = []
+
+-- The same about a row's fault, and what is wrong with its form.
 abbrev pub row_message_text : List ℕ → ℕ → RowFault → List ℕ → List ℕ
 row_message_text input number fault line =
-    line_message_text input number (expected_text fault) line
+    line_message_text input number (expected_text fault) line ++ hint_text fault line

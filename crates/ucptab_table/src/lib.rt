@@ -13,6 +13,7 @@ ghost use Rattle.ucptab_table.specs.declared.fault.TableError.TheVariants.{Memor
 
 pub mod digits;
 pub mod fault;
+pub mod hint;
 pub mod input;
 pub mod message;
 pub mod rows;

@@ -5,6 +5,7 @@ ghost use Rattle.std.specs.Str.Lines.{lines};
 ghost use Rattle.ucptab_table.specs.Messages.{is_plain, line_message_text, quoted, row_message_text, shown_byte};
 
 use crate::fault::RowFault;
+use crate::hint::hint;
 use crate::input::line_at;
 use std::alloc::{AllocError, Global};
 
@@ -91,6 +92,29 @@ pub fn line_message(
     Ok(text)
 }
 
+/// Returns the message about a line that has this fault as a row: [`line_message`] of what is
+/// expected. If the line does not have the form of a row, the message ends with `: HINT`.
+///
+/// # Errors
+/// Returns [`AllocError`] if an allocation fails.
+pub fn row_line_message(
+    alloc: Global,
+    input: &str,
+    number: u64,
+    fault: RowFault,
+    line: &[u8],
+) -> Result<String, AllocError>
+    ensures { IfOk result (λ text. string_bytes text
+        ≡ row_message_text input.now number fault line.now) }
+{
+    let mut text = line_message(alloc, input, number, fault.expected(), line)?;
+    if matches!(fault, RowFault::NotARow) {
+        text.push_str(": ")?;
+        text.push_str(hint(line))?;
+    }
+    Ok(text)
+}
+
 /// Returns the message about the fault of the row with this number, counted from 1.
 ///
 /// # Errors
@@ -107,5 +131,5 @@ pub fn row_message(
         (unwrap_or (slice_get (lines bytes.now) (number - 1)) [])) }
 {
     let line = line_at(bytes, number).unwrap_or(&[]);
-    line_message(alloc, input, number, fault.expected(), line)
+    row_line_message(alloc, input, number, fault, line)
 }

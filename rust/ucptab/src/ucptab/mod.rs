@@ -11,7 +11,7 @@ use crate::ledger::{Blank, Ledger};
 #[allow(unused_imports)]
 use crate::support::prelude::*;
 use crate::ucptab_table::fault::{RowFault, TableError};
-use crate::ucptab_table::message::line_message;
+use crate::ucptab_table::message::row_line_message;
 use crate::ucptab_table::streams::{Failed, Sink, Source};
 use crate::ucptab_table::text::write_fault;
 use crate::ucptab_table::{run_words, write_usage};
@@ -89,9 +89,9 @@ fn say(rt: &HostRuntime, stream: &str, failure: &Option<io::Error>) {
     }
 }
 
-/// Says on standard error which line is not a row, and what was expected of it.
+/// Says on standard error which line is not a row, what was expected of it, and a hint.
 fn say_fault(rt: &HostRuntime, number: u64, fault: RowFault, line: &[u8]) {
-    if let Ok(message) = line_message(INPUT, number, fault.expected(), line) {
+    if let Ok(message) = row_line_message(INPUT, number, fault, line) {
         let _ = writeln!(io::stderr(), "ucptab: {message}");
     }
 }

@@ -6,6 +6,7 @@ use crate::support::AllocError;
 #[allow(unused_imports)]
 use crate::support::prelude::*;
 use crate::ucptab_table::fault::RowFault;
+use crate::ucptab_table::hint::hint;
 use crate::ucptab_table::input::line_at;
 
 /// How many bytes of a line a message shows.
@@ -70,6 +71,25 @@ pub fn line_message(
     Ok(text)
 }
 
+/// Returns the message about a line that has this fault as a row: [`line_message`] of what is
+/// expected. If the line does not have the form of a row, the message ends with `: HINT`.
+///
+/// # Errors
+/// Returns [`AllocError`] if an allocation fails.
+pub fn row_line_message(
+    input: &str,
+    number: u64,
+    fault: RowFault,
+    line: &[u8],
+) -> Result<String, AllocError> {
+    let mut text = line_message(input, number, fault.expected(), line)?;
+    if matches!(fault, RowFault::NotARow) {
+        text.try_push_str(": ")?;
+        text.try_push_str(hint(line))?;
+    }
+    Ok(text)
+}
+
 /// Returns the message about the fault of the row with this number, counted from 1.
 ///
 /// # Errors
@@ -81,5 +101,5 @@ pub fn row_message(
     fault: RowFault,
 ) -> Result<String, AllocError> {
     let line = line_at(bytes, number).unwrap_or(&[]);
-    line_message(input, number, fault.expected(), line)
+    row_line_message(input, number, fault, line)
 }

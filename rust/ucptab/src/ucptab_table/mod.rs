@@ -6,6 +6,7 @@ use crate::host::{HostRuntime, Text};
 use crate::support::prelude::*;
 pub mod digits;
 pub mod fault;
+pub mod hint;
 pub mod input;
 pub mod message;
 pub mod rows;
