@@ -1,1 +1,2 @@
+mod Collected
 mod Kept

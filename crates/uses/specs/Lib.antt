@@ -1,3 +1,4 @@
 pub mod Categories
+pub mod Fronts
 pub mod Listing
 pub mod Pieces

@@ -1,10 +1,11 @@
 //! Sets of code points.
-ghost use Rattle.std.specs.Prelude.{◌≡◌, ◌≢◌, ◌+◌, ◌<◌, ◌≤◌, ◌++◌, ℕ, [], Bool, true, false, None, if◌then◌else◌, length, not, slice_get, IfErr, IfOk, IfSome, OnOk};
+ghost use Rattle.std.specs.Prelude.{◌≡◌, ◌≢◌, ◌+◌, ◌<◌, ◌≤◌, ◌++◌, ℕ, [], Bool, true, false, None, if◌then◌else◌, length, map, not, slice_get, IfErr, IfOk, IfSome, OnOk};
 ghost use Rattle.std.specs.Char.{encode_utf8};
 ghost use Rattle.std.specs.List.{All, filter};
 ghost use Rattle.std.specs.Str.{chars, encode_utf8_all};
 ghost use Rattle.std.specs.String.{string_bytes};
-ghost use Rattle.icu_collections.specs.CodePointInversionList.{Acts, AreApart, IsOfCodePoints, IsValid, between, both, code_point_limit, either, holds, in_ranges, members_below, one_of, ranges_of};
+ghost use Rattle.icu_collections.specs.CodePointInversionList.{Acts, AreApart, IsOfCodePoints, IsValid, between, both, code_point_limit, either, holds, in_ranges, members_below, one_of, ranges_of, IsUnionOf};
+ghost use Rattle.icu_collections.specs.CodePointInversionListAndStringList.{HoldsTexts};
 ghost use Rattle.icu_collections.specs.SetJson.{ends_of};
 
 use icu_collections::codepointinvlist::{
@@ -194,18 +195,22 @@ pub fn kept_characters(
     Ok(kept)
 }
 
-/// Collects ranges into a set. `None` if an allocation fails.
+/// Returns the union of ranges, or `None` if an allocation fails.
 pub fn collected(
     alloc: Global,
-    ranges: [RangeInclusive<u32>; 2],
-) -> Option<CodePointInversionList<'static>> {
+    ranges: Vec<RangeInclusive<u32>>,
+) -> Option<CodePointInversionList<'static>>
+    ensures { IfSome result (λ set. IsUnionOf ranges.items set) }
+{
     CodePointInversionList::from_iter(alloc, ranges.into_iter()).ok()
 }
 
-/// Collects texts into a set of code points and texts. `None` if an allocation fails.
+/// Returns the set of texts, or `None` if an allocation fails.
 pub fn collected_texts(
     alloc: Global,
     texts: &[&str],
-) -> Option<CodePointInversionListAndStringList<'static>> {
+) -> Option<CodePointInversionListAndStringList<'static>>
+    ensures { IfSome result (λ set. HoldsTexts (map (λ text. text.now) texts.now) set) }
+{
     CodePointInversionListAndStringList::from_iter(alloc, texts.iter().copied()).ok()
 }

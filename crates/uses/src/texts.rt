@@ -3,6 +3,7 @@ ghost use Rattle.std.specs.Prelude.{◌≡◌, ◌↔◌, IsTrue, Some};
 ghost use Rattle.std.specs.List.{All};
 ghost use Rattle.std.specs.Str.{IsCharBoundary, chars};
 ghost use Rattle.icu_collections.specs.CodePointTrie.{trie_value};
+ghost use Rattle.uses.specs.Fronts.{IsLongestWithValue};
 
 use icu_collections::codepointtrie::CodePointTrie;
 use icu_collections::codepointtrie::text::{find_value, span_of_values};
@@ -25,7 +26,8 @@ pub fn is_surely_normal(table: &CodePointTrie<'_, u8>, text: &str) -> bool
 /// Returns how many bytes of the text come before the first character without the value 1 in the
 /// table. They are normalized in any context, and end with a whole character.
 pub fn normal_front(table: &CodePointTrie<'_, u8>, text: &str) -> usize
-    ensures { IsCharBoundary text.now result }
+    ensures front { IsLongestWithValue table.now 1 text.now result }
+    ensures boundary { IsCharBoundary text.now result }
 {
     span_of_values(table, text, |value| value == YES)
 }
