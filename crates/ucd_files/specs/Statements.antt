@@ -28,6 +28,11 @@ later_field content = if length (field 2 content) == 0 then field 1 content else
 abbrev pub some_text : List ℕ → Option (List ℕ)
 some_text text = if length text == 0 then None else Some text
 
+-- Field n if it is not empty. A line that does not have the field has an empty text there, which is
+-- a fault.
+abbrev pub field_text : ℕ → List ℕ → Option (List ℕ)
+field_text n content = if has_field n content then some_text (field n content) else Some []
+
 -- The status of a mapping of the simple case folding in CaseFolding.txt: `C` (common) or `S`
 -- (simple).
 unfoldable pub is_simple : List ℕ → Bool
@@ -37,11 +42,10 @@ is_simple status = false
 -- The text of the value in a line. None if the line is about another property, or if the field is
 -- there and empty: the code points then have the default.
 unfoldable pub value_text : Columns → List ℕ → Option (List ℕ)
-value_text (Field n) content =
-    if has_field n content then some_text (field n content) else Some []
+value_text (Field n) content = field_text n content
 value_text (Property name) content =
     if is_same_name (field 1 content) name.now then Some (later_field content) else None
-value_text (UnicodeData n) content = some_text (field n content)
+value_text (UnicodeData n) content = field_text n content
 value_text (Unihan name) content =
     if is_same_name (column 1 content) name.now then Some (column 2 content) else None
 value_text SimpleFolding content =

@@ -3,7 +3,7 @@ ghost use Rattle.std.specs.Prelude.{◌≡◌};
 ghost use Rattle.std.specs.Option.{option_and_then, option_map};
 ghost use Rattle.ucd_files.specs.Fields.{after_mark};
 ghost use Rattle.ucptab_table.specs.TableText.{code_points_of, write_at};
-ghost use Rattle.ucd_files.specs.Statements.{checked_points, explicit_statement, is_paired, is_simple, joined, later_field, missing_statement, missing_text, points_of, some_text, statement_of, untagged, value_text, write_of};
+ghost use Rattle.ucd_files.specs.Statements.{checked_points, explicit_statement, field_text, is_paired, is_simple, joined, later_field, missing_statement, missing_text, points_of, some_text, statement_of, untagged, value_text, write_of};
 
 use crate::fault::LineFault;
 use crate::fields::{
@@ -44,7 +44,7 @@ pub enum Statement {
 
 /// Returns field 2, or field 1 if field 2 is empty.
 #[tactic(auto, unfolding(crate::specs::Statements::later_field))]
-fn later_field(content: &[u8]) -> &[u8]
+pub(crate) fn later_field(content: &[u8]) -> &[u8]
     ensures { result.now ≡ later_field content.now }
 {
     let later = field(2, content);
@@ -60,6 +60,17 @@ fn some_text(text: &[u8]) -> Option<&[u8]>
     ensures { option_map (λ text. text.now) result ≡ some_text text.now }
 {
     if text.is_empty() { None } else { Some(text) }
+}
+
+/// Returns a field if it is not empty. A line that does not have the field has an empty text there.
+fn field_text(n: usize, content: &[u8]) -> Option<&[u8]>
+    ensures { option_map (λ text. text.now) result ≡ field_text n content.now }
+{
+    if has_field(n, content) {
+        some_text(field(n, content))
+    } else {
+        Some(&[])
+    }
 }
 
 /// Returns whether a mapping with this status in `CaseFolding.txt` is one of the simple case
@@ -78,14 +89,7 @@ pub(crate) fn value_text<'t>(columns: Columns<'_>, content: &'t [u8]) -> Option<
     ensures { option_map (λ text. text.now) result ≡ value_text columns.entry content.now }
 {
     match columns {
-        Columns::Field(n) => {
-            if has_field(n, content) {
-                some_text(field(n, content))
-            } else {
-                Some(&[])
-            }
-        }
-        Columns::UnicodeData(n) => some_text(field(n, content)),
+        Columns::Field(n) | Columns::UnicodeData(n) => field_text(n, content),
         Columns::Property(name) => {
             if is_same_name(field(1, content), name) {
                 Some(later_field(content))
@@ -112,7 +116,7 @@ pub(crate) fn value_text<'t>(columns: Columns<'_>, content: &'t [u8]) -> Option<
 
 /// Returns a text that is not `<none>`, `<code point>` or `<script>`.
 #[tactic(auto, unfolding(crate::specs::Statements::untagged))]
-fn untagged(text: &[u8]) -> Option<&[u8]>
+pub(crate) fn untagged(text: &[u8]) -> Option<&[u8]>
     ensures { option_map (λ text. text.now) result ≡ untagged text.now }
 {
     if text.starts_with(b"<".as_slice()) {

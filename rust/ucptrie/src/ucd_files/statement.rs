@@ -40,7 +40,7 @@ pub enum Statement {
 }
 
 /// Returns field 2, or field 1 if field 2 is empty.
-fn later_field(content: &[u8]) -> &[u8] {
+pub(crate) fn later_field(content: &[u8]) -> &[u8] {
     let later = field(2, content);
     if later.is_empty() {
         field(1, content)
@@ -54,6 +54,15 @@ fn some_text(text: &[u8]) -> Option<&[u8]> {
     if text.is_empty() { None } else { Some(text) }
 }
 
+/// Returns a field if it is not empty. A line that does not have the field has an empty text there.
+fn field_text(n: usize, content: &[u8]) -> Option<&[u8]> {
+    if has_field(n, content) {
+        some_text(field(n, content))
+    } else {
+        Some(&[])
+    }
+}
+
 /// Returns whether a mapping with this status in `CaseFolding.txt` is one of the simple case
 /// folding: `C` (common) or `S` (simple).
 fn is_simple(status: &[u8]) -> bool {
@@ -64,14 +73,7 @@ fn is_simple(status: &[u8]) -> bool {
 /// or if the field is there and empty, so that the code points have the default.
 pub(crate) fn value_text<'t>(columns: Columns<'_>, content: &'t [u8]) -> Option<&'t [u8]> {
     match columns {
-        Columns::Field(n) => {
-            if has_field(n, content) {
-                some_text(field(n, content))
-            } else {
-                Some(&[])
-            }
-        }
-        Columns::UnicodeData(n) => some_text(field(n, content)),
+        Columns::Field(n) | Columns::UnicodeData(n) => field_text(n, content),
         Columns::Property(name) => {
             if is_same_name(field(1, content), name) {
                 Some(later_field(content))
@@ -97,7 +99,7 @@ pub(crate) fn value_text<'t>(columns: Columns<'_>, content: &'t [u8]) -> Option<
 }
 
 /// Returns a text that is not `<none>`, `<code point>` or `<script>`.
-fn untagged(text: &[u8]) -> Option<&[u8]> {
+pub(crate) fn untagged(text: &[u8]) -> Option<&[u8]> {
     if text.starts_with(b"<".as_slice()) {
         None
     } else {
