@@ -1,10 +1,10 @@
 -- Which kind of file some lines are.
 use Rattle.std.specs.Prelude.{ℕ, ◌==◌, ◌&&◌, nat_le, Bool, List, [], ◌∷◌, length, Option, Some, None, is_none, is_some, false, true, if◌then◌else◌}
-use Rattle.std.specs.List.{count_by, list_any}
+use Rattle.std.specs.Char.{is_ascii_digit}
+use Rattle.std.specs.List.{count_by, list_all, list_any}
 use Rattle.std.specs.Str.Lines.{lines}
 use Rattle.ucptab_table.specs.TableText.{content_of, hexadecimal}
 use Rattle.ucd_files.specs.Fields.{after_mark, has_field, missing_of}
-use Rattle.ucd_files.specs.Names.{short_decimal}
 use Rattle.ucd_files.specs.Statements.{missing_text}
 use Rattle.ucd_files.specs.Titles.{title_of}
 use Rattle.ucd_files.specs.ValueNames.{text_of_line}
@@ -32,12 +32,12 @@ kind_of input = let content = first_content (lines input) in
     else (if is_none (title_of input) then Rows
     else (if has_field 1 content then Properties else CodePoints)))
 
--- The line has no value, or one that is a decimal number of at most 32 bits.
+-- The line has no value, or one of decimal digits alone, however many.
 unfoldable pub has_decimal : Columns → List ℕ → Bool
 has_decimal columns line = is_decimal (text_of_line columns line) where
   is_decimal : Option (List ℕ) → Bool
   is_decimal None = true
-  is_decimal (Some text) = is_some (short_decimal text)
+  is_decimal (Some text) = list_all is_ascii_digit text
 
 -- The line has no value, or one that is a code point as the Unicode Character Database writes it,
 -- in 4 to 6 hexadecimal digits.

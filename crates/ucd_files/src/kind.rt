@@ -8,7 +8,7 @@ ghost use Rattle.ucd_files.specs.Kinds.{first_content, has_code_point, has_decim
 ghost use Rattle.ucd_files.specs.Names.{is_same_name};
 
 use crate::fields::{after_mark, field, has_field, missing_of};
-use crate::names::{is_same_name, short_decimal};
+use crate::names::is_same_name;
 use crate::order::text_of_line;
 use crate::statement::{Columns, missing_text};
 use crate::title::title_of;
@@ -119,18 +119,19 @@ pub fn has_missing_lines(input: &[u8], columns: Columns<'_>) -> bool
     false
 }
 
-/// Returns whether a line has no value, or one that is a decimal number of at most 32 bits.
+/// Returns whether a line has no value, or one of decimal digits alone, however many.
 #[tactic(auto, unfolding(crate::specs::Kinds::has_decimal))]
 fn has_decimal(columns: Columns<'_>, line: &[u8]) -> bool
     ensures { result ≡ has_decimal columns.entry line.now }
 {
     match text_of_line(columns, line) {
-        Some(text) => short_decimal(text).is_some(),
+        Some(text) => text.iter().all(|byte| byte.is_ascii_digit()),
         None => true,
     }
 }
 
-/// Returns whether each value in a file is a decimal number of at most 32 bits.
+/// Returns whether each value in a file has decimal digits alone. One can have more than 32 bits,
+/// and be the fault of its line.
 pub fn are_decimal(input: &[u8], columns: Columns<'_>) -> bool
     ensures { result ≡ list_all (has_decimal columns.entry) (lines input.now) }
 {

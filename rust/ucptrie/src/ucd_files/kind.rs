@@ -3,7 +3,7 @@
 #[allow(unused_imports)]
 use crate::host::{HostRuntime, Text};
 use crate::ucd_files::fields::{after_mark, field, has_field, missing_of};
-use crate::ucd_files::names::{is_same_name, short_decimal};
+use crate::ucd_files::names::is_same_name;
 use crate::ucd_files::order::text_of_line;
 use crate::ucd_files::statement::{Columns, missing_text};
 use crate::ucd_files::title::title_of;
@@ -98,15 +98,16 @@ pub fn has_missing_lines(input: &[u8], columns: Columns<'_>) -> bool {
     false
 }
 
-/// Returns whether a line has no value, or one that is a decimal number of at most 32 bits.
+/// Returns whether a line has no value, or one of decimal digits alone, however many.
 fn has_decimal(columns: Columns<'_>, line: &[u8]) -> bool {
     match text_of_line(columns, line) {
-        Some(text) => short_decimal(text).is_some(),
+        Some(text) => text.iter().all(|byte| byte.is_ascii_digit()),
         None => true,
     }
 }
 
-/// Returns whether each value in a file is a decimal number of at most 32 bits.
+/// Returns whether each value in a file has decimal digits alone. One can have more than 32 bits,
+/// and be the fault of its line.
 pub fn are_decimal(input: &[u8], columns: Columns<'_>) -> bool {
     let mut rest = input;
     while let Some((line, after)) = first_line(rest) {
