@@ -1,11 +1,12 @@
 -- Names and numbers of the values of a property, as pairs.
-use Rattle.std.specs.Prelude.{ℕ, ◌+◌, ◌==◌, ◌&&◌, not, Bool, List, [], ◌∷◌, ◌++◌, length, map, Option, Some, None, if◌then◌else◌, unwrap_or}
+use Rattle.std.specs.Prelude.{ℕ, ◌+◌, ◌==◌, ◌&&◌, not, Bool, List, [], ◌∷◌, ◌++◌, length, map, Option, Some, None, is_some, false, if◌then◌else◌, unwrap_or}
 use Rattle.std.specs.List.{filter, list_any}
+use Rattle.std.specs.Option.{option_and_then}
 use Rattle.std.specs.Str.Lines.{lines}
 use Rattle.ucptab_table.specs.TableText.{after, content_of}
 use Rattle.ucd_files.specs.Fields.{field, missing_of}
 use Rattle.ucd_files.specs.Names.{is_match, is_same_name, short_decimal}
-use Rattle.ucd_files.specs.Statements.{missing_text, value_text}
+use Rattle.ucd_files.specs.Statements.{later_field, missing_text, untagged, value_text}
 use Rattle.ucd_files.specs.declared.names.Matching.TheVariants.{Exact}
 use Rattle.ucd_files.specs.declared.statement.Columns.{Columns}
 
@@ -42,6 +43,28 @@ names_from k (content ∷ more) =
 abbrev pub alias_names : List ℕ → List ℕ → List (List ℕ × ℕ)
 alias_names property input =
     names_from 0 (map content_of (filter (is_value_line property) (lines input)))
+
+-- The last line with content is one of the property, for the lines up to this one. `follows` is
+-- the same for the lines before it.
+unfoldable pub follows_values : List ℕ → Bool → List ℕ → Bool
+follows_values property follows line = if length (content_of line) == 0 then follows
+    else is_same_name (field 0 (content_of line)) property
+
+-- The value in an `@missing` line. None if it is not written as text, as `<none>`.
+abbrev pub missing_value : List ℕ → Option (List ℕ)
+missing_value content = untagged (later_field content)
+
+-- The value in the first of these lines that is an `@missing` line and follows one of the property.
+abbrev pub missing_from : List ℕ → Bool → List (List ℕ) → Option (List ℕ)
+missing_from property follows [] = None
+missing_from property follows (line ∷ more) = if follows && is_some (missing_of line)
+    then option_and_then missing_value (missing_of line)
+    else missing_from property (follows_values property follows line) more
+
+-- The value of the code points without a line: PropertyValueAliases.txt has it in an `@missing`
+-- line after the lines of the property's values.
+abbrev pub missing_alias : List ℕ → List ℕ → Option (List ℕ)
+missing_alias property input = missing_from property false (lines input)
 
 -- ---- Names in order of first appearance
 

@@ -1,10 +1,12 @@
 //! Names and numbers of values from `PropertyValueAliases.txt`.
 ghost use Rattle.std.specs.Prelude.{◌≡◌, ◌++◌, IfOk};
-ghost use Rattle.ucd_files.specs.ValueNames.{alias_names, is_value_line, named, names_in, value_number};
+ghost use Rattle.std.specs.Option.{option_map};
+ghost use Rattle.ucd_files.specs.ValueNames.{alias_names, follows_values, is_value_line, missing_alias, named, names_in, value_number};
 ghost use Rattle.ucd_files.specs.Names.{pairs_of};
 
-use crate::fields::field;
+use crate::fields::{field, missing_of};
 use crate::names::{is_same_name, short_decimal};
+use crate::statement::{later_field, untagged};
 use crate::value_names::ValueNames;
 use std::alloc::{AllocError, Global};
 use ucptab_table::input::first_line;
@@ -88,4 +90,37 @@ pub fn alias_names<'a>(
         }
     }
     Ok(names)
+}
+
+/// Returns whether the last line with content is one of the property, for the lines up to this one.
+/// `follows` is the same for the lines before it.
+#[tactic(auto, unfolding(crate::specs::ValueNames::follows_values))]
+fn follows_values(property: &[u8], follows: bool, line: &[u8]) -> bool
+    ensures { result ≡ follows_values property.now follows line.now }
+{
+    let content = content_of(line);
+    if content.is_empty() {
+        follows
+    } else {
+        is_same_name(field(0, content), property)
+    }
+}
+
+/// Returns the value of the code points without a line, by `PropertyValueAliases.txt`: that in the
+/// first `@missing` line that follows the lines of the property, with only lines without content
+/// between them. Returns `None` if there is no such line, or if its value is not written as text,
+/// as in `<none>`.
+pub fn missing_alias<'a>(input: &'a [u8], property: &[u8]) -> Option<&'a [u8]>
+    ensures { option_map (λ value. value.now) result ≡ missing_alias property.now input.now }
+{
+    let mut follows = false;
+    let mut rest = input;
+    while let Some((line, after)) = first_line(rest) {
+        match missing_of(line) {
+            Some(content) if follows => return untagged(later_field(content)),
+            _ => follows = follows_values(property, follows, line),
+        }
+        rest = after;
+    }
+    None
 }

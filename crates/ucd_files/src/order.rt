@@ -16,7 +16,7 @@ use ucptab_table::rows::content_of;
 
 /// Returns the text of a line's value, if it has one that is not empty.
 #[tactic(auto, unfolding(crate::specs::ValueNames::text_of_line))]
-pub(crate) fn text_of_line<'t>(columns: Columns<'_>, line: &'t [u8]) -> Option<&'t [u8]>
+pub fn text_of_line<'t>(columns: Columns<'_>, line: &'t [u8]) -> Option<&'t [u8]>
     ensures { option_map (λ text. text.now) result ≡ text_of_line columns.entry line.now }
 {
     let text = match missing_of(line) {

@@ -5,8 +5,9 @@ use crate::host::{HostRuntime, Text};
 use crate::support::AllocError;
 #[allow(unused_imports)]
 use crate::support::prelude::*;
-use crate::ucd_files::fields::field;
+use crate::ucd_files::fields::{field, missing_of};
 use crate::ucd_files::names::{is_same_name, short_decimal};
+use crate::ucd_files::statement::{later_field, untagged};
 use crate::ucd_files::value_names::ValueNames;
 use crate::ucptab_table::input::first_line;
 use crate::ucptab_table::rows::{after, content_of};
@@ -70,4 +71,32 @@ pub fn alias_names<'a>(input: &'a [u8], property: &[u8]) -> Result<ValueNames<'a
         }
     }
     Ok(names)
+}
+
+/// Returns whether the last line with content is one of the property, for the lines up to this one.
+/// `follows` is the same for the lines before it.
+fn follows_values(property: &[u8], follows: bool, line: &[u8]) -> bool {
+    let content = content_of(line);
+    if content.is_empty() {
+        follows
+    } else {
+        is_same_name(field(0, content), property)
+    }
+}
+
+/// Returns the value of the code points without a line, by `PropertyValueAliases.txt`: that in the
+/// first `@missing` line that follows the lines of the property, with only lines without content
+/// between them. Returns `None` if there is no such line, or if its value is not written as text,
+/// as in `<none>`.
+pub fn missing_alias<'a>(input: &'a [u8], property: &[u8]) -> Option<&'a [u8]> {
+    let mut follows = false;
+    let mut rest = input;
+    while let Some((line, after)) = first_line(rest) {
+        match missing_of(line) {
+            Some(content) if follows => return untagged(later_field(content)),
+            _ => follows = follows_values(property, follows, line),
+        }
+        rest = after;
+    }
+    None
 }

@@ -13,7 +13,7 @@ use crate::ucptab_table::input::first_line;
 use crate::ucptab_table::rows::content_of;
 
 /// Returns the text of a line's value, if it has one that is not empty.
-pub(crate) fn text_of_line<'t>(columns: Columns<'_>, line: &'t [u8]) -> Option<&'t [u8]> {
+pub fn text_of_line<'t>(columns: Columns<'_>, line: &'t [u8]) -> Option<&'t [u8]> {
     let text = match missing_of(line) {
         Some(content) => missing_text(columns, content)?,
         None => value_text(columns, content_of(line))?,
