@@ -1,8 +1,10 @@
 //! The command `build`: a table of rows, or of a file of the Unicode Character Database.
 use crate::compressed::expect_text;
-use crate::fault::{Fault, about, plain, said};
+use crate::fault::{Fault, about, said};
+use crate::forms::is_made;
 use crate::tables::{form, number, trie_type, width};
-use crate::unicode_files::{build_file, found_kind, has_columns, named_kind};
+use crate::unicode_files::{build_file, column_option, found_kind, named_kind, not_of_rows};
+use crate::wide::{row_with, too_wide};
 use clap::ArgMatches;
 use icu_trie_core::header::TrieType;
 use std::alloc::Global;
@@ -62,9 +64,38 @@ fn build_rows(
     let options = options_of_rows(matches, rows);
     match built(alloc, rows, options, form(matches)) {
         Ok(bytes) => Ok(bytes),
-        // The value may be one of the arguments, or stated.
-        Err(BuildFault::Width(value, width)) => Err(plain(alloc, BuildFault::Width(value, width))),
+        Err(BuildFault::Width(value, width)) => {
+            let place = row_with(rows, value);
+            Err(too_wide(alloc, matches, name, place, value, width))
+        }
         Err(fault) => Err(unbuilt(alloc, name, rows, fault)),
+    }
+}
+
+/// Returns an option of the arguments that rows have no use for.
+fn option_of_files(matches: &ArgMatches<'_>) -> Option<&'static str> {
+    match column_option(matches) {
+        None if matches.get_str("values").is_some() => Some("--values"),
+        option => option,
+    }
+}
+
+/// Builds a table of lines. `name` is what they were read from.
+fn build_lines(
+    rt: &HostRuntime,
+    matches: &ArgMatches<'_>,
+    name: &str,
+    file: &[u8],
+) -> Result<Vec<u8>, Fault> {
+    let option = option_of_files(matches);
+    let kind = match named_kind(matches) {
+        Some(kind) => kind,
+        None => found_kind(file, option.is_some()),
+    };
+    match (kind, option) {
+        (FileKind::Rows, None) => build_rows(rt.alloc(), matches, name, file),
+        (FileKind::Rows, Some(option)) => Err(not_of_rows(rt.alloc(), option)),
+        (kind, _) => build_file(rt, matches, name, file, kind),
     }
 }
 
@@ -77,13 +108,11 @@ pub fn build(
     file: &[u8],
 ) -> Result<Vec<u8>, Fault> {
     expect_text(rt.alloc(), name, file)?;
-    let has_values = matches.get_str("values").is_some();
-    let kind = match named_kind(matches) {
-        Some(kind) => kind,
-        None => found_kind(file, has_values || has_columns(matches)),
-    };
-    match kind {
-        FileKind::Rows => build_rows(rt.alloc(), matches, name, file),
-        kind => build_file(rt, matches, name, file, kind),
+    match build_lines(rt, matches, name, file) {
+        Err(Fault::Said(_)) if named_kind(matches).is_none() && is_made(file) => {
+            let why = "expected lines: ucptrie convert reads tables, and ucptrie set reads sets";
+            Err(about(rt.alloc(), name, why))
+        }
+        built => built,
     }
 }

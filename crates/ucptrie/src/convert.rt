@@ -1,6 +1,7 @@
 //! The command `convert`: a table in another form, or of another type, width or error value.
 use crate::build::unbuilt;
 use crate::fault::{Fault, about};
+use crate::offsets::start;
 use crate::tables::{form, number, table_in, trie_type, width};
 use clap::ArgMatches;
 use std::alloc::Global;
@@ -46,7 +47,7 @@ pub fn convert(
     name: &str,
     file: &[u8],
 ) -> Result<Vec<u8>, Fault> {
-    let table = table_in(alloc, matches, name, file, number(matches, "offset"))?;
+    let table = table_in(alloc, matches, name, file, start(matches))?;
     match changed(alloc, matches, table) {
         Ok(table) => converted(alloc, name, &table, form(matches)),
         Err(fault) => Err(unbuilt(alloc, name, &[], fault)),

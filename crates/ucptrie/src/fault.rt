@@ -67,18 +67,6 @@ pub fn said(line: Result<String, AllocError>) -> Fault {
     }
 }
 
-/// Returns the line that says why, and names nothing.
-fn plain_line<W: fmt::Display + Drop>(alloc: Global, why: W) -> Result<String, AllocError> {
-    let mut line = String::new(alloc);
-    write!(line, "{why}")?;
-    Ok(line)
-}
-
-/// Returns the fault of no single input, output or word.
-pub fn plain<W: fmt::Display + Drop>(alloc: Global, why: W) -> Fault {
-    said(plain_line(alloc, why))
-}
-
 /// Returns the fault of an input, an output or a word.
 pub fn about<W: fmt::Display + Drop>(alloc: Global, name: &str, why: W) -> Fault {
     said(line_about(alloc, name, why))

@@ -4,19 +4,24 @@
 
 mod asked;
 mod build;
+mod choice;
 mod compressed;
 mod convert;
 mod fault;
+mod forms;
 mod heading;
+mod missing;
 mod names;
 mod offsets;
 mod output;
 mod overlap;
 mod progress;
+mod properties;
 mod sets;
 mod streams;
 mod tables;
 mod unicode_files;
+mod wide;
 mod word_lists;
 mod words;
 
@@ -26,22 +31,32 @@ use crate::convert::convert;
 use crate::fault::{Fault, about, about_arguments};
 use crate::heading::with_heading;
 use crate::names::test_name;
+use crate::offsets::{Start, start};
 use crate::output::{deliver, target_of};
 use crate::progress::{report, started};
 use crate::sets::set;
-use crate::streams::{bytes_at, input_name, put, say};
-use crate::tables::{number, table_at};
+use crate::streams::{INPUT, bytes_at, input_name, put, say};
+use crate::tables::table_at;
 use crate::word_lists::word_list;
 use crate::words::program_words;
 use clap::ArgMatches;
 use clap::error::ErrorKind;
-use std::alloc::AllocError;
+use std::alloc::{AllocError, Global};
 use std::process::ExitCode;
 use std::{env, io};
 use ucptrie_tables::diff::differences_text;
 use ucptrie_tables::explain::explained;
 use ucptrie_tables::shown::{answered, shown};
 use ucptrie_tables::table::Table;
+
+/// Tests that not both of two inputs are standard input, all of which the first one reads.
+fn test_once(alloc: Global, first: &str, second: Option<&str>) -> Result<(), Fault> {
+    if first == "-" && second == Some("-") {
+        let why = "can be read once, and two inputs are -";
+        return Err(about_arguments(alloc, INPUT, why));
+    }
+    Ok(())
+}
 
 /// Returns the table that `build` or `convert` makes of a file, the set that `set` makes of it, or
 /// the trie that `words` does. `name` is what the file was read from.
@@ -53,6 +68,9 @@ fn made(
     file: &[u8],
 ) -> Result<Vec<u8>, Fault> {
     match command {
+        "build" | "set" | "words" if file.is_empty() => {
+            Err(about(rt.alloc(), name, "the input is empty"))
+        }
         "build" => build(rt, matches, name, file),
         "set" => set(rt, matches, name, file),
         "words" => word_list(rt.alloc(), matches, name, file),
@@ -72,6 +90,7 @@ fn make(
     let target = target_of(rt.alloc(), matches)?;
     test_name(rt.alloc(), matches)?;
     let path = matches.get_str("file").unwrap_or("-");
+    test_once(rt.alloc(), path, matches.get_str("aliases"))?;
     let file = bytes_at(rt, path)?;
     report(rt, start, "read", file.len());
     let bytes = made(rt, command, matches, input_name(path), &file)?;
@@ -89,7 +108,7 @@ fn put_text(rt: &HostRuntime, text: Result<String, AllocError>) -> Result<(), Fa
 
 /// Prints what a table is, in lines.
 fn show(rt: &HostRuntime, matches: &ArgMatches<'_>) -> Result<(), Fault> {
-    let table = table_at(rt, matches, "file", number(matches, "offset"))?;
+    let table = table_at(rt, matches, "file", start(matches))?;
     put_text(rt, shown(rt.alloc(), &table))
 }
 
@@ -109,8 +128,10 @@ fn print_values(
 
 /// Prints by `get` or `explain` what the arguments ask for.
 fn get(rt: &HostRuntime, command: &str, matches: &ArgMatches<'_>) -> Result<(), Fault> {
+    let path = matches.get_str("file").unwrap_or("-");
+    test_once(rt.alloc(), path, matches.get_str("from"))?;
     let asked = asked(rt, matches)?;
-    let table = table_at(rt, matches, "file", number(matches, "offset"))?;
+    let table = table_at(rt, matches, "file", start(matches))?;
     print_values(rt, command, &table, &asked)
 }
 
@@ -124,13 +145,18 @@ fn print_differences(rt: &HostRuntime, first: &Table, second: &Table) -> Result<
 
 /// Prints the ranges in which a table and that of the second file differ, and returns the status.
 fn diff_from(rt: &HostRuntime, matches: &ArgMatches<'_>, first: &Table) -> Result<u8, Fault> {
-    let second = table_at(rt, matches, "second", None)?;
+    let second = table_at(rt, matches, "second", Start::Only)?;
     print_differences(rt, first, &second)
 }
 
 /// Prints the ranges in which the tables of two files differ, and returns the status.
 fn diff(rt: &HostRuntime, matches: &ArgMatches<'_>) -> Result<u8, Fault> {
-    let first = table_at(rt, matches, "first", None)?;
+    test_once(
+        rt.alloc(),
+        matches.get_str("first").unwrap_or("-"),
+        matches.get_str("second"),
+    )?;
+    let first = table_at(rt, matches, "first", Start::Only)?;
     diff_from(rt, matches, &first)
 }
 

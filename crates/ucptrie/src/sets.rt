@@ -1,12 +1,15 @@
 //! The command `set`: the set of the code points with a value, or of a file of sets, in a form.
 use crate::build::unbuilt;
+use crate::choice::{Choice, UnicodeFile, ValueKind, choice};
 use crate::compressed::expect_text;
 use crate::fault::{Fault, about};
+use crate::forms::{is_json, is_toml};
+use crate::missing::{default_of, test_own_names};
 use crate::names::name_in;
-use crate::offsets::starts_trie;
+use crate::offsets::{has_tries, start, starts_trie};
 use crate::tables::{number, table_in};
 use crate::unicode_files::{
-    columns, found_kind, has_columns, is_set, named_file, named_kind, names, unread,
+    column_option, columns, found_kind, named_file, named_kind, not_of_rows, unread,
 };
 use clap::ArgMatches;
 use icu_invlist::codepointinvlist::CodePointInversionList;
@@ -16,9 +19,7 @@ use std::alloc::Global;
 use std::str;
 use ucd_files::kind::FileKind;
 use ucd_files::names::{Numbering, is_same_name, number_of};
-use ucd_files::statement::Columns;
 use ucd_files::value_names::ValueNames;
-use ucptab_table::rows::content_of;
 use ucptrie_sets::fault::{SetFileFault, SetWriteFault, ValueSetFault};
 use ucptrie_sets::of_value::set_of_value;
 use ucptrie_sets::serialized::set_of_bytes;
@@ -27,6 +28,10 @@ use ucptrie_sets::written::{SetForm, written};
 use ucptrie_tables::table::{Table, TableOptions, table_of_rows};
 use ucptrie_tables::unicode_file::table_of_file;
 use ucptrie_tables::width::ValueWidth;
+
+/// What is said of a file that says too little of code points without a line.
+const NO_DEFAULT: &str =
+    "no line says which value the other code points have: make a table by build --default NUMBER";
 
 /// What a file is.
 #[derive(Clone, Copy)]
@@ -41,29 +46,6 @@ enum Source {
     Serialized,
 }
 
-/// Returns whether a file is taken for TOML: its first line with content starts with `[` or has a
-/// `=`, as in no file of lines.
-fn is_toml(file: &[u8]) -> bool {
-    let Ok(text) = str::from_utf8(file) else {
-        return false;
-    };
-    for line in text.lines() {
-        let content = content_of(line.as_bytes());
-        if !content.is_empty() {
-            return content.starts_with(b"[".as_slice()) || content.contains(&b'=');
-        }
-    }
-    false
-}
-
-/// Returns whether a file is taken for JSON: its first byte after white space is `{`.
-fn is_json(file: &[u8]) -> bool {
-    match str::from_utf8(file) {
-        Ok(text) => text.trim_start().starts_with('{'),
-        Err(_) => false,
-    }
-}
-
 /// Returns what a file is: what the arguments say, or what its first bytes say.
 fn source_of(matches: &ArgMatches<'_>, file: &[u8]) -> Source {
     if let Some(kind) = named_kind(matches) {
@@ -75,7 +57,8 @@ fn source_of(matches: &ArgMatches<'_>, file: &[u8]) -> Source {
         Some("serialized") => Source::Serialized,
         _ if starts_trie(file) || is_json(file) => Source::Table,
         _ if is_toml(file) => Source::Toml,
-        _ => Source::Lines(found_kind(file, has_columns(matches))),
+        _ if number(matches, "offset").is_some() || has_tries(file) => Source::Table,
+        _ => Source::Lines(found_kind(file, column_option(matches).is_some())),
     }
 }
 
@@ -122,22 +105,38 @@ fn number_named(alloc: Global, names: &ValueNames<'_>, text: &str) -> Result<u32
     }
 }
 
-/// Returns how the values of a file become numbers, and the number whose set is asked for. `name`
-/// is what the file was read from.
+/// Returns how the values of a file become numbers, and the number whose set is asked for.
 fn asked_value<'n>(
     alloc: Global,
     matches: &ArgMatches<'_>,
-    name: &str,
-    columns: Columns<'_>,
-    names: &'n ValueNames<'n>,
+    file: UnicodeFile<'_>,
+    choice: &'n Choice<'n>,
 ) -> Result<(Numbering<'n>, u32), Fault> {
-    match matches.get_str("value") {
-        Some(text) => Ok((Numbering::Names(names), number_named(alloc, names, text)?)),
-        None if is_set(columns, names) => Ok((Numbering::One, 1)),
-        None => {
+    let names = &choice.names;
+    match (matches.get_str("value"), choice.kind) {
+        (Some(text), _) => Ok((Numbering::Names(names), number_named(alloc, names, text)?)),
+        (None, ValueKind::Set) => Ok((Numbering::One, 1)),
+        (None, ValueKind::Binary) => Ok((Numbering::Names(names), 1)),
+        _ => {
             let why = "expected --value, or by --property a property that is true or false";
-            Err(about(alloc, name, why))
+            Err(about(alloc, file.name, why))
         }
+    }
+}
+
+/// Returns the number of the value that code points have without a line and without an `@missing`
+/// line: false, or what the file of aliases says, or none of the file's values.
+fn default_in_set(
+    alloc: Global,
+    matches: &ArgMatches<'_>,
+    file: UnicodeFile<'_>,
+    choice: &Choice<'_>,
+    numbering: Numbering<'_>,
+) -> Result<u32, Fault> {
+    match choice.kind {
+        ValueKind::Binary => Ok(0),
+        ValueKind::Aliases => { default_of(alloc, matches, file, numbering, u32::MAX, NO_DEFAULT) }
+        ValueKind::Set | ValueKind::Own => Ok(u32::MAX),
     }
 }
 
@@ -145,31 +144,37 @@ fn asked_value<'n>(
 fn set_of_lines(
     alloc: Global,
     matches: &ArgMatches<'_>,
-    name: &str,
-    file: &[u8],
-    columns: Columns<'_>,
-    names: &ValueNames<'_>,
+    file: UnicodeFile<'_>,
+    choice: &Choice<'_>,
 ) -> Result<CodePointInversionList<'static>, Fault> {
-    let (numbering, value) = asked_value(alloc, matches, name, columns, names)?;
-    match table_of_file(alloc, file, columns, numbering, options(u32::MAX)) {
-        Ok(table) => set_in_table(alloc, name, &table, value),
-        Err(fault) => Err(unread(alloc, name, file, fault)),
+    let (numbering, value) = asked_value(alloc, matches, file, choice)?;
+    test_own_names(alloc, file, choice)?;
+    let default = default_in_set(alloc, matches, file, choice, numbering)?;
+    match table_of_file(alloc, file.bytes, file.columns, numbering, options(default)) {
+        Ok(table) => set_in_table(alloc, file.name, &table, value),
+        Err(fault) => Err(unread(alloc, file.name, file.bytes, fault)),
     }
 }
 
-/// Returns the set of a value in a file of the Unicode Character Database. A code point without a
-/// line and without an `@missing` line has none of its values.
+/// Returns the set of a value in a file of the Unicode Character Database.
 fn set_of_unicode_file(
     rt: &HostRuntime,
     matches: &ArgMatches<'_>,
     name: &str,
-    file: &[u8],
+    bytes: &[u8],
     kind: FileKind,
 ) -> Result<CodePointInversionList<'static>, Fault> {
-    let columns = columns(rt.alloc(), matches, kind, name, file)?;
+    let columns = columns(rt.alloc(), matches, kind, name, bytes)?;
     let named = named_file(rt, matches)?;
-    let names = names(rt.alloc(), matches, file, columns, &named)?;
-    set_of_lines(rt.alloc(), matches, name, file, columns, &names)
+    let aliases = named.as_slice();
+    let file = UnicodeFile {
+        name,
+        bytes,
+        columns,
+        aliases,
+    };
+    let choice = choice(rt.alloc(), matches, file)?;
+    set_of_lines(rt.alloc(), matches, file, &choice)
 }
 
 /// Returns the set of a value in rows.
@@ -179,6 +184,9 @@ fn set_of_rows(
     name: &str,
     rows: &[u8],
 ) -> Result<CodePointInversionList<'static>, Fault> {
+    if let Some(option) = column_option(matches) {
+        return Err(not_of_rows(alloc, option));
+    }
     let value = asked_number(alloc, matches)?;
     match table_of_rows(alloc, rows, options(0)) {
         Ok(table) => set_in_table(alloc, name, &table, value),
@@ -194,7 +202,7 @@ fn set_of_table(
     file: &[u8],
 ) -> Result<CodePointInversionList<'static>, Fault> {
     let value = asked_number(alloc, matches)?;
-    let table = table_in(alloc, matches, name, file, number(matches, "offset"))?;
+    let table = table_in(alloc, matches, name, file, start(matches))?;
     set_in_table(alloc, name, &table, value)
 }
 

@@ -2,11 +2,14 @@
 use crate::compressed::expect_text;
 use crate::fault::{Fault, about, said};
 use crate::names::name_in;
-use crate::offsets::{from_trie, starts_trie};
+use crate::offsets::{Start, from_trie, starts_trie};
 use crate::streams::{bytes_at, input_name};
 use clap::ArgMatches;
 use icu_trie_core::header::TrieType;
 use std::alloc::{AllocError, Global};
+use std::str;
+use ucptrie_sets::fault::SetFileFault;
+use ucptrie_sets::toml_file::set_of_file;
 use ucptrie_tables::fault::{ReadFault, TomlFault};
 use ucptrie_tables::properties::{PropertyFault, read_property};
 use ucptrie_tables::table::Table;
@@ -106,39 +109,63 @@ fn unchosen(alloc: Global, name: &str, property: &str, fault: PropertyFault) -> 
     }
 }
 
+/// Returns whether TOML is at fault in which a trie is missing.
+fn lacks_trie(fault: &PropertyFault) -> bool {
+    matches!(
+        fault,
+        PropertyFault::Read(ReadFault::TrieToml(_)) | PropertyFault::Missing(_)
+    )
+}
+
+/// Returns whether a file has sets of code points in TOML.
+fn has_sets(alloc: Global, file: &[u8]) -> Result<bool, Fault> {
+    let Ok(text) = str::from_utf8(file) else {
+        return Ok(false);
+    };
+    match set_of_file(alloc, text, None) {
+        Err(SetFileFault::Memory) => Err(Fault::Memory),
+        Err(SetFileFault::NotToml | SetFileFault::NoSets) => Ok(false),
+        _ => Ok(true),
+    }
+}
+
 /// Returns the table of a file with these bytes. In TOML it is that of the property that the
-/// arguments name, and in another file that of the trie at the given offset, or the only one.
+/// arguments name, and in another file that of the trie at its start.
 /// `name` is what the bytes were read from.
 pub fn table_in(
     alloc: Global,
     matches: &ArgMatches<'_>,
     name: &str,
     bytes: &[u8],
-    offset: Option<u32>,
+    start: Start,
 ) -> Result<Table, Fault> {
     if bytes.is_empty() {
         return Err(about(alloc, name, "the file is empty"));
     }
-    let part = from_trie(alloc, name, bytes, offset)?;
-    if offset.is_none() && !starts_trie(part) {
+    let part = from_trie(alloc, name, bytes, start)?;
+    if !matches!(start, Start::At(_)) && !starts_trie(part) {
         expect_text(alloc, name, part)?;
     }
     let property = matches.get_str("property");
     match read_property(alloc, part, property) {
         Ok(table) => Ok(table),
+        Err(fault) if lacks_trie(&fault) && has_sets(alloc, part)? => {
+            let why = "a set of code points, and no table: use ucptrie set";
+            Err(about(alloc, name, why))
+        }
         Err(fault) => Err(unchosen(alloc, name, property.unwrap_or(""), fault)),
     }
 }
 
 /// Reads the table of the file that the argument `id` names, or of standard input if its name is
-/// `-`. The trie starts at an offset, if one is given.
+/// `-`. `start` is where the trie starts.
 pub fn table_at(
     rt: &HostRuntime,
     matches: &ArgMatches<'_>,
     id: &str,
-    offset: Option<u32>,
+    start: Start,
 ) -> Result<Table, Fault> {
     let path = matches.get_str(id).unwrap_or("-");
     let bytes = bytes_at(rt, path)?;
-    table_in(rt.alloc(), matches, input_name(path), &bytes, offset)
+    table_in(rt.alloc(), matches, input_name(path), &bytes, start)
 }

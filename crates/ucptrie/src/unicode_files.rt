@@ -1,24 +1,25 @@
 //! Tables of files of the Unicode Character Database.
 use crate::build::{options, unbuilt};
-use crate::fault::{Fault, about, said};
+use crate::choice::{Choice, UnicodeFile, ValueKind, choice, numbering};
+use crate::fault::{Fault, about, about_arguments, said};
+use crate::missing::{default_of, test_own_names};
 use crate::overlap::has_overlap;
+use crate::properties::{has_unihan_property, missing_property};
 use crate::streams::text_at;
 use crate::tables::{form, number};
+use crate::wide::{line_with, too_wide};
 use clap::ArgMatches;
 use std::alloc::Global;
-use ucd_files::aliases::alias_names;
 use ucd_files::fault::FileFault;
-use ucd_files::kind::{
-    FileKind, are_code_points, are_decimal, has_missing_lines, has_property, kind_of,
-};
+use ucd_files::kind::{FileKind, has_property, kind_of};
 use ucd_files::names::{Numbering, is_same_name};
-use ucd_files::order::names_in_order;
 use ucd_files::statement::Columns;
 use ucd_files::title::title_of;
 use ucd_files::value_names::ValueNames;
 use ucptab_table::input::line_at;
 use ucptab_table::message::line_message;
-use ucptrie_tables::fault::UnicodeFileFault;
+use ucptrie_tables::fault::{BuildFault, UnicodeFileFault};
+use ucptrie_tables::table::TableOptions;
 use ucptrie_tables::unicode_file::table_of_file;
 use ucptrie_tables::value_names::names_source;
 use ucptrie_tables::width::ValueWidth;
@@ -36,12 +37,28 @@ pub fn named_kind(matches: &ArgMatches<'_>) -> Option<FileKind> {
     }
 }
 
-/// Returns whether the arguments say where values are or what they are called, as only for files of
-/// the Unicode Character Database.
-pub fn has_columns(matches: &ArgMatches<'_>) -> bool {
-    matches.get_str("property").is_some()
-        || matches.get_str("aliases").is_some()
-        || number(matches, "field").is_some()
+/// Returns an option of the arguments that says where values are or what they are called, as only
+/// for files of the Unicode Character Database.
+pub fn column_option(matches: &ArgMatches<'_>) -> Option<&'static str> {
+    if number(matches, "field").is_some() {
+        Some("--field")
+    } else if matches.get_str("property").is_some() {
+        Some("--property")
+    } else if matches.get_str("aliases").is_some() {
+        Some("--aliases")
+    } else {
+        None
+    }
+}
+
+/// Returns the fault of an option that only files of the Unicode Character Database need, and that
+/// is given for rows.
+pub fn not_of_rows(alloc: Global, option: &str) -> Fault {
+    about_arguments(
+        alloc,
+        option,
+        "not for rows: leave it out, or --format rows",
+    )
 }
 
 /// Returns the kind of lines that the file's start shows, but no rows if the lines have properties.
@@ -54,12 +71,15 @@ pub fn found_kind(file: &[u8], has_properties: bool) -> FileKind {
 
 /// The properties of `UnicodeData.txt` with one value for each code point: the short and the long
 /// name, and the field.
-static UNICODE_DATA: [(&str, &str, usize); 8] = [
+static UNICODE_DATA: [(&str, &str, usize); 11] = [
     ("na", "Name", 1),
     ("gc", "General_Category", 2),
     ("ccc", "Canonical_Combining_Class", 3),
     ("bc", "Bidi_Class", 4),
+    ("nv", "Numeric_Value", 8),
     ("Bidi_M", "Bidi_Mirrored", 9),
+    ("na1", "Unicode_1_Name", 10),
+    ("isc", "ISO_Comment", 11),
     ("suc", "Simple_Uppercase_Mapping", 12),
     ("slc", "Simple_Lowercase_Mapping", 13),
     ("stc", "Simple_Titlecase_Mapping", 14),
@@ -70,11 +90,11 @@ fn is_named(short: &str, long: &str, property: &[u8]) -> bool {
     is_same_name(short.as_bytes(), property) || is_same_name(long.as_bytes(), property)
 }
 
-/// Returns the field of a property in `UnicodeData.txt`.
-fn unicode_data_field(alloc: Global, property: Option<&str>) -> Result<usize, Fault> {
+/// Returns the field of a property in `UnicodeData.txt`. `name` is what the file was read from.
+fn unicode_data_field(alloc: Global, name: &str, property: Option<&str>) -> Result<usize, Fault> {
     let Some(property) = property else {
         let why = "the file has many properties: name one by --property or --field";
-        return Err(about(alloc, "UnicodeData.txt", why));
+        return Err(about(alloc, name, why));
     };
     for (short, long, field) in UNICODE_DATA.iter() {
         if is_named(short, long, property.as_bytes()) {
@@ -110,12 +130,30 @@ fn columns_of_lines<'a>(
             Ok(Columns::Property(property.as_bytes()))
         }
         property if is_simple_folding(file, property) => Ok(Columns::SimpleFolding),
+        Some(property) if has_overlap(alloc, file)? => {
+            let columns = Columns::Field(1);
+            Err(missing_property(alloc, columns, property, name, file))
+        }
         None if has_overlap(alloc, file)? => {
             let why = "a code point has two values: choose by --property or by --field";
             Err(about(alloc, name, why))
         }
         _ => Ok(Columns::Field(1)),
     }
+}
+
+/// Returns where lines of Unihan have the values of a property. `name` is what they were read from.
+fn columns_of_unihan<'a>(
+    alloc: Global,
+    property: &'a str,
+    name: &str,
+    file: &[u8],
+) -> Result<Columns<'a>, Fault> {
+    let columns = Columns::Unihan(property.as_bytes());
+    if has_unihan_property(file, property.as_bytes()) {
+        return Ok(columns);
+    }
+    Err(missing_property(alloc, columns, property, name, file))
 }
 
 /// Returns where the lines of a file have their values. `name` is what it was read from.
@@ -135,9 +173,11 @@ pub fn columns<'a>(
     let property = matches.get_str("property");
     match kind {
         FileKind::CodePoints => Ok(Columns::Field(0)),
-        FileKind::UnicodeData => Ok(Columns::UnicodeData(unicode_data_field(alloc, property)?)),
+        FileKind::UnicodeData => Ok(Columns::UnicodeData(unicode_data_field(
+            alloc, name, property,
+        )?)),
         FileKind::Unihan => match property {
-            Some(property) => Ok(Columns::Unihan(property.as_bytes())),
+            Some(property) => columns_of_unihan(alloc, property, name, file),
             None => {
                 let why = "the file has many properties: name one by --property";
                 Err(about(alloc, name, why))
@@ -147,90 +187,11 @@ pub fn columns<'a>(
     }
 }
 
-/// Returns the names of the values in a file, in order of first appearance. The first number is 0
-/// if the file says which value code points without a line have. Otherwise it is 1, and 0 is for
-/// these.
-fn names_in<'f>(
-    alloc: Global,
-    file: &'f [u8],
-    columns: Columns<'_>,
-) -> Result<ValueNames<'f>, Fault> {
-    let mut names = ValueNames::new(alloc);
-    if !has_missing_lines(file, columns) {
-        names.push(0, b"")?;
-    }
-    Ok(names_in_order(file, columns, names)?)
-}
-
-/// Returns whether the lines have only code points, or the only value of a property is the property
-/// itself, as in `PropList.txt`.
-pub fn is_set(columns: Columns<'_>, names: &ValueNames<'_>) -> bool {
-    match (columns, names.as_slice()) {
-        (Columns::Field(0), _) => true,
-        (Columns::Property(property), [value] | [_, value]) => is_same_name(value.text, property),
-        _ => false,
-    }
-}
-
-/// Returns the names of the property's values in a file of aliases.
-fn aliases<'f>(
-    alloc: Global,
-    matches: &ArgMatches<'_>,
-    file: &'f [u8],
-) -> Result<ValueNames<'f>, Fault> {
-    let Some(property) = matches.get_str("property") else {
-        let why = "--aliases needs --property, the property whose values are named";
-        return Err(about(alloc, "arguments", why));
-    };
-    let names = alias_names(alloc, file, property.as_bytes())?;
-    if names.as_slice().is_empty() {
-        let why = "the file of aliases has no value of this property";
-        return Err(about(alloc, property, why));
-    }
-    Ok(names)
-}
-
 /// Returns the bytes of the file of aliases, or none if the arguments name no such file.
 pub fn named_file(rt: &HostRuntime, matches: &ArgMatches<'_>) -> Result<Vec<u8>, Fault> {
     match matches.get_str("aliases") {
         Some(path) => text_at(rt, path),
         None => Ok(Vec::new(rt.alloc())),
-    }
-}
-
-/// Returns the names of the values of a file: those in `named`, the file of aliases, if the
-/// arguments name one, and else those in the file itself.
-pub fn names<'f>(
-    alloc: Global,
-    matches: &ArgMatches<'_>,
-    file: &'f [u8],
-    columns: Columns<'_>,
-    named: &'f [u8],
-) -> Result<ValueNames<'f>, Fault> {
-    if matches.get_str("aliases").is_some() {
-        aliases(alloc, matches, named)
-    } else {
-        names_in(alloc, file, columns)
-    }
-}
-
-/// Returns how the values of a file become numbers.
-fn numbering<'n>(
-    matches: &ArgMatches<'_>,
-    file: &[u8],
-    columns: Columns<'_>,
-    names: &'n ValueNames<'n>,
-) -> Numbering<'n> {
-    match matches.get_str("values") {
-        Some("decimal") => Numbering::Decimal,
-        Some("hexadecimal") => Numbering::Hexadecimal,
-        Some("set") => Numbering::One,
-        None if matches!(columns, Columns::SimpleFolding) => Numbering::Hexadecimal,
-        None if is_set(columns, names) => Numbering::One,
-        None if matches.get_str("aliases").is_some() => Numbering::Names(names),
-        None if are_decimal(file, columns) => Numbering::Decimal,
-        None if are_code_points(file, columns) => Numbering::Hexadecimal,
-        _ => Numbering::Names(names),
     }
 }
 
@@ -260,22 +221,62 @@ fn push_names(
     Ok(())
 }
 
-/// Returns the table of a file, whose values have these names, in a form.
+/// Returns the table of a file in the form that the arguments name.
+fn written_of_file(
+    alloc: Global,
+    matches: &ArgMatches<'_>,
+    file: UnicodeFile<'_>,
+    choice: &Choice<'_>,
+    numbering: Numbering<'_>,
+    options: TableOptions,
+) -> Result<Vec<u8>, UnicodeFileFault> {
+    let form = form(matches);
+    let table = table_of_file(alloc, file.bytes, file.columns, numbering, options)?;
+    let mut bytes = written(alloc, &table, form)?;
+    let is_binary = matches!(choice.kind, ValueKind::Binary);
+    if matches!(numbering, Numbering::Names(_)) && !is_binary {
+        push_names(alloc, &mut bytes, form, table.width, &choice.names)?;
+    }
+    Ok(bytes)
+}
+
+/// Returns what the table of a file is to be.
+fn options_of_file(
+    alloc: Global,
+    matches: &ArgMatches<'_>,
+    file: UnicodeFile<'_>,
+    choice: &Choice<'_>,
+    numbering: Numbering<'_>,
+) -> Result<TableOptions, Fault> {
+    let given = options(matches);
+    if matches!(choice.kind, ValueKind::Aliases) && number(matches, "default").is_none() {
+        let how = "no line says which value the other code points have: give --default NUMBER";
+        let default = default_of(alloc, matches, file, numbering, given.default, how)?;
+        return Ok(TableOptions { default, ..given });
+    }
+    Ok(given)
+}
+
+/// Returns the table of a file, whose values have these names, in the form that the arguments name.
 fn built_of_file(
     alloc: Global,
     matches: &ArgMatches<'_>,
-    file: &[u8],
-    columns: Columns<'_>,
-    names: &ValueNames<'_>,
-    form: Form<'_>,
-) -> Result<Vec<u8>, UnicodeFileFault> {
-    let numbering = numbering(matches, file, columns, names);
-    let table = table_of_file(alloc, file, columns, numbering, options(matches))?;
-    let mut bytes = written(alloc, &table, form)?;
+    file: UnicodeFile<'_>,
+    choice: &Choice<'_>,
+) -> Result<Vec<u8>, Fault> {
+    let numbering = numbering(matches, file, choice);
     if matches!(numbering, Numbering::Names(_)) {
-        push_names(alloc, &mut bytes, form, table.width, names)?;
+        test_own_names(alloc, file, choice)?;
     }
-    Ok(bytes)
+    let options = options_of_file(alloc, matches, file, choice, numbering)?;
+    match written_of_file(alloc, matches, file, choice, numbering, options) {
+        Ok(bytes) => Ok(bytes),
+        Err(UnicodeFileFault::Build(BuildFault::Width(value, width))) => {
+            let place = line_with(file, numbering, value);
+            Err(too_wide(alloc, matches, file.name, place, value, width))
+        }
+        Err(fault) => Err(unread(alloc, file.name, file.bytes, fault)),
+    }
 }
 
 /// Builds a table of a file of the Unicode Character Database, in the form that the arguments name.
@@ -284,14 +285,18 @@ pub fn build_file(
     rt: &HostRuntime,
     matches: &ArgMatches<'_>,
     name: &str,
-    file: &[u8],
+    bytes: &[u8],
     kind: FileKind,
 ) -> Result<Vec<u8>, Fault> {
-    let columns = columns(rt.alloc(), matches, kind, name, file)?;
+    let columns = columns(rt.alloc(), matches, kind, name, bytes)?;
     let named = named_file(rt, matches)?;
-    let names = names(rt.alloc(), matches, file, columns, &named)?;
-    match built_of_file(rt.alloc(), matches, file, columns, &names, form(matches)) {
-        Ok(bytes) => Ok(bytes),
-        Err(fault) => Err(unread(rt.alloc(), name, file, fault)),
-    }
+    let aliases = named.as_slice();
+    let file = UnicodeFile {
+        name,
+        bytes,
+        columns,
+        aliases,
+    };
+    let choice = choice(rt.alloc(), matches, file)?;
+    built_of_file(rt.alloc(), matches, file, &choice)
 }

@@ -7,9 +7,13 @@ use crate::ucd_files::kind::FileKind;
 use crate::ucptab_table::fault::TableError;
 use crate::ucptab_table::message::row_message;
 use crate::ucptrie::compressed::expect_text;
-use crate::ucptrie::fault::{Fault, about, plain, said};
+use crate::ucptrie::fault::{Fault, about, said};
+use crate::ucptrie::forms::is_made;
 use crate::ucptrie::tables::{form, number, trie_type, width};
-use crate::ucptrie::unicode_files::{build_file, found_kind, has_columns, named_kind};
+use crate::ucptrie::unicode_files::{
+    build_file, column_option, found_kind, named_kind, not_of_rows,
+};
+use crate::ucptrie::wide::{row_with, too_wide};
 use crate::ucptrie_tables::built;
 use crate::ucptrie_tables::fault::BuildFault;
 use crate::ucptrie_tables::stated::stated_values;
@@ -60,9 +64,44 @@ fn build_rows(matches: &ArgMatches, name: &str, rows: &[u8]) -> Result<Vec<u8>, 
     let options = options_of_rows(matches, rows);
     match built(rows, options, form(matches)) {
         Ok(bytes) => Ok(bytes),
-        // The value may be one of the arguments, or stated.
-        Err(BuildFault::Width(value, width)) => Err(plain(BuildFault::Width(value, width))),
+        Err(BuildFault::Width(value, width)) => {
+            let place = row_with(rows, value);
+            Err(too_wide(matches, name, place, value, width))
+        }
         Err(fault) => Err(unbuilt(name, rows, fault)),
+    }
+}
+
+/// Returns an option of the arguments that rows have no use for.
+fn option_of_files(matches: &ArgMatches) -> Option<&'static str> {
+    match column_option(matches) {
+        None if matches
+            .get_one::<String>("values")
+            .map(String::as_str)
+            .is_some() =>
+        {
+            Some("--values")
+        }
+        option => option,
+    }
+}
+
+/// Builds a table of lines. `name` is what they were read from.
+fn build_lines(
+    rt: &HostRuntime,
+    matches: &ArgMatches,
+    name: &str,
+    file: &[u8],
+) -> Result<Vec<u8>, Fault> {
+    let option = option_of_files(matches);
+    let kind = match named_kind(matches) {
+        Some(kind) => kind,
+        None => found_kind(file, option.is_some()),
+    };
+    match (kind, option) {
+        (FileKind::Rows, None) => build_rows(matches, name, file),
+        (FileKind::Rows, Some(option)) => Err(not_of_rows(option)),
+        (kind, _) => build_file(rt, matches, name, file, kind),
     }
 }
 
@@ -75,16 +114,11 @@ pub fn build(
     file: &[u8],
 ) -> Result<Vec<u8>, Fault> {
     expect_text(name, file)?;
-    let has_values = matches
-        .get_one::<String>("values")
-        .map(String::as_str)
-        .is_some();
-    let kind = match named_kind(matches) {
-        Some(kind) => kind,
-        None => found_kind(file, has_values || has_columns(matches)),
-    };
-    match kind {
-        FileKind::Rows => build_rows(matches, name, file),
-        kind => build_file(rt, matches, name, file, kind),
+    match build_lines(rt, matches, name, file) {
+        Err(Fault::Said(_)) if named_kind(matches).is_none() && is_made(file) => {
+            let why = "expected lines: ucptrie convert reads tables, and ucptrie set reads sets";
+            Err(about(name, why))
+        }
+        built => built,
     }
 }

@@ -66,18 +66,6 @@ pub fn said(line: Result<String, AllocError>) -> Fault {
     }
 }
 
-/// Returns the line that says why, and names nothing.
-fn plain_line<W: fmt::Display>(why: W) -> Result<String, AllocError> {
-    let mut line = String::new();
-    write!(line, "{why}")?;
-    Ok(line)
-}
-
-/// Returns the fault of no single input, output or word.
-pub fn plain<W: fmt::Display>(why: W) -> Fault {
-    said(plain_line(why))
-}
-
 /// Returns the fault of an input, an output or a word.
 pub fn about<W: fmt::Display>(name: &str, why: W) -> Fault {
     said(line_about(name, why))

@@ -7,19 +7,24 @@ use crate::host::{HostRuntime, Text};
 use crate::support::prelude::*;
 mod asked;
 mod build;
+mod choice;
 mod compressed;
 mod convert;
 mod fault;
+mod forms;
 mod heading;
+mod missing;
 mod names;
 mod offsets;
 mod output;
 mod overlap;
 mod progress;
+mod properties;
 mod sets;
 mod streams;
 mod tables;
 mod unicode_files;
+mod wide;
 mod word_lists;
 mod words;
 
@@ -32,11 +37,12 @@ use crate::ucptrie::convert::convert;
 use crate::ucptrie::fault::{Fault, about, about_arguments};
 use crate::ucptrie::heading::with_heading;
 use crate::ucptrie::names::test_name;
+use crate::ucptrie::offsets::{Start, start};
 use crate::ucptrie::output::{deliver, target_of};
 use crate::ucptrie::progress::{report, started};
 use crate::ucptrie::sets::set;
-use crate::ucptrie::streams::{bytes_at, input_name, put, say};
-use crate::ucptrie::tables::{number, table_at};
+use crate::ucptrie::streams::{INPUT, bytes_at, input_name, put, say};
+use crate::ucptrie::tables::table_at;
 use crate::ucptrie::word_lists::word_list;
 use crate::ucptrie::words::program_words;
 use crate::ucptrie_tables::diff::differences_text;
@@ -44,6 +50,15 @@ use crate::ucptrie_tables::explain::explained;
 use crate::ucptrie_tables::shown::{answered, shown};
 use crate::ucptrie_tables::table::Table;
 use clap::ArgMatches;
+
+/// Tests that not both of two inputs are standard input, all of which the first one reads.
+fn test_once(first: &str, second: Option<&str>) -> Result<(), Fault> {
+    if first == "-" && second == Some("-") {
+        let why = "can be read once, and two inputs are -";
+        return Err(about_arguments(INPUT, why));
+    }
+    Ok(())
+}
 
 /// Returns the table that `build` or `convert` makes of a file, the set that `set` makes of it, or
 /// the trie that `words` does. `name` is what the file was read from.
@@ -55,6 +70,7 @@ fn made(
     file: &[u8],
 ) -> Result<Vec<u8>, Fault> {
     match command {
+        "build" | "set" | "words" if file.is_empty() => Err(about(name, "the input is empty")),
         "build" => build(rt, matches, name, file),
         "set" => set(rt, matches, name, file),
         "words" => word_list(matches, name, file),
@@ -77,6 +93,10 @@ fn make(
         .get_one::<String>("file")
         .map(String::as_str)
         .unwrap_or("-");
+    test_once(
+        path,
+        matches.get_one::<String>("aliases").map(String::as_str),
+    )?;
     let file = bytes_at(rt, path)?;
     report(rt, start, "read", file.len());
     let bytes = made(rt, command, matches, input_name(path), &file)?;
@@ -94,7 +114,7 @@ fn put_text(rt: &HostRuntime, text: Result<String, AllocError>) -> Result<(), Fa
 
 /// Prints what a table is, in lines.
 fn show(rt: &HostRuntime, matches: &ArgMatches) -> Result<(), Fault> {
-    let table = table_at(rt, matches, "file", number(matches, "offset"))?;
+    let table = table_at(rt, matches, "file", start(matches))?;
     put_text(rt, shown(&table))
 }
 
@@ -114,8 +134,13 @@ fn print_values(
 
 /// Prints by `get` or `explain` what the arguments ask for.
 fn get(rt: &HostRuntime, command: &str, matches: &ArgMatches) -> Result<(), Fault> {
+    let path = matches
+        .get_one::<String>("file")
+        .map(String::as_str)
+        .unwrap_or("-");
+    test_once(path, matches.get_one::<String>("from").map(String::as_str))?;
     let asked = asked(rt, matches)?;
-    let table = table_at(rt, matches, "file", number(matches, "offset"))?;
+    let table = table_at(rt, matches, "file", start(matches))?;
     print_values(rt, command, &table, &asked)
 }
 
@@ -129,13 +154,20 @@ fn print_differences(rt: &HostRuntime, first: &Table, second: &Table) -> Result<
 
 /// Prints the ranges in which a table and that of the second file differ, and returns the status.
 fn diff_from(rt: &HostRuntime, matches: &ArgMatches, first: &Table) -> Result<u8, Fault> {
-    let second = table_at(rt, matches, "second", None)?;
+    let second = table_at(rt, matches, "second", Start::Only)?;
     print_differences(rt, first, &second)
 }
 
 /// Prints the ranges in which the tables of two files differ, and returns the status.
 fn diff(rt: &HostRuntime, matches: &ArgMatches) -> Result<u8, Fault> {
-    let first = table_at(rt, matches, "first", None)?;
+    test_once(
+        matches
+            .get_one::<String>("first")
+            .map(String::as_str)
+            .unwrap_or("-"),
+        matches.get_one::<String>("second").map(String::as_str),
+    )?;
+    let first = table_at(rt, matches, "first", Start::Only)?;
     diff_from(rt, matches, &first)
 }
 

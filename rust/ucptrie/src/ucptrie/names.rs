@@ -18,7 +18,7 @@ static RESERVED_BY_RUST: [&str; 53] = [
 
 /// What the source in Rust uses and a module of the same name would hide: two names of the standard
 /// library, and the `rustfmt` of `#[rustfmt::skip]`.
-static USED_BY_SOURCE: [&str; 4] = ["core", "Option", "Result", "rustfmt"];
+static USED_BY_SOURCE: [&str; 5] = ["bekstaudi", "core", "Option", "Result", "rustfmt"];
 
 /// Returns why a name can't be that of a module in Rust, or `None` if it can.
 fn why_no_module(name: &str) -> Option<&'static str> {

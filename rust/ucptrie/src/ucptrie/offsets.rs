@@ -5,9 +5,30 @@ use crate::support::AllocError;
 #[allow(unused_imports)]
 use crate::support::prelude::*;
 use crate::ucptrie::fault::{Fault, about, said};
+use crate::ucptrie::tables::number;
+use clap::ArgMatches;
 
 /// How many offsets a message lists at most.
 const LISTED: usize = 32;
+
+/// Where a trie starts in a file.
+#[derive(Clone, Copy)]
+pub enum Start {
+    /// At this offset.
+    At(u32),
+    /// At that of the only trie. If there are several, `--offset` chooses one.
+    Found,
+    /// At that of the only trie, for a command without `--offset`.
+    Only,
+}
+
+/// Returns where the arguments of a command with `--offset` say that a trie starts.
+pub fn start(matches: &ArgMatches) -> Start {
+    match number(matches, "offset") {
+        Some(offset) => Start::At(offset),
+        None => Start::Found,
+    }
+}
 
 /// Returns whether bytes start with the signature of the binary form, in one of the byte orders.
 pub fn starts_trie(bytes: &[u8]) -> bool {
@@ -25,6 +46,19 @@ fn offsets_of(bytes: &[u8]) -> Result<Vec<usize>, AllocError> {
     Ok(offsets)
 }
 
+/// Returns whether a file that is no text has a trie in it.
+pub fn has_tries(bytes: &[u8]) -> bool {
+    if str::from_utf8(bytes).is_ok() {
+        return false;
+    }
+    for k in 0..bytes.len() / 4 {
+        if starts_trie(&bytes[4 * k..]) {
+            return true;
+        }
+    }
+    false
+}
+
 /// Appends offsets.
 fn push_offsets(line: &mut String, offsets: &[usize]) -> Result<(), AllocError> {
     for offset in offsets {
@@ -34,10 +68,14 @@ fn push_offsets(line: &mut String, offsets: &[usize]) -> Result<(), AllocError> 
 }
 
 /// Returns the line about a file with several tries.
-fn several_line(name: &str, offsets: &[usize]) -> Result<String, AllocError> {
+fn several_line(name: &str, offsets: &[usize], start: Start) -> Result<String, AllocError> {
     let mut line = String::new();
     let count = offsets.len();
-    write!(line, "{name}: {count} tries, choose one by --offset:")?;
+    let how = match start {
+        Start::Only => "write one by ucptrie convert --offset",
+        _ => "choose one by --offset",
+    };
+    write!(line, "{name}: {count} tries, {how}:")?;
     push_offsets(&mut line, offsets.get(..LISTED).unwrap_or(offsets))?;
     if count > LISTED {
         line.try_push_str(" ..")?;
@@ -48,8 +86,8 @@ fn several_line(name: &str, offsets: &[usize]) -> Result<String, AllocError> {
 /// Returns the part of a file that starts with a trie: from the given offset on, or else the file
 /// itself if it is text or starts with a trie, or else from its only trie on. `name` is what the
 /// file is called.
-pub fn from_trie<'b>(name: &str, bytes: &'b [u8], offset: Option<u32>) -> Result<&'b [u8], Fault> {
-    if let Some(offset) = offset {
+pub fn from_trie<'b>(name: &str, bytes: &'b [u8], start: Start) -> Result<&'b [u8], Fault> {
+    if let Start::At(offset) = start {
         return match bytes.get(offset as usize..) {
             Some(part) => Ok(part),
             None => Err(about(name, "the offset is beyond the end")),
@@ -62,6 +100,6 @@ pub fn from_trie<'b>(name: &str, bytes: &'b [u8], offset: Option<u32>) -> Result
     match offsets.as_slice() {
         [] => Ok(bytes),
         [offset] => Ok(bytes.get(*offset..).unwrap_or(bytes)),
-        _ => Err(said(several_line(name, &offsets))),
+        _ => Err(said(several_line(name, &offsets, start))),
     }
 }

@@ -5,17 +5,18 @@ use crate::host::{HostRuntime, Text};
 use crate::support::prelude::*;
 use crate::ucd_files::kind::FileKind;
 use crate::ucd_files::names::{Numbering, is_same_name, number_of};
-use crate::ucd_files::statement::Columns;
 use crate::ucd_files::value_names::ValueNames;
-use crate::ucptab_table::rows::content_of;
 use crate::ucptrie::build::unbuilt;
+use crate::ucptrie::choice::{Choice, UnicodeFile, ValueKind, choice};
 use crate::ucptrie::compressed::expect_text;
 use crate::ucptrie::fault::{Fault, about};
+use crate::ucptrie::forms::{is_json, is_toml};
+use crate::ucptrie::missing::{default_of, test_own_names};
 use crate::ucptrie::names::name_in;
-use crate::ucptrie::offsets::starts_trie;
+use crate::ucptrie::offsets::{has_tries, start, starts_trie};
 use crate::ucptrie::tables::{number, table_in};
 use crate::ucptrie::unicode_files::{
-    columns, found_kind, has_columns, is_set, named_file, named_kind, names, unread,
+    column_option, columns, found_kind, named_file, named_kind, not_of_rows, unread,
 };
 use crate::ucptrie_sets::fault::{SetFileFault, SetWriteFault, ValueSetFault};
 use crate::ucptrie_sets::of_value::set_of_value;
@@ -30,6 +31,10 @@ use bekstaudi::codepointinvlist::serialized::SerializedSetError;
 use bekstaudi::codepointtrie::TrieType;
 use clap::ArgMatches;
 
+/// What is said of a file that says too little of code points without a line.
+const NO_DEFAULT: &str =
+    "no line says which value the other code points have: make a table by build --default NUMBER";
+
 /// What a file is.
 #[derive(Clone, Copy)]
 enum Source {
@@ -43,29 +48,6 @@ enum Source {
     Serialized,
 }
 
-/// Returns whether a file is taken for TOML: its first line with content starts with `[` or has a
-/// `=`, as in no file of lines.
-fn is_toml(file: &[u8]) -> bool {
-    let Ok(text) = str::from_utf8(file) else {
-        return false;
-    };
-    for line in text.lines() {
-        let content = content_of(line.as_bytes());
-        if !content.is_empty() {
-            return content.starts_with(b"[".as_slice()) || content.contains(&b'=');
-        }
-    }
-    false
-}
-
-/// Returns whether a file is taken for JSON: its first byte after white space is `{`.
-fn is_json(file: &[u8]) -> bool {
-    match str::from_utf8(file) {
-        Ok(text) => text.trim_start().starts_with('{'),
-        Err(_) => false,
-    }
-}
-
 /// Returns what a file is: what the arguments say, or what its first bytes say.
 fn source_of(matches: &ArgMatches, file: &[u8]) -> Source {
     if let Some(kind) = named_kind(matches) {
@@ -77,7 +59,8 @@ fn source_of(matches: &ArgMatches, file: &[u8]) -> Source {
         Some("serialized") => Source::Serialized,
         _ if starts_trie(file) || is_json(file) => Source::Table,
         _ if is_toml(file) => Source::Toml,
-        _ => Source::Lines(found_kind(file, has_columns(matches))),
+        _ if number(matches, "offset").is_some() || has_tries(file) => Source::Table,
+        _ => Source::Lines(found_kind(file, column_option(matches).is_some())),
     }
 }
 
@@ -123,52 +106,76 @@ fn number_named(names: &ValueNames<'_>, text: &str) -> Result<u32, Fault> {
     }
 }
 
-/// Returns how the values of a file become numbers, and the number whose set is asked for. `name`
-/// is what the file was read from.
+/// Returns how the values of a file become numbers, and the number whose set is asked for.
 fn asked_value<'n>(
     matches: &ArgMatches,
-    name: &str,
-    columns: Columns<'_>,
-    names: &'n ValueNames<'n>,
+    file: UnicodeFile<'_>,
+    choice: &'n Choice<'n>,
 ) -> Result<(Numbering<'n>, u32), Fault> {
-    match matches.get_one::<String>("value").map(String::as_str) {
-        Some(text) => Ok((Numbering::Names(names), number_named(names, text)?)),
-        None if is_set(columns, names) => Ok((Numbering::One, 1)),
-        None => {
+    let names = &choice.names;
+    match (
+        matches.get_one::<String>("value").map(String::as_str),
+        choice.kind,
+    ) {
+        (Some(text), _) => Ok((Numbering::Names(names), number_named(names, text)?)),
+        (None, ValueKind::Set) => Ok((Numbering::One, 1)),
+        (None, ValueKind::Binary) => Ok((Numbering::Names(names), 1)),
+        _ => {
             let why = "expected --value, or by --property a property that is true or false";
-            Err(about(name, why))
+            Err(about(file.name, why))
         }
+    }
+}
+
+/// Returns the number of the value that code points have without a line and without an `@missing`
+/// line: false, or what the file of aliases says, or none of the file's values.
+fn default_in_set(
+    matches: &ArgMatches,
+    file: UnicodeFile<'_>,
+    choice: &Choice<'_>,
+    numbering: Numbering<'_>,
+) -> Result<u32, Fault> {
+    match choice.kind {
+        ValueKind::Binary => Ok(0),
+        ValueKind::Aliases => default_of(matches, file, numbering, u32::MAX, NO_DEFAULT),
+        ValueKind::Set | ValueKind::Own => Ok(u32::MAX),
     }
 }
 
 /// Returns the set of a value in lines whose values have these names.
 fn set_of_lines(
     matches: &ArgMatches,
-    name: &str,
-    file: &[u8],
-    columns: Columns<'_>,
-    names: &ValueNames<'_>,
+    file: UnicodeFile<'_>,
+    choice: &Choice<'_>,
 ) -> Result<CodePointInversionList<'static>, Fault> {
-    let (numbering, value) = asked_value(matches, name, columns, names)?;
-    match table_of_file(file, columns, numbering, options(u32::MAX)) {
-        Ok(table) => set_in_table(name, &table, value),
-        Err(fault) => Err(unread(name, file, fault)),
+    let (numbering, value) = asked_value(matches, file, choice)?;
+    test_own_names(file, choice)?;
+    let default = default_in_set(matches, file, choice, numbering)?;
+    match table_of_file(file.bytes, file.columns, numbering, options(default)) {
+        Ok(table) => set_in_table(file.name, &table, value),
+        Err(fault) => Err(unread(file.name, file.bytes, fault)),
     }
 }
 
-/// Returns the set of a value in a file of the Unicode Character Database. A code point without a
-/// line and without an `@missing` line has none of its values.
+/// Returns the set of a value in a file of the Unicode Character Database.
 fn set_of_unicode_file(
     rt: &HostRuntime,
     matches: &ArgMatches,
     name: &str,
-    file: &[u8],
+    bytes: &[u8],
     kind: FileKind,
 ) -> Result<CodePointInversionList<'static>, Fault> {
-    let columns = columns(matches, kind, name, file)?;
+    let columns = columns(matches, kind, name, bytes)?;
     let named = named_file(rt, matches)?;
-    let names = names(matches, file, columns, &named)?;
-    set_of_lines(matches, name, file, columns, &names)
+    let aliases = named.as_slice();
+    let file = UnicodeFile {
+        name,
+        bytes,
+        columns,
+        aliases,
+    };
+    let choice = choice(matches, file)?;
+    set_of_lines(matches, file, &choice)
 }
 
 /// Returns the set of a value in rows.
@@ -177,6 +184,9 @@ fn set_of_rows(
     name: &str,
     rows: &[u8],
 ) -> Result<CodePointInversionList<'static>, Fault> {
+    if let Some(option) = column_option(matches) {
+        return Err(not_of_rows(option));
+    }
     let value = asked_number(matches)?;
     match table_of_rows(rows, options(0)) {
         Ok(table) => set_in_table(name, &table, value),
@@ -191,7 +201,7 @@ fn set_of_table(
     file: &[u8],
 ) -> Result<CodePointInversionList<'static>, Fault> {
     let value = asked_number(matches)?;
-    let table = table_in(matches, name, file, number(matches, "offset"))?;
+    let table = table_in(matches, name, file, start(matches))?;
     set_in_table(name, &table, value)
 }
 

@@ -7,8 +7,10 @@ use crate::support::prelude::*;
 use crate::ucptrie::compressed::expect_text;
 use crate::ucptrie::fault::{Fault, about, said};
 use crate::ucptrie::names::name_in;
-use crate::ucptrie::offsets::{from_trie, starts_trie};
+use crate::ucptrie::offsets::{Start, from_trie, starts_trie};
 use crate::ucptrie::streams::{bytes_at, input_name};
+use crate::ucptrie_sets::fault::SetFileFault;
+use crate::ucptrie_sets::toml_file::set_of_file;
 use crate::ucptrie_tables::fault::{ReadFault, TomlFault};
 use crate::ucptrie_tables::properties::{PropertyFault, read_property};
 use crate::ucptrie_tables::table::Table;
@@ -105,41 +107,65 @@ fn unchosen(name: &str, property: &str, fault: PropertyFault) -> Fault {
     }
 }
 
+/// Returns whether TOML is at fault in which a trie is missing.
+fn lacks_trie(fault: &PropertyFault) -> bool {
+    matches!(
+        fault,
+        PropertyFault::Read(ReadFault::TrieToml(_)) | PropertyFault::Missing(_)
+    )
+}
+
+/// Returns whether a file has sets of code points in TOML.
+fn has_sets(file: &[u8]) -> Result<bool, Fault> {
+    let Ok(text) = str::from_utf8(file) else {
+        return Ok(false);
+    };
+    match set_of_file(text, None) {
+        Err(SetFileFault::Memory) => Err(Fault::Memory),
+        Err(SetFileFault::NotToml | SetFileFault::NoSets) => Ok(false),
+        _ => Ok(true),
+    }
+}
+
 /// Returns the table of a file with these bytes. In TOML it is that of the property that the
-/// arguments name, and in another file that of the trie at the given offset, or the only one.
+/// arguments name, and in another file that of the trie at its start.
 /// `name` is what the bytes were read from.
 pub fn table_in(
     matches: &ArgMatches,
     name: &str,
     bytes: &[u8],
-    offset: Option<u32>,
+    start: Start,
 ) -> Result<Table, Fault> {
     if bytes.is_empty() {
         return Err(about(name, "the file is empty"));
     }
-    let part = from_trie(name, bytes, offset)?;
-    if offset.is_none() && !starts_trie(part) {
+    let part = from_trie(name, bytes, start)?;
+    if !matches!(start, Start::At(_)) && !starts_trie(part) {
         expect_text(name, part)?;
     }
     let property = matches.get_one::<String>("property").map(String::as_str);
     match read_property(part, property) {
         Ok(table) => Ok(table),
+        Err(fault) if lacks_trie(&fault) && has_sets(part)? => {
+            let why = "a set of code points, and no table: use ucptrie set";
+            Err(about(name, why))
+        }
         Err(fault) => Err(unchosen(name, property.unwrap_or(""), fault)),
     }
 }
 
 /// Reads the table of the file that the argument `id` names, or of standard input if its name is
-/// `-`. The trie starts at an offset, if one is given.
+/// `-`. `start` is where the trie starts.
 pub fn table_at(
     rt: &HostRuntime,
     matches: &ArgMatches,
     id: &str,
-    offset: Option<u32>,
+    start: Start,
 ) -> Result<Table, Fault> {
     let path = matches
         .get_one::<String>(id)
         .map(String::as_str)
         .unwrap_or("-");
     let bytes = bytes_at(rt, path)?;
-    table_in(matches, input_name(path), &bytes, offset)
+    table_in(matches, input_name(path), &bytes, start)
 }

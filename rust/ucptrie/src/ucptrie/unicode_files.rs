@@ -3,24 +3,25 @@
 use crate::host::{HostRuntime, Text};
 #[allow(unused_imports)]
 use crate::support::prelude::*;
-use crate::ucd_files::aliases::alias_names;
 use crate::ucd_files::fault::FileFault;
-use crate::ucd_files::kind::{
-    FileKind, are_code_points, are_decimal, has_missing_lines, has_property, kind_of,
-};
+use crate::ucd_files::kind::{FileKind, has_property, kind_of};
 use crate::ucd_files::names::{Numbering, is_same_name};
-use crate::ucd_files::order::names_in_order;
 use crate::ucd_files::statement::Columns;
 use crate::ucd_files::title::title_of;
 use crate::ucd_files::value_names::ValueNames;
 use crate::ucptab_table::input::line_at;
 use crate::ucptab_table::message::line_message;
 use crate::ucptrie::build::{options, unbuilt};
-use crate::ucptrie::fault::{Fault, about, said};
+use crate::ucptrie::choice::{Choice, UnicodeFile, ValueKind, choice, numbering};
+use crate::ucptrie::fault::{Fault, about, about_arguments, said};
+use crate::ucptrie::missing::{default_of, test_own_names};
 use crate::ucptrie::overlap::has_overlap;
+use crate::ucptrie::properties::{has_unihan_property, missing_property};
 use crate::ucptrie::streams::text_at;
 use crate::ucptrie::tables::{form, number};
-use crate::ucptrie_tables::fault::UnicodeFileFault;
+use crate::ucptrie::wide::{line_with, too_wide};
+use crate::ucptrie_tables::fault::{BuildFault, UnicodeFileFault};
+use crate::ucptrie_tables::table::TableOptions;
 use crate::ucptrie_tables::unicode_file::table_of_file;
 use crate::ucptrie_tables::value_names::names_source;
 use crate::ucptrie_tables::width::ValueWidth;
@@ -39,18 +40,32 @@ pub fn named_kind(matches: &ArgMatches) -> Option<FileKind> {
     }
 }
 
-/// Returns whether the arguments say where values are or what they are called, as only for files of
-/// the Unicode Character Database.
-pub fn has_columns(matches: &ArgMatches) -> bool {
-    matches
+/// Returns an option of the arguments that says where values are or what they are called, as only
+/// for files of the Unicode Character Database.
+pub fn column_option(matches: &ArgMatches) -> Option<&'static str> {
+    if number(matches, "field").is_some() {
+        Some("--field")
+    } else if matches
         .get_one::<String>("property")
         .map(String::as_str)
         .is_some()
-        || matches
-            .get_one::<String>("aliases")
-            .map(String::as_str)
-            .is_some()
-        || number(matches, "field").is_some()
+    {
+        Some("--property")
+    } else if matches
+        .get_one::<String>("aliases")
+        .map(String::as_str)
+        .is_some()
+    {
+        Some("--aliases")
+    } else {
+        None
+    }
+}
+
+/// Returns the fault of an option that only files of the Unicode Character Database need, and that
+/// is given for rows.
+pub fn not_of_rows(option: &str) -> Fault {
+    about_arguments(option, "not for rows: leave it out, or --format rows")
 }
 
 /// Returns the kind of lines that the file's start shows, but no rows if the lines have properties.
@@ -63,12 +78,15 @@ pub fn found_kind(file: &[u8], has_properties: bool) -> FileKind {
 
 /// The properties of `UnicodeData.txt` with one value for each code point: the short and the long
 /// name, and the field.
-static UNICODE_DATA: [(&str, &str, usize); 8] = [
+static UNICODE_DATA: [(&str, &str, usize); 11] = [
     ("na", "Name", 1),
     ("gc", "General_Category", 2),
     ("ccc", "Canonical_Combining_Class", 3),
     ("bc", "Bidi_Class", 4),
+    ("nv", "Numeric_Value", 8),
     ("Bidi_M", "Bidi_Mirrored", 9),
+    ("na1", "Unicode_1_Name", 10),
+    ("isc", "ISO_Comment", 11),
     ("suc", "Simple_Uppercase_Mapping", 12),
     ("slc", "Simple_Lowercase_Mapping", 13),
     ("stc", "Simple_Titlecase_Mapping", 14),
@@ -79,11 +97,11 @@ fn is_named(short: &str, long: &str, property: &[u8]) -> bool {
     is_same_name(short.as_bytes(), property) || is_same_name(long.as_bytes(), property)
 }
 
-/// Returns the field of a property in `UnicodeData.txt`.
-fn unicode_data_field(property: Option<&str>) -> Result<usize, Fault> {
+/// Returns the field of a property in `UnicodeData.txt`. `name` is what the file was read from.
+fn unicode_data_field(name: &str, property: Option<&str>) -> Result<usize, Fault> {
     let Some(property) = property else {
         let why = "the file has many properties: name one by --property or --field";
-        return Err(about("UnicodeData.txt", why));
+        return Err(about(name, why));
     };
     for (short, long, field) in UNICODE_DATA.iter() {
         if is_named(short, long, property.as_bytes()) {
@@ -118,12 +136,25 @@ fn columns_of_lines<'a>(
             Ok(Columns::Property(property.as_bytes()))
         }
         property if is_simple_folding(file, property) => Ok(Columns::SimpleFolding),
+        Some(property) if has_overlap(file)? => {
+            let columns = Columns::Field(1);
+            Err(missing_property(columns, property, name, file))
+        }
         None if has_overlap(file)? => {
             let why = "a code point has two values: choose by --property or by --field";
             Err(about(name, why))
         }
         _ => Ok(Columns::Field(1)),
     }
+}
+
+/// Returns where lines of Unihan have the values of a property. `name` is what they were read from.
+fn columns_of_unihan<'a>(property: &'a str, name: &str, file: &[u8]) -> Result<Columns<'a>, Fault> {
+    let columns = Columns::Unihan(property.as_bytes());
+    if has_unihan_property(file, property.as_bytes()) {
+        return Ok(columns);
+    }
+    Err(missing_property(columns, property, name, file))
 }
 
 /// Returns where the lines of a file have their values. `name` is what it was read from.
@@ -142,9 +173,9 @@ pub fn columns<'a>(
     let property = matches.get_one::<String>("property").map(String::as_str);
     match kind {
         FileKind::CodePoints => Ok(Columns::Field(0)),
-        FileKind::UnicodeData => Ok(Columns::UnicodeData(unicode_data_field(property)?)),
+        FileKind::UnicodeData => Ok(Columns::UnicodeData(unicode_data_field(name, property)?)),
         FileKind::Unihan => match property {
-            Some(property) => Ok(Columns::Unihan(property.as_bytes())),
+            Some(property) => columns_of_unihan(property, name, file),
             None => {
                 let why = "the file has many properties: name one by --property";
                 Err(about(name, why))
@@ -154,91 +185,11 @@ pub fn columns<'a>(
     }
 }
 
-/// Returns the names of the values in a file, in order of first appearance. The first number is 0
-/// if the file says which value code points without a line have. Otherwise it is 1, and 0 is for
-/// these.
-fn names_in<'f>(file: &'f [u8], columns: Columns<'_>) -> Result<ValueNames<'f>, Fault> {
-    let mut names = ValueNames::new();
-    if !has_missing_lines(file, columns) {
-        names.try_push(0, b"")?;
-    }
-    Ok(names_in_order(file, columns, names)?)
-}
-
-/// Returns whether the lines have only code points, or the only value of a property is the property
-/// itself, as in `PropList.txt`.
-pub fn is_set(columns: Columns<'_>, names: &ValueNames<'_>) -> bool {
-    match (columns, names.as_slice()) {
-        (Columns::Field(0), _) => true,
-        (Columns::Property(property), [value] | [_, value]) => is_same_name(value.text, property),
-        _ => false,
-    }
-}
-
-/// Returns the names of the property's values in a file of aliases.
-fn aliases<'f>(matches: &ArgMatches, file: &'f [u8]) -> Result<ValueNames<'f>, Fault> {
-    let Some(property) = matches.get_one::<String>("property").map(String::as_str) else {
-        let why = "--aliases needs --property, the property whose values are named";
-        return Err(about("arguments", why));
-    };
-    let names = alias_names(file, property.as_bytes())?;
-    if names.as_slice().is_empty() {
-        let why = "the file of aliases has no value of this property";
-        return Err(about(property, why));
-    }
-    Ok(names)
-}
-
 /// Returns the bytes of the file of aliases, or none if the arguments name no such file.
 pub fn named_file(rt: &HostRuntime, matches: &ArgMatches) -> Result<Vec<u8>, Fault> {
     match matches.get_one::<String>("aliases").map(String::as_str) {
         Some(path) => text_at(rt, path),
         None => Ok(Vec::new()),
-    }
-}
-
-/// Returns the names of the values of a file: those in `named`, the file of aliases, if the
-/// arguments name one, and else those in the file itself.
-pub fn names<'f>(
-    matches: &ArgMatches,
-    file: &'f [u8],
-    columns: Columns<'_>,
-    named: &'f [u8],
-) -> Result<ValueNames<'f>, Fault> {
-    if matches
-        .get_one::<String>("aliases")
-        .map(String::as_str)
-        .is_some()
-    {
-        aliases(matches, named)
-    } else {
-        names_in(file, columns)
-    }
-}
-
-/// Returns how the values of a file become numbers.
-fn numbering<'n>(
-    matches: &ArgMatches,
-    file: &[u8],
-    columns: Columns<'_>,
-    names: &'n ValueNames<'n>,
-) -> Numbering<'n> {
-    match matches.get_one::<String>("values").map(String::as_str) {
-        Some("decimal") => Numbering::Decimal,
-        Some("hexadecimal") => Numbering::Hexadecimal,
-        Some("set") => Numbering::One,
-        None if matches!(columns, Columns::SimpleFolding) => Numbering::Hexadecimal,
-        None if is_set(columns, names) => Numbering::One,
-        None if matches
-            .get_one::<String>("aliases")
-            .map(String::as_str)
-            .is_some() =>
-        {
-            Numbering::Names(names)
-        }
-        None if are_decimal(file, columns) => Numbering::Decimal,
-        None if are_code_points(file, columns) => Numbering::Hexadecimal,
-        _ => Numbering::Names(names),
     }
 }
 
@@ -267,21 +218,59 @@ fn push_names(
     Ok(())
 }
 
-/// Returns the table of a file, whose values have these names, in a form.
-fn built_of_file(
+/// Returns the table of a file in the form that the arguments name.
+fn written_of_file(
     matches: &ArgMatches,
-    file: &[u8],
-    columns: Columns<'_>,
-    names: &ValueNames<'_>,
-    form: Form<'_>,
+    file: UnicodeFile<'_>,
+    choice: &Choice<'_>,
+    numbering: Numbering<'_>,
+    options: TableOptions,
 ) -> Result<Vec<u8>, UnicodeFileFault> {
-    let numbering = numbering(matches, file, columns, names);
-    let table = table_of_file(file, columns, numbering, options(matches))?;
+    let form = form(matches);
+    let table = table_of_file(file.bytes, file.columns, numbering, options)?;
     let mut bytes = written(&table, form)?;
-    if matches!(numbering, Numbering::Names(_)) {
-        push_names(&mut bytes, form, table.width, names)?;
+    let is_binary = matches!(choice.kind, ValueKind::Binary);
+    if matches!(numbering, Numbering::Names(_)) && !is_binary {
+        push_names(&mut bytes, form, table.width, &choice.names)?;
     }
     Ok(bytes)
+}
+
+/// Returns what the table of a file is to be.
+fn options_of_file(
+    matches: &ArgMatches,
+    file: UnicodeFile<'_>,
+    choice: &Choice<'_>,
+    numbering: Numbering<'_>,
+) -> Result<TableOptions, Fault> {
+    let given = options(matches);
+    if matches!(choice.kind, ValueKind::Aliases) && number(matches, "default").is_none() {
+        let how = "no line says which value the other code points have: give --default NUMBER";
+        let default = default_of(matches, file, numbering, given.default, how)?;
+        return Ok(TableOptions { default, ..given });
+    }
+    Ok(given)
+}
+
+/// Returns the table of a file, whose values have these names, in the form that the arguments name.
+fn built_of_file(
+    matches: &ArgMatches,
+    file: UnicodeFile<'_>,
+    choice: &Choice<'_>,
+) -> Result<Vec<u8>, Fault> {
+    let numbering = numbering(matches, file, choice);
+    if matches!(numbering, Numbering::Names(_)) {
+        test_own_names(file, choice)?;
+    }
+    let options = options_of_file(matches, file, choice, numbering)?;
+    match written_of_file(matches, file, choice, numbering, options) {
+        Ok(bytes) => Ok(bytes),
+        Err(UnicodeFileFault::Build(BuildFault::Width(value, width))) => {
+            let place = line_with(file, numbering, value);
+            Err(too_wide(matches, file.name, place, value, width))
+        }
+        Err(fault) => Err(unread(file.name, file.bytes, fault)),
+    }
 }
 
 /// Builds a table of a file of the Unicode Character Database, in the form that the arguments name.
@@ -290,14 +279,18 @@ pub fn build_file(
     rt: &HostRuntime,
     matches: &ArgMatches,
     name: &str,
-    file: &[u8],
+    bytes: &[u8],
     kind: FileKind,
 ) -> Result<Vec<u8>, Fault> {
-    let columns = columns(matches, kind, name, file)?;
+    let columns = columns(matches, kind, name, bytes)?;
     let named = named_file(rt, matches)?;
-    let names = names(matches, file, columns, &named)?;
-    match built_of_file(matches, file, columns, &names, form(matches)) {
-        Ok(bytes) => Ok(bytes),
-        Err(fault) => Err(unread(name, file, fault)),
-    }
+    let aliases = named.as_slice();
+    let file = UnicodeFile {
+        name,
+        bytes,
+        columns,
+        aliases,
+    };
+    let choice = choice(matches, file)?;
+    built_of_file(matches, file, &choice)
 }

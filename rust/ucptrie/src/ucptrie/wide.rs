@@ -1,0 +1,122 @@
+//! Where a value comes from that has more bits than the asked width.
+#[allow(unused_imports)]
+use crate::host::{HostRuntime, Text};
+use crate::support::AllocError;
+#[allow(unused_imports)]
+use crate::support::prelude::*;
+use crate::ucd_files::names::Numbering;
+use crate::ucd_files::statement::{Statement, statement_of};
+use crate::ucptab_table::input::first_line;
+use crate::ucptab_table::rows::row_of;
+use crate::ucptrie::choice::UnicodeFile;
+use crate::ucptrie::fault::{Fault, said};
+use crate::ucptrie::tables::number;
+use crate::ucptrie_tables::width::ValueWidth;
+use bekstaudi::codepointtrie::Write;
+use clap::ArgMatches;
+
+/// Returns whether a write gives this value.
+fn gives(write: &Write<u32>, value: u32) -> bool {
+    match write {
+        Write::One(_, given) | Write::Range(_, given) => *given == value,
+    }
+}
+
+/// Returns whether a line is a row with this value.
+fn is_row_with(line: &[u8], value: u32) -> bool {
+    match row_of(line) {
+        Ok(Some(write)) => gives(&write, value),
+        _ => false,
+    }
+}
+
+/// Returns the number of the first row with this value, counted from 1.
+pub fn row_with(rows: &[u8], value: u32) -> Option<u64> {
+    let mut number = 0u64;
+    let mut rest = rows;
+    while let Some((line, after)) = first_line(rest) {
+        rest = after;
+        number = number.saturating_add(1);
+        if is_row_with(line, value) {
+            return Some(number);
+        }
+    }
+    None
+}
+
+/// Returns whether a line of a file, after the line `previous`, gives this value.
+fn says(
+    file: UnicodeFile<'_>,
+    numbering: Numbering<'_>,
+    previous: &[u8],
+    line: &[u8],
+    value: u32,
+) -> bool {
+    match statement_of(file.columns, numbering, previous, line) {
+        Ok(Some(Statement::Missing(write) | Statement::Explicit(write))) => gives(&write, value),
+        _ => false,
+    }
+}
+
+/// Returns the number of the first line of a file that gives this value, counted from 1.
+pub fn line_with(file: UnicodeFile<'_>, numbering: Numbering<'_>, value: u32) -> Option<u64> {
+    let mut number = 0u64;
+    let mut previous: &[u8] = &[];
+    let mut rest = file.bytes;
+    while let Some((line, after)) = first_line(rest) {
+        rest = after;
+        number = number.saturating_add(1);
+        if says(file, numbering, previous, line, value) {
+            return Some(number);
+        }
+        previous = line;
+    }
+    None
+}
+
+/// Returns the option that gives this value, or else the name of the input.
+fn giver<'n>(matches: &ArgMatches, name: &'n str, value: u32) -> &'n str {
+    if number(matches, "default") == Some(value) {
+        "--default"
+    } else if number(matches, "error") == Some(value) {
+        "--error"
+    } else {
+        name
+    }
+}
+
+/// Returns the line about a value that is too wide. `place` is the line that gives it.
+fn wide_line(
+    giver: &str,
+    place: Option<u64>,
+    value: u32,
+    width: ValueWidth,
+) -> Result<String, AllocError> {
+    let mut line = String::new();
+    line.try_push_str(giver)?;
+    if let Some(number) = place {
+        write!(line, ":{number}")?;
+    }
+    write!(
+        line,
+        ": the value {value} has more than {width}: give --width "
+    )?;
+    line.try_push_str(if value < 0x10000 { "16 or 32" } else { "32" })?;
+    Ok(line)
+}
+
+/// Returns the fault of a value that has more bits than the asked width. `place` is the number of
+/// the line that gives it, in an input of this name. Without such a line it is from an argument.
+pub fn too_wide(
+    matches: &ArgMatches,
+    name: &str,
+    place: Option<u64>,
+    value: u32,
+    width: ValueWidth,
+) -> Fault {
+    let giver = match place {
+        Some(_) => name,
+        None => giver(matches, name, value),
+    };
+    said(wide_line(giver, place, value, width))
+}
