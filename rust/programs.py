@@ -80,7 +80,7 @@ EDITS = {
     ],
     "ucd_files/read": [(r"(missing\.append\(&mut explicit\))\?", r"\1", 1)],
     "ucd_files/value_names": [(r"\.entry\((.*)\)\?\.or_default\(\)", r".try_or_default(\1)?", 1)],
-    "ucptrie_sets/toml_file": [(r"\n *Err\(error\) if error\.is_memory\(\) => [^\n]*", "", 1)],
+    "ucptrie_sets/toml_file": [(r"\n *Err\(error\) if error\.is_memory\(\) => [^\n]*", "", 2)],
     # serde_json ends the program if an allocation fails.
     "ucptrie_sets/written": [(r"\.to_string\(\)\?", ".to_string()", 1), (r"text\.try_push(\(\x02\d+\x03\))\?", r"text.push\1", 1)],
     "ucptrie_tables/fault": [

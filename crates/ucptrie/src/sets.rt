@@ -7,6 +7,7 @@ use crate::forms::{is_json, is_toml};
 use crate::missing::{default_of, test_own_names};
 use crate::names::name_in;
 use crate::offsets::{has_tries, start, starts_trie};
+use crate::streams::say;
 use crate::tables::{number, table_in};
 use crate::unicode_files::{
     column_option, columns, found_kind, named_file, named_kind, not_of_rows, unread,
@@ -15,7 +16,7 @@ use clap::ArgMatches;
 use icu_invlist::codepointinvlist::CodePointInversionList;
 use icu_invlist_binary::serialized::SerializedSetError;
 use icu_trie_core::header::TrieType;
-use std::alloc::Global;
+use std::alloc::{AllocError, Global};
 use std::str;
 use ucd_files::kind::FileKind;
 use ucd_files::names::{Numbering, is_same_name, number_of};
@@ -23,7 +24,7 @@ use ucd_files::value_names::ValueNames;
 use ucptrie_sets::fault::{SetFileFault, SetWriteFault, ValueSetFault};
 use ucptrie_sets::of_value::set_of_value;
 use ucptrie_sets::serialized::set_of_bytes;
-use ucptrie_sets::toml_file::set_of_file;
+use ucptrie_sets::toml_file::{count_strings, set_of_file};
 use ucptrie_sets::written::{SetForm, written};
 use ucptrie_tables::table::{Table, TableOptions, table_of_rows};
 use ucptrie_tables::unicode_file::table_of_file;
@@ -206,27 +207,56 @@ fn set_of_table(
     set_in_table(alloc, name, &table, value)
 }
 
+/// Returns the line about strings that are left out.
+fn strings_line(alloc: Global, name: &str, count: usize) -> Result<String, AllocError> {
+    let mut line = String::new(alloc);
+    write!(
+        line,
+        "{name}: left out {count} strings: the set has code points only"
+    )?;
+    Ok(line)
+}
+
+/// Says on standard error how many strings a property in TOML has besides code points, if it has
+/// any.
+fn say_strings(
+    rt: &HostRuntime,
+    name: &str,
+    text: &str,
+    property: Option<&str>,
+) -> Result<(), AllocError> {
+    let count = count_strings(rt.alloc(), text, property)?;
+    if count != 0 {
+        say(rt, &strings_line(rt.alloc(), name, count)?);
+    }
+    Ok(())
+}
+
 /// Returns the set of a TOML file: that of a property, or else that of a value in a table.
 fn set_of_toml(
-    alloc: Global,
+    rt: &HostRuntime,
     matches: &ArgMatches<'_>,
     name: &str,
     file: &[u8],
 ) -> Result<CodePointInversionList<'static>, Fault> {
     let Ok(text) = str::from_utf8(file) else {
-        return set_of_table(alloc, matches, name, file);
+        return set_of_table(rt.alloc(), matches, name, file);
     };
-    match set_of_file(alloc, text, matches.get_str("property")) {
+    let property = matches.get_str("property");
+    match set_of_file(rt.alloc(), text, property) {
         Ok(_) if matches.get_str("value").is_some() => {
             let why = "the file has sets, and no table with values for --value";
-            Err(about(alloc, name, why))
+            Err(about(rt.alloc(), name, why))
         }
-        Ok(set) => Ok(set),
+        Ok(set) => {
+            say_strings(rt, name, text, property)?;
+            Ok(set)
+        }
         Err(SetFileFault::Memory) => Err(Fault::Memory),
         Err(SetFileFault::NotToml | SetFileFault::NoSets) => {
-            set_of_table(alloc, matches, name, file)
+            set_of_table(rt.alloc(), matches, name, file)
         }
-        Err(fault) => Err(about(alloc, name, fault)),
+        Err(fault) => Err(about(rt.alloc(), name, fault)),
     }
 }
 
@@ -258,7 +288,7 @@ fn asked_set(
         Source::Lines(FileKind::Rows) => set_of_rows(rt.alloc(), matches, name, file),
         Source::Lines(kind) => set_of_unicode_file(rt, matches, name, file, kind),
         Source::Table => set_of_table(rt.alloc(), matches, name, file),
-        Source::Toml => set_of_toml(rt.alloc(), matches, name, file),
+        Source::Toml => set_of_toml(rt, matches, name, file),
         Source::Serialized => set_of_serialized(rt.alloc(), name, file),
     }
 }

@@ -1,8 +1,8 @@
 -- The set of a property in a TOML file of ICU's icuexportdata.
-use Rattle.std.specs.Prelude.{◌≡◌, ℕ, ◌+◌, ◌<◌, ◌^◌, ℤ, pos, negsuc, nat_eq, nat_lt, ◌||◌, Bool, true, false, List, [], ◌∷◌, codes, Option, Some, None, Result, Ok, Err, if◌then◌else◌, option_and_then, option_map, ⊤}
+use Rattle.std.specs.Prelude.{◌≡◌, ℕ, ◌+◌, ◌<◌, ◌^◌, ℤ, pos, negsuc, nat_eq, nat_lt, ◌||◌, Bool, true, false, List, [], ◌∷◌, codes, length, Option, Some, None, Result, Ok, Err, if◌then◌else◌, option_and_then, option_map, ⊤}
 use Rattle.std.specs.Cmp.Lexicographic.{pointwise}
 use Rattle.std.specs.List.{filter}
-use Rattle.std.specs.Option.{ok_or}
+use Rattle.std.specs.Option.{ok_or, option_map_or}
 use Rattle.toml.specs.Data.{Data, Items, no_items, item, Members, as_array, as_integer, as_str, as_table, get_member}
 use Rattle.toml.specs.Parse.{parse_document}
 use Rattle.icu_zerovec.specs.CodePoints.{code_point_limit}
@@ -113,6 +113,24 @@ file_ranges name file =
     and_then (ok_or (items_at (codes "binary_property") file) NoSets) (λ properties.
     and_then (asked_among name properties) (λ property.
     and_then (ok_or (ranges_of property) NoRanges) ranges_in))
+
+-- ---- Strings
+
+-- How many items the array `strings` of a property has: 0 if it has no such array.
+abbrev pub strings_in : Data → ℕ
+strings_in property =
+    option_map_or length (option_and_then (items_at (codes "strings")) (as_table property)) 0
+
+-- The same for the property that is asked for, if it is the only one.
+abbrev pub strings_of_asked : Result Data SetFileFault → ℕ
+strings_of_asked (Ok property) = strings_in property
+strings_of_asked (Err fault) = 0
+
+-- How many strings the property that is asked for has in a file.
+abbrev pub strings_of_file : Option (List ℕ) → Members → ℕ
+strings_of_file name file =
+    option_map_or (λ properties. strings_of_asked (asked_among name properties))
+    (items_at (codes "binary_property") file) 0
 
 -- ---- The file
 

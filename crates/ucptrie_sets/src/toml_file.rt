@@ -3,16 +3,17 @@
 //! bounds are inclusive.
 ghost use Rattle.std.specs.Prelude.{◌≡◌, ℕ, ◌+◌, ◌<◌, ◌||◌, List, [], ◌∷◌, Some, Ok, Err, IfNone, IfOk, IfErr, IfSome, OnOk, MatchResult, map, option_map, option_and_then};
 ghost use Rattle.std.specs.List.{filter};
-ghost use Rattle.toml.specs.Data.{get_member};
+ghost use Rattle.toml.specs.Data.{Members, get_member};
+ghost use Rattle.toml.specs.Parse.{parse_document};
 ghost use Rattle.toml.specs.View.{table_view, view};
 ghost use Rattle.icu_zerovec.specs.CodePoints.{code_point_limit};
 ghost use Rattle.icu_invlist.specs.InversionList.{between, holds};
-ghost use Rattle.ucptrie_sets.specs.TomlSets.{asked_among, code_point_of, file_ranges, has_text, is_asked, items_at, items_in, pair_in, range_of, ranges_in, ranges_of, IsRefused, IsSetOfFile, IsSetOfRanges, IsWhyNoSetInFile};
+ghost use Rattle.ucptrie_sets.specs.TomlSets.{asked_among, code_point_of, file_ranges, has_text, is_asked, items_at, items_in, pair_in, range_of, ranges_in, ranges_of, strings_in, strings_of_file, IsRefused, IsSetOfFile, IsSetOfRanges, IsWhyNoSetInFile};
 
 use crate::fault::SetFileFault;
 use icu_invlist::codepointinvlist::{CodePointInversionList, CodePointInversionListBuilder};
 use icu_zerovec::{CODE_POINT_LIMIT, MemoryError};
-use std::alloc::Global;
+use std::alloc::{AllocError, Global};
 use toml::{Table, Value};
 
 /// Returns the code point that a number is.
@@ -236,5 +237,56 @@ pub fn set_of_file(
         Ok(file) => set_of_table(alloc, &file, name),
         Err(error) if error.is_memory() => Err(SetFileFault::Memory),
         Err(_) => Err(SetFileFault::NotToml),
+    }
+}
+
+/// Returns how many items the array `strings` of a property has, or 0 if it has no such array.
+fn strings_in(property: &Value) -> usize
+    ensures { result ≡ strings_in (view property.now) }
+{
+    let Some(table) = property.as_table() else {
+        return 0;
+    };
+    match items_at(table, "strings") {
+        Some(items) => items.len(),
+        None => 0,
+    }
+}
+
+/// Returns how many strings the property that is asked for has, or 0 if there is no single one.
+fn strings_of_asked(property: Result<&Value, SetFileFault>) -> usize
+    ensures { MatchResult property.entry
+        (λ v. result ≡ strings_in (view v.now)) (λ _. result ≡ 0) }
+{
+    match property {
+        Ok(property) => strings_in(property),
+        Err(_) => 0,
+    }
+}
+
+/// Returns how many strings the property that is asked for has in a table.
+fn strings_of_table(file: &Table, name: Option<&str>) -> usize
+    ensures { result ≡ strings_of_file (option_map (λ n. n.now) name.entry) (table_view file.now) }
+{
+    match items_at(file, "binary_property") {
+        Some(properties) => strings_of_asked(asked_among(properties, name)),
+        None => 0,
+    }
+}
+
+/// Returns how many strings a property in a TOML file has besides code points, as Basic_Emoji does:
+/// that with this long or short name, or the only one if no name is asked. Returns 0 if the text is
+/// not TOML, if there is no such property or if it has no array `strings`.
+///
+/// # Errors
+/// Returns [`AllocError`] if an allocation fails.
+pub fn count_strings(alloc: Global, text: &str, name: Option<&str>) -> Result<usize, AllocError>
+    ensures { IfOk result (λ count. (file : Members) → parse_document text.now ≡ Some file
+        → count ≡ strings_of_file (option_map (λ n. n.now) name.entry) file) }
+{
+    match toml::table_from_str(alloc, text) {
+        Ok(file) => Ok(strings_of_table(&file, name)),
+        Err(error) if error.is_memory() => Err(AllocError),
+        Err(_) => Ok(0),
     }
 }

@@ -1,6 +1,7 @@
 //! The command `set`: the set of the code points with a value, or of a file of sets, in a form.
 #[allow(unused_imports)]
 use crate::host::{HostRuntime, Text};
+use crate::support::AllocError;
 #[allow(unused_imports)]
 use crate::support::prelude::*;
 use crate::ucd_files::kind::FileKind;
@@ -14,6 +15,7 @@ use crate::ucptrie::forms::{is_json, is_toml};
 use crate::ucptrie::missing::{default_of, test_own_names};
 use crate::ucptrie::names::name_in;
 use crate::ucptrie::offsets::{has_tries, start, starts_trie};
+use crate::ucptrie::streams::say;
 use crate::ucptrie::tables::{number, table_in};
 use crate::ucptrie::unicode_files::{
     column_option, columns, found_kind, named_file, named_kind, not_of_rows, unread,
@@ -21,7 +23,7 @@ use crate::ucptrie::unicode_files::{
 use crate::ucptrie_sets::fault::{SetFileFault, SetWriteFault, ValueSetFault};
 use crate::ucptrie_sets::of_value::set_of_value;
 use crate::ucptrie_sets::serialized::set_of_bytes;
-use crate::ucptrie_sets::toml_file::set_of_file;
+use crate::ucptrie_sets::toml_file::{count_strings, set_of_file};
 use crate::ucptrie_sets::written::{SetForm, written};
 use crate::ucptrie_tables::table::{Table, TableOptions, table_of_rows};
 use crate::ucptrie_tables::unicode_file::table_of_file;
@@ -205,8 +207,34 @@ fn set_of_table(
     set_in_table(name, &table, value)
 }
 
+/// Returns the line about strings that are left out.
+fn strings_line(name: &str, count: usize) -> Result<String, AllocError> {
+    let mut line = String::new();
+    write!(
+        line,
+        "{name}: left out {count} strings: the set has code points only"
+    )?;
+    Ok(line)
+}
+
+/// Says on standard error how many strings a property in TOML has besides code points, if it has
+/// any.
+fn say_strings(
+    rt: &HostRuntime,
+    name: &str,
+    text: &str,
+    property: Option<&str>,
+) -> Result<(), AllocError> {
+    let count = count_strings(text, property)?;
+    if count != 0 {
+        say(rt, &strings_line(name, count)?);
+    }
+    Ok(())
+}
+
 /// Returns the set of a TOML file: that of a property, or else that of a value in a table.
 fn set_of_toml(
+    rt: &HostRuntime,
     matches: &ArgMatches,
     name: &str,
     file: &[u8],
@@ -214,10 +242,8 @@ fn set_of_toml(
     let Ok(text) = str::from_utf8(file) else {
         return set_of_table(matches, name, file);
     };
-    match set_of_file(
-        text,
-        matches.get_one::<String>("property").map(String::as_str),
-    ) {
+    let property = matches.get_one::<String>("property").map(String::as_str);
+    match set_of_file(text, property) {
         Ok(_)
             if matches
                 .get_one::<String>("value")
@@ -227,7 +253,10 @@ fn set_of_toml(
             let why = "the file has sets, and no table with values for --value";
             Err(about(name, why))
         }
-        Ok(set) => Ok(set),
+        Ok(set) => {
+            say_strings(rt, name, text, property)?;
+            Ok(set)
+        }
         Err(SetFileFault::Memory) => Err(Fault::Memory),
         Err(SetFileFault::NotToml | SetFileFault::NoSets) => set_of_table(matches, name, file),
         Err(fault) => Err(about(name, fault)),
@@ -258,7 +287,7 @@ fn asked_set(
         Source::Lines(FileKind::Rows) => set_of_rows(matches, name, file),
         Source::Lines(kind) => set_of_unicode_file(rt, matches, name, file, kind),
         Source::Table => set_of_table(matches, name, file),
-        Source::Toml => set_of_toml(matches, name, file),
+        Source::Toml => set_of_toml(rt, matches, name, file),
         Source::Serialized => set_of_serialized(name, file),
     }
 }

@@ -4,6 +4,7 @@
 
 #[allow(unused_imports)]
 use crate::host::{HostRuntime, Text};
+use crate::support::AllocError;
 use crate::ucptrie_sets::fault::SetFileFault;
 use bekstaudi::codepointinvlist::{CodePointInversionList, CodePointInversionListBuilder};
 use bekstaudi::zerovec::{CODE_POINT_LIMIT, MemoryError};
@@ -174,5 +175,45 @@ pub fn set_of_file(
     match crate::formats::table_from_str(text) {
         Ok(file) => set_of_table(&file, name),
         Err(_) => Err(SetFileFault::NotToml),
+    }
+}
+
+/// Returns how many items the array `strings` of a property has, or 0 if it has no such array.
+fn strings_in(property: &Value) -> usize {
+    let Some(table) = property.as_table() else {
+        return 0;
+    };
+    match items_at(table, "strings") {
+        Some(items) => items.len(),
+        None => 0,
+    }
+}
+
+/// Returns how many strings the property that is asked for has, or 0 if there is no single one.
+fn strings_of_asked(property: Result<&Value, SetFileFault>) -> usize {
+    match property {
+        Ok(property) => strings_in(property),
+        Err(_) => 0,
+    }
+}
+
+/// Returns how many strings the property that is asked for has in a table.
+fn strings_of_table(file: &Table, name: Option<&str>) -> usize {
+    match items_at(file, "binary_property") {
+        Some(properties) => strings_of_asked(asked_among(properties, name)),
+        None => 0,
+    }
+}
+
+/// Returns how many strings a property in a TOML file has besides code points, as Basic_Emoji does:
+/// that with this long or short name, or the only one if no name is asked. Returns 0 if the text is
+/// not TOML, if there is no such property or if it has no array `strings`.
+///
+/// # Errors
+/// Returns [`AllocError`] if an allocation fails.
+pub fn count_strings(text: &str, name: Option<&str>) -> Result<usize, AllocError> {
+    match crate::formats::table_from_str(text) {
+        Ok(file) => Ok(strings_of_table(&file, name)),
+        Err(_) => Ok(0),
     }
 }
