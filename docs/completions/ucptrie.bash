@@ -8,7 +8,10 @@ _ucptrie() {
         return
     fi
     case $before in
-        --as) words='icu toml json c rust rows'; [ "${COMP_WORDS[1]}" != set ] || words="$words c-frozen rust-frozen" ;;
+        --as)
+            words='icu toml json c rust rows'
+            [ "${COMP_WORDS[1]}" != set ] || words="$words c-frozen rust-frozen"
+            [ "${COMP_WORDS[1]}" != words ] || words='icu c rust rows' ;;
         --type) words='fast small' ;;
         --width) words='8 16 32' ;;
         --format)
