@@ -198,7 +198,7 @@ const BUILD: [Argument; 14] = [
     },
     Argument {
         id: "default",
-        help: "The value of a code point in no row; by default the stated null value, or 0",
+        help: "The value of a code point in no row; by default as the rows or --aliases say, or 0",
         ..NUMBER
     },
     Argument {
