@@ -9,8 +9,8 @@ _ucptrie() {
     fi
     case $before in
         --as)
-            words='icu toml json c rust rows'
-            [ "${COMP_WORDS[1]}" != set ] || words="$words c-frozen rust-frozen"
+            words='icu toml json c rust rust-static rows'
+            [ "${COMP_WORDS[1]}" != set ] || words='icu toml json c rust rows c-frozen rust-frozen'
             [ "${COMP_WORDS[1]}" != words ] || words='icu c rust rows' ;;
         --type) words='fast small' ;;
         --width) words='8 16 32' ;;

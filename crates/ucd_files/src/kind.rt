@@ -1,5 +1,6 @@
 //! Which kind of file some lines are.
 ghost use Rattle.std.specs.Prelude.{◌≡◌};
+ghost use Rattle.std.specs.Char.{is_ascii_digit};
 ghost use Rattle.std.specs.List.{list_all, list_any};
 ghost use Rattle.std.specs.Str.Lines.{lines};
 ghost use Rattle.ucptab_table.specs.TableText.{content_of};
@@ -119,13 +120,20 @@ pub fn has_missing_lines(input: &[u8], columns: Columns<'_>) -> bool
     false
 }
 
+/// Returns whether a text has decimal digits alone.
+fn are_digits(text: &[u8]) -> bool
+    ensures { result ≡ list_all is_ascii_digit text.now }
+{
+    text.iter().all(|byte| byte.is_ascii_digit())
+}
+
 /// Returns whether a line has no value, or one of decimal digits alone, however many.
 #[tactic(auto, unfolding(crate::specs::Kinds::has_decimal))]
 fn has_decimal(columns: Columns<'_>, line: &[u8]) -> bool
     ensures { result ≡ has_decimal columns.entry line.now }
 {
     match text_of_line(columns, line) {
-        Some(text) => text.iter().all(|byte| byte.is_ascii_digit()),
+        Some(text) => are_digits(text),
         None => true,
     }
 }

@@ -2,6 +2,7 @@
 use crate::compressed::expect_text;
 use crate::fault::{Fault, about, said};
 use crate::forms::is_made;
+use crate::static_trie::with_static;
 use crate::tables::{form, number, trie_type, width};
 use crate::unicode_files::{build_file, column_option, found_kind, named_kind, not_of_rows};
 use crate::wide::{row_with, too_wide};
@@ -63,7 +64,7 @@ fn build_rows(
 ) -> Result<Vec<u8>, Fault> {
     let options = options_of_rows(matches, rows);
     match built(alloc, rows, options, form(matches)) {
-        Ok(bytes) => Ok(bytes),
+        Ok(bytes) => Ok(with_static(alloc, matches, bytes, options.width, &[])?),
         Err(BuildFault::Width(value, width)) => {
             let place = row_with(rows, value);
             Err(too_wide(alloc, matches, name, place, value, width))

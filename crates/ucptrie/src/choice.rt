@@ -4,7 +4,7 @@ use clap::ArgMatches;
 use std::alloc::{AllocError, Global};
 use ucd_files::aliases::alias_names;
 use ucd_files::kind::{are_code_points, are_decimal, has_missing_lines};
-use ucd_files::names::{Name, Numbering, is_same_name};
+use ucd_files::names::{Matching, Name, Numbering, is_same_name};
 use ucd_files::order::names_in_order;
 use ucd_files::statement::Columns;
 use ucd_files::value_names::ValueNames;
@@ -166,7 +166,7 @@ fn own_choice<'f>(
 
 /// Returns the names of the values of a file, and what they are: those in the file of aliases, if
 /// the arguments name one, and else those in the file itself.
-pub fn choice<'f>(
+pub fn choice_of<'f>(
     alloc: Global,
     matches: &ArgMatches<'_>,
     file: UnicodeFile<'f>,
@@ -183,6 +183,16 @@ pub fn choice<'f>(
     Ok(Choice { names, kind })
 }
 
+/// Returns the numbering by names. The texts of a file itself are different values if they are not
+/// equal; names in a file of aliases are written in several ways.
+pub fn by_names<'n>(choice: &'n Choice<'n>) -> Numbering<'n> {
+    let matching = match choice.kind {
+        ValueKind::Own => Matching::Exact,
+        ValueKind::Set | ValueKind::Binary | ValueKind::Aliases => Matching::Loose,
+    };
+    Numbering::Names(&choice.names, matching)
+}
+
 /// Returns how the values of a file become numbers.
 pub fn numbering<'n>(
     matches: &ArgMatches<'_>,
@@ -193,12 +203,12 @@ pub fn numbering<'n>(
         (Some("decimal"), _) => Numbering::Decimal,
         (Some("hexadecimal"), _) => Numbering::Hexadecimal,
         (Some("set"), _) => Numbering::One,
-        (Some(_), _) => Numbering::Names(&choice.names),
+        (Some(_), _) => by_names(choice),
         _ if matches!(file.columns, Columns::SimpleFolding) => Numbering::Hexadecimal,
         (None, ValueKind::Set) => Numbering::One,
-        (None, ValueKind::Binary | ValueKind::Aliases) => Numbering::Names(&choice.names),
+        (None, ValueKind::Binary | ValueKind::Aliases) => by_names(choice),
         _ if are_decimal(file.bytes, file.columns) => Numbering::Decimal,
         _ if are_code_points(file.bytes, file.columns) => Numbering::Hexadecimal,
-        _ => Numbering::Names(&choice.names),
+        _ => by_names(choice),
     }
 }

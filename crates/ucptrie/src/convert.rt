@@ -1,7 +1,8 @@
 //! The command `convert`: a table in another form, or of another type, width or error value.
 use crate::build::unbuilt;
 use crate::fault::{Fault, about};
-use crate::offsets::start;
+use crate::offsets::start_of;
+use crate::static_trie::with_static;
 use crate::tables::{form, number, table_in, trie_type, width};
 use clap::ArgMatches;
 use std::alloc::Global;
@@ -47,9 +48,12 @@ pub fn convert(
     name: &str,
     file: &[u8],
 ) -> Result<Vec<u8>, Fault> {
-    let table = table_in(alloc, matches, name, file, start(matches))?;
+    let table = table_in(alloc, matches, name, file, start_of(matches))?;
     match changed(alloc, matches, table) {
-        Ok(table) => converted(alloc, name, &table, form(matches)),
+        Ok(table) => {
+            let bytes = converted(alloc, name, &table, form(matches))?;
+            Ok(with_static(alloc, matches, bytes, table.width, &[])?)
+        }
         Err(fault) => Err(unbuilt(alloc, name, &[], fault)),
     }
 }

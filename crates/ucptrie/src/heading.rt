@@ -112,7 +112,7 @@ fn push_origin(text: &mut String, path: &str, input: &[u8]) -> Result<(), AllocE
 fn is_source(matches: &ArgMatches<'_>) -> bool {
     matches!(
         matches.get_str("as"),
-        Some("c" | "rust" | "c-frozen" | "rust-frozen")
+        Some("c" | "rust" | "c-frozen" | "rust-frozen" | "rust-static")
     )
 }
 

@@ -18,6 +18,7 @@ mod overlap;
 mod progress;
 mod properties;
 mod sets;
+mod static_trie;
 mod streams;
 mod tables;
 mod unicode_files;
@@ -31,7 +32,7 @@ use crate::convert::convert;
 use crate::fault::{Fault, about, about_arguments};
 use crate::heading::with_heading;
 use crate::names::test_name;
-use crate::offsets::{Start, start};
+use crate::offsets::{Start, start_of};
 use crate::output::{deliver, target_of};
 use crate::progress::{report, started};
 use crate::sets::set;
@@ -108,7 +109,7 @@ fn put_text(rt: &HostRuntime, text: Result<String, AllocError>) -> Result<(), Fa
 
 /// Prints what a table is, in lines.
 fn show(rt: &HostRuntime, matches: &ArgMatches<'_>) -> Result<(), Fault> {
-    let table = table_at(rt, matches, "file", start(matches))?;
+    let table = table_at(rt, matches, "file", start_of(matches))?;
     put_text(rt, shown(rt.alloc(), &table))
 }
 
@@ -131,7 +132,7 @@ fn get(rt: &HostRuntime, command: &str, matches: &ArgMatches<'_>) -> Result<(), 
     let path = matches.get_str("file").unwrap_or("-");
     test_once(rt.alloc(), path, matches.get_str("from"))?;
     let asked = asked(rt, matches)?;
-    let table = table_at(rt, matches, "file", start(matches))?;
+    let table = table_at(rt, matches, "file", start_of(matches))?;
     print_values(rt, command, &table, &asked)
 }
 

@@ -9,7 +9,7 @@ use ucd_files::aliases::missing_alias;
 use ucd_files::fault::FileFault;
 use ucd_files::fields::missing_of;
 use ucd_files::kind::has_missing_lines;
-use ucd_files::names::{Numbering, number_of};
+use ucd_files::names::{Matching, Numbering, number_of};
 use ucd_files::order::text_of_line;
 use ucd_files::read::read_writes;
 use ucd_files::value_names::ValueNames;
@@ -35,7 +35,7 @@ fn names_of_lines<'f>(
 /// Returns the first of the names that is not among others.
 fn first_other<'f>(names: &ValueNames<'f>, others: &ValueNames<'_>) -> Option<&'f [u8]> {
     for name in names.as_slice() {
-        if others.number_named(name.text).is_none() {
+        if others.number_named(Matching::Exact, name.text).is_none() {
             return Some(name.text);
         }
     }
@@ -110,7 +110,7 @@ pub fn default_of(
     other: u32,
     how: &str,
 ) -> Result<u32, Fault> {
-    if !matches!(numbering, Numbering::Names(_)) || has_missing_lines(file.bytes, file.columns) {
+    if !matches!(numbering, Numbering::Names(_, _)) || has_missing_lines(file.bytes, file.columns) {
         return Ok(other);
     }
     if let Some(number) = alias_default(matches, file, numbering) {

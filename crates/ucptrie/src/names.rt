@@ -41,7 +41,10 @@ pub fn test_name(alloc: Global, matches: &ArgMatches<'_>) -> Result<(), Fault> {
         let why = "expected letters, digits and _, not starting with a digit";
         return Err(about(alloc, name, why));
     }
-    if !matches!(matches.get_str("as"), Some("rust" | "rust-frozen")) {
+    if !matches!(
+        matches.get_str("as"),
+        Some("rust" | "rust-frozen" | "rust-static")
+    ) {
         return Ok(());
     }
     match why_no_module(name) {

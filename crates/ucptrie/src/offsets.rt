@@ -19,7 +19,7 @@ pub enum Start {
 }
 
 /// Returns where the arguments of a command with `--offset` say that a trie starts.
-pub fn start(matches: &ArgMatches<'_>) -> Start {
+pub fn start_of(matches: &ArgMatches<'_>) -> Start {
     match number(matches, "offset") {
         Some(offset) => Start::At(offset),
         None => Start::Found,

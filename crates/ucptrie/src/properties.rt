@@ -2,7 +2,7 @@
 use crate::fault::{Fault, said};
 use std::alloc::{AllocError, Global};
 use ucd_files::fields::{column, field};
-use ucd_files::names::{Name, is_same_name};
+use ucd_files::names::{Matching, Name, is_same_name};
 use ucd_files::statement::Columns;
 use ucd_files::value_names::ValueNames;
 use ucptab_table::input::first_line;
@@ -34,7 +34,7 @@ pub fn has_unihan_property(file: &[u8], property: &[u8]) -> bool {
 
 /// Appends a name with the next number, unless it is empty or known.
 pub fn push_new<'f>(names: &mut ValueNames<'f>, text: &'f [u8]) -> Result<(), AllocError> {
-    if !text.is_empty() && names.number_named(text).is_none() {
+    if !text.is_empty() && names.number_named(Matching::Exact, text).is_none() {
         let number = names.as_slice().len();
         names.push(number, text)?;
     }

@@ -1,12 +1,12 @@
 //! The command `set`: the set of the code points with a value, or of a file of sets, in a form.
 use crate::build::unbuilt;
-use crate::choice::{Choice, UnicodeFile, ValueKind, choice};
+use crate::choice::{Choice, UnicodeFile, ValueKind, by_names, choice_of};
 use crate::compressed::expect_text;
 use crate::fault::{Fault, about};
 use crate::forms::{is_json, is_toml};
 use crate::missing::{default_of, test_own_names};
 use crate::names::name_in;
-use crate::offsets::{has_tries, start, starts_trie};
+use crate::offsets::{has_tries, start_of, starts_trie};
 use crate::streams::say;
 use crate::tables::{number, table_in};
 use crate::unicode_files::{
@@ -19,7 +19,7 @@ use icu_trie_core::header::TrieType;
 use std::alloc::{AllocError, Global};
 use std::str;
 use ucd_files::kind::FileKind;
-use ucd_files::names::{Numbering, is_same_name, number_of};
+use ucd_files::names::{Matching, Numbering, is_same_name, number_of};
 use ucd_files::value_names::ValueNames;
 use ucptrie_sets::fault::{SetFileFault, SetWriteFault, ValueSetFault};
 use ucptrie_sets::of_value::set_of_value;
@@ -98,9 +98,12 @@ fn asked_number(alloc: Global, matches: &ArgMatches<'_>) -> Result<u32, Fault> {
     }
 }
 
-/// Returns the number of the value with this name. No value has an empty name.
+/// Returns the number of the value with this name: of the one that is written so, or else of the
+/// first one that is the same apart from case, spaces, `_` and `-`. No value has an empty name.
 fn number_named(alloc: Global, names: &ValueNames<'_>, text: &str) -> Result<u32, Fault> {
-    match number_of(Numbering::Names(names), text.as_bytes()) {
+    let exact = number_of(Numbering::Names(names, Matching::Exact), text.as_bytes());
+    let loose = number_of(Numbering::Names(names, Matching::Loose), text.as_bytes());
+    match exact.or(loose) {
         Some(number) if !is_same_name(&[], text.as_bytes()) => Ok(number),
         _ => Err(about(alloc, text, "no value of the property has this name")),
     }
@@ -113,11 +116,10 @@ fn asked_value<'n>(
     file: UnicodeFile<'_>,
     choice: &'n Choice<'n>,
 ) -> Result<(Numbering<'n>, u32), Fault> {
-    let names = &choice.names;
     match (matches.get_str("value"), choice.kind) {
-        (Some(text), _) => Ok((Numbering::Names(names), number_named(alloc, names, text)?)),
+        (Some(text), _) => Ok((by_names(choice), number_named(alloc, &choice.names, text)?)),
         (None, ValueKind::Set) => Ok((Numbering::One, 1)),
-        (None, ValueKind::Binary) => Ok((Numbering::Names(names), 1)),
+        (None, ValueKind::Binary) => Ok((by_names(choice), 1)),
         _ => {
             let why = "expected --value, or by --property a property that is true or false";
             Err(about(alloc, file.name, why))
@@ -174,7 +176,7 @@ fn set_of_unicode_file(
         columns,
         aliases,
     };
-    let choice = choice(rt.alloc(), matches, file)?;
+    let choice = choice_of(rt.alloc(), matches, file)?;
     set_of_lines(rt.alloc(), matches, file, &choice)
 }
 
@@ -203,7 +205,7 @@ fn set_of_table(
     file: &[u8],
 ) -> Result<CodePointInversionList<'static>, Fault> {
     let value = asked_number(alloc, matches)?;
-    let table = table_in(alloc, matches, name, file, start(matches))?;
+    let table = table_in(alloc, matches, name, file, start_of(matches))?;
     set_in_table(alloc, name, &table, value)
 }
 

@@ -48,7 +48,7 @@ pub fn form<'a>(matches: &ArgMatches<'a>) -> Form<'a> {
         Some("toml") => Form::Toml,
         Some("json") => Form::Json,
         Some("c") => Form::C(name),
-        Some("rust") => Form::Rust(name),
+        Some("rust" | "rust-static") => Form::Rust(name),
         _ => Form::Rows,
     }
 }

@@ -1,10 +1,11 @@
 //! Tables of files of the Unicode Character Database.
 use crate::build::{options, unbuilt};
-use crate::choice::{Choice, UnicodeFile, ValueKind, choice, numbering};
+use crate::choice::{Choice, UnicodeFile, ValueKind, choice_of, numbering};
 use crate::fault::{Fault, about, about_arguments, said};
 use crate::missing::{default_of, test_own_names};
 use crate::overlap::has_overlap;
 use crate::properties::{has_unihan_property, missing_property};
+use crate::static_trie::{is_static, with_static};
 use crate::streams::text_at;
 use crate::tables::{form, number};
 use crate::wide::{line_with, too_wide};
@@ -12,10 +13,9 @@ use clap::ArgMatches;
 use std::alloc::Global;
 use ucd_files::fault::FileFault;
 use ucd_files::kind::{FileKind, has_property, kind_of};
-use ucd_files::names::{Numbering, is_same_name};
+use ucd_files::names::{Name, Numbering, is_same_name};
 use ucd_files::statement::Columns;
 use ucd_files::title::title_of;
-use ucd_files::value_names::ValueNames;
 use ucptab_table::input::line_at;
 use ucptab_table::message::line_message;
 use ucptrie_tables::fault::{BuildFault, UnicodeFileFault};
@@ -214,11 +214,28 @@ fn push_names(
     bytes: &mut Vec<u8>,
     form: Form<'_>,
     width: ValueWidth,
-    names: &ValueNames<'_>,
+    names: &[Name<'_>],
 ) -> Result<(), UnicodeFileFault> {
-    let source = names_source(alloc, form, width.bits(), names.as_slice())?;
+    let source = names_source(alloc, form, width.bits(), names)?;
     bytes.extend_from_slice(source.as_bytes())?;
     Ok(())
+}
+
+/// Returns a table in a form, followed by the source of these names and by the static trie that the
+/// arguments ask for.
+fn with_names(
+    alloc: Global,
+    matches: &ArgMatches<'_>,
+    bytes: Vec<u8>,
+    form: Form<'_>,
+    width: ValueWidth,
+    names: &[Name<'_>],
+) -> Result<Vec<u8>, UnicodeFileFault> {
+    let mut bytes = bytes;
+    if !is_static(matches) {
+        push_names(alloc, &mut bytes, form, width, names)?;
+    }
+    Ok(with_static(alloc, matches, bytes, width, names)?)
 }
 
 /// Returns the table of a file in the form that the arguments name.
@@ -232,12 +249,13 @@ fn written_of_file(
 ) -> Result<Vec<u8>, UnicodeFileFault> {
     let form = form(matches);
     let table = table_of_file(alloc, file.bytes, file.columns, numbering, options)?;
-    let mut bytes = written(alloc, &table, form)?;
+    let bytes = written(alloc, &table, form)?;
     let is_binary = matches!(choice.kind, ValueKind::Binary);
-    if matches!(numbering, Numbering::Names(_)) && !is_binary {
-        push_names(alloc, &mut bytes, form, table.width, &choice.names)?;
+    if matches!(numbering, Numbering::Names(_, _)) && !is_binary {
+        let names = choice.names.as_slice();
+        return with_names(alloc, matches, bytes, form, table.width, names);
     }
-    Ok(bytes)
+    with_names(alloc, matches, bytes, form, table.width, &[])
 }
 
 /// Returns what the table of a file is to be.
@@ -265,7 +283,7 @@ fn built_of_file(
     choice: &Choice<'_>,
 ) -> Result<Vec<u8>, Fault> {
     let numbering = numbering(matches, file, choice);
-    if matches!(numbering, Numbering::Names(_)) {
+    if matches!(numbering, Numbering::Names(_, _)) {
         test_own_names(alloc, file, choice)?;
     }
     let options = options_of_file(alloc, matches, file, choice, numbering)?;
@@ -297,6 +315,6 @@ pub fn build_file(
         columns,
         aliases,
     };
-    let choice = choice(rt.alloc(), matches, file)?;
+    let choice = choice_of(rt.alloc(), matches, file)?;
     built_of_file(rt.alloc(), matches, file, &choice)
 }

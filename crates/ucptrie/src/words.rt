@@ -102,7 +102,7 @@ const OFFSET: Argument = Argument {
 /// The form in which a table is written.
 const FORM: Argument = Argument {
     id: "as",
-    values: ValueParser::Names(&["icu", "toml", "json", "c", "rust", "rows"]),
+    values: ValueParser::Names(&["icu", "toml", "json", "c", "rust", "rust-static", "rows"]),
     required: true,
     help: "The output form",
     ..OPTION

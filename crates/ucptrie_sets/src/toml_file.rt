@@ -3,7 +3,8 @@
 //! bounds are inclusive.
 ghost use Rattle.std.specs.Prelude.{◌≡◌, ℕ, ◌+◌, ◌<◌, ◌||◌, List, [], ◌∷◌, Some, Ok, Err, IfNone, IfOk, IfErr, IfSome, OnOk, MatchResult, map, option_map, option_and_then};
 ghost use Rattle.std.specs.List.{filter};
-ghost use Rattle.toml.specs.Data.{Members, get_member};
+ghost use Rattle.std.specs.Option.{option_map_or};
+ghost use Rattle.toml.specs.Data.{get_member};
 ghost use Rattle.toml.specs.Parse.{parse_document};
 ghost use Rattle.toml.specs.View.{table_view, view};
 ghost use Rattle.icu_zerovec.specs.CodePoints.{code_point_limit};
@@ -253,23 +254,15 @@ fn strings_in(property: &Value) -> usize
     }
 }
 
-/// Returns how many strings the property that is asked for has, or 0 if there is no single one.
-fn strings_of_asked(property: Result<&Value, SetFileFault>) -> usize
-    ensures { MatchResult property.entry
-        (λ v. result ≡ strings_in (view v.now)) (λ _. result ≡ 0) }
-{
-    match property {
-        Ok(property) => strings_in(property),
-        Err(_) => 0,
-    }
-}
-
 /// Returns how many strings the property that is asked for has in a table.
 fn strings_of_table(file: &Table, name: Option<&str>) -> usize
     ensures { result ≡ strings_of_file (option_map (λ n. n.now) name.entry) (table_view file.now) }
 {
     match items_at(file, "binary_property") {
-        Some(properties) => strings_of_asked(asked_among(properties, name)),
+        Some(properties) => match asked_among(properties, name) {
+            Ok(property) => strings_in(property),
+            Err(_) => 0,
+        },
         None => 0,
     }
 }
@@ -281,8 +274,9 @@ fn strings_of_table(file: &Table, name: Option<&str>) -> usize
 /// # Errors
 /// Returns [`AllocError`] if an allocation fails.
 pub fn count_strings(alloc: Global, text: &str, name: Option<&str>) -> Result<usize, AllocError>
-    ensures { IfOk result (λ count. (file : Members) → parse_document text.now ≡ Some file
-        → count ≡ strings_of_file (option_map (λ n. n.now) name.entry) file) }
+    ensures { IfOk result (λ count. count
+        ≡ option_map_or (strings_of_file (option_map (λ n. n.now) name.entry))
+        (parse_document text.now) 0) }
 {
     match toml::table_from_str(alloc, text) {
         Ok(file) => Ok(strings_of_table(&file, name)),

@@ -98,10 +98,15 @@ pub fn has_missing_lines(input: &[u8], columns: Columns<'_>) -> bool {
     false
 }
 
+/// Returns whether a text has decimal digits alone.
+fn are_digits(text: &[u8]) -> bool {
+    text.iter().all(|byte| byte.is_ascii_digit())
+}
+
 /// Returns whether a line has no value, or one of decimal digits alone, however many.
 fn has_decimal(columns: Columns<'_>, line: &[u8]) -> bool {
     match text_of_line(columns, line) {
-        Some(text) => text.iter().all(|byte| byte.is_ascii_digit()),
+        Some(text) => are_digits(text),
         None => true,
     }
 }

@@ -9,6 +9,7 @@ use crate::ucptab_table::message::row_message;
 use crate::ucptrie::compressed::expect_text;
 use crate::ucptrie::fault::{Fault, about, said};
 use crate::ucptrie::forms::is_made;
+use crate::ucptrie::static_trie::with_static;
 use crate::ucptrie::tables::{form, number, trie_type, width};
 use crate::ucptrie::unicode_files::{
     build_file, column_option, found_kind, named_kind, not_of_rows,
@@ -63,7 +64,7 @@ pub fn unbuilt(name: &str, rows: &[u8], fault: BuildFault) -> Fault {
 fn build_rows(matches: &ArgMatches, name: &str, rows: &[u8]) -> Result<Vec<u8>, Fault> {
     let options = options_of_rows(matches, rows);
     match built(rows, options, form(matches)) {
-        Ok(bytes) => Ok(bytes),
+        Ok(bytes) => Ok(with_static(matches, bytes, options.width, &[])?),
         Err(BuildFault::Width(value, width)) => {
             let place = row_with(rows, value);
             Err(too_wide(matches, name, place, value, width))

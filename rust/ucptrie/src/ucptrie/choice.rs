@@ -6,7 +6,7 @@ use crate::support::AllocError;
 use crate::support::prelude::*;
 use crate::ucd_files::aliases::alias_names;
 use crate::ucd_files::kind::{are_code_points, are_decimal, has_missing_lines};
-use crate::ucd_files::names::{Name, Numbering, is_same_name};
+use crate::ucd_files::names::{Matching, Name, Numbering, is_same_name};
 use crate::ucd_files::order::names_in_order;
 use crate::ucd_files::statement::Columns;
 use crate::ucd_files::value_names::ValueNames;
@@ -161,7 +161,7 @@ fn own_choice<'f>(file: UnicodeFile<'f>, names: ValueNames<'f>) -> Result<Choice
 
 /// Returns the names of the values of a file, and what they are: those in the file of aliases, if
 /// the arguments name one, and else those in the file itself.
-pub fn choice<'f>(matches: &ArgMatches, file: UnicodeFile<'f>) -> Result<Choice<'f>, Fault> {
+pub fn choice_of<'f>(matches: &ArgMatches, file: UnicodeFile<'f>) -> Result<Choice<'f>, Fault> {
     if matches
         .get_one::<String>("aliases")
         .map(String::as_str)
@@ -178,6 +178,16 @@ pub fn choice<'f>(matches: &ArgMatches, file: UnicodeFile<'f>) -> Result<Choice<
     Ok(Choice { names, kind })
 }
 
+/// Returns the numbering by names. The texts of a file itself are different values if they are not
+/// equal; names in a file of aliases are written in several ways.
+pub fn by_names<'n>(choice: &'n Choice<'n>) -> Numbering<'n> {
+    let matching = match choice.kind {
+        ValueKind::Own => Matching::Exact,
+        ValueKind::Set | ValueKind::Binary | ValueKind::Aliases => Matching::Loose,
+    };
+    Numbering::Names(&choice.names, matching)
+}
+
 /// Returns how the values of a file become numbers.
 pub fn numbering<'n>(
     matches: &ArgMatches,
@@ -191,12 +201,12 @@ pub fn numbering<'n>(
         (Some("decimal"), _) => Numbering::Decimal,
         (Some("hexadecimal"), _) => Numbering::Hexadecimal,
         (Some("set"), _) => Numbering::One,
-        (Some(_), _) => Numbering::Names(&choice.names),
+        (Some(_), _) => by_names(choice),
         _ if matches!(file.columns, Columns::SimpleFolding) => Numbering::Hexadecimal,
         (None, ValueKind::Set) => Numbering::One,
-        (None, ValueKind::Binary | ValueKind::Aliases) => Numbering::Names(&choice.names),
+        (None, ValueKind::Binary | ValueKind::Aliases) => by_names(choice),
         _ if are_decimal(file.bytes, file.columns) => Numbering::Decimal,
         _ if are_code_points(file.bytes, file.columns) => Numbering::Hexadecimal,
-        _ => Numbering::Names(&choice.names),
+        _ => by_names(choice),
     }
 }

@@ -5,7 +5,8 @@ use crate::host::{HostRuntime, Text};
 use crate::support::prelude::*;
 use crate::ucptrie::build::unbuilt;
 use crate::ucptrie::fault::{Fault, about};
-use crate::ucptrie::offsets::start;
+use crate::ucptrie::offsets::start_of;
+use crate::ucptrie::static_trie::with_static;
 use crate::ucptrie::tables::{form, number, table_in, trie_type, width};
 use crate::ucptrie_tables::fault::BuildFault;
 use crate::ucptrie_tables::rebuild::rebuilt;
@@ -45,9 +46,12 @@ fn converted(name: &str, table: &Table, form: Form<'_>) -> Result<Vec<u8>, Fault
 /// Returns the table of a file in the form that the arguments name. `name` is what the file was
 /// read from.
 pub fn convert(matches: &ArgMatches, name: &str, file: &[u8]) -> Result<Vec<u8>, Fault> {
-    let table = table_in(matches, name, file, start(matches))?;
+    let table = table_in(matches, name, file, start_of(matches))?;
     match changed(matches, table) {
-        Ok(table) => converted(name, &table, form(matches)),
+        Ok(table) => {
+            let bytes = converted(name, &table, form(matches))?;
+            Ok(with_static(matches, bytes, table.width, &[])?)
+        }
         Err(fault) => Err(unbuilt(name, &[], fault)),
     }
 }

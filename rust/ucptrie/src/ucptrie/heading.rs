@@ -116,7 +116,7 @@ fn push_origin(text: &mut String, path: &str, input: &[u8]) -> Result<(), AllocE
 fn is_source(matches: &ArgMatches) -> bool {
     matches!(
         matches.get_one::<String>("as").map(String::as_str),
-        Some("c" | "rust" | "c-frozen" | "rust-frozen")
+        Some("c" | "rust" | "c-frozen" | "rust-frozen" | "rust-static")
     )
 }
 

@@ -21,6 +21,7 @@ mod overlap;
 mod progress;
 mod properties;
 mod sets;
+mod static_trie;
 mod streams;
 mod tables;
 mod unicode_files;
@@ -37,7 +38,7 @@ use crate::ucptrie::convert::convert;
 use crate::ucptrie::fault::{Fault, about, about_arguments};
 use crate::ucptrie::heading::with_heading;
 use crate::ucptrie::names::test_name;
-use crate::ucptrie::offsets::{Start, start};
+use crate::ucptrie::offsets::{Start, start_of};
 use crate::ucptrie::output::{deliver, target_of};
 use crate::ucptrie::progress::{report, started};
 use crate::ucptrie::sets::set;
@@ -114,7 +115,7 @@ fn put_text(rt: &HostRuntime, text: Result<String, AllocError>) -> Result<(), Fa
 
 /// Prints what a table is, in lines.
 fn show(rt: &HostRuntime, matches: &ArgMatches) -> Result<(), Fault> {
-    let table = table_at(rt, matches, "file", start(matches))?;
+    let table = table_at(rt, matches, "file", start_of(matches))?;
     put_text(rt, shown(&table))
 }
 
@@ -140,7 +141,7 @@ fn get(rt: &HostRuntime, command: &str, matches: &ArgMatches) -> Result<(), Faul
         .unwrap_or("-");
     test_once(path, matches.get_one::<String>("from").map(String::as_str))?;
     let asked = asked(rt, matches)?;
-    let table = table_at(rt, matches, "file", start(matches))?;
+    let table = table_at(rt, matches, "file", start_of(matches))?;
     print_values(rt, command, &table, &asked)
 }
 

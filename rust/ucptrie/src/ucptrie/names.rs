@@ -49,7 +49,7 @@ pub fn test_name(matches: &ArgMatches) -> Result<(), Fault> {
     }
     if !matches!(
         matches.get_one::<String>("as").map(String::as_str),
-        Some("rust" | "rust-frozen")
+        Some("rust" | "rust-frozen" | "rust-static")
     ) {
         return Ok(());
     }

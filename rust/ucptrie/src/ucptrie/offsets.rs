@@ -23,7 +23,7 @@ pub enum Start {
 }
 
 /// Returns where the arguments of a command with `--offset` say that a trie starts.
-pub fn start(matches: &ArgMatches) -> Start {
+pub fn start_of(matches: &ArgMatches) -> Start {
     match number(matches, "offset") {
         Some(offset) => Start::At(offset),
         None => Start::Found,

@@ -5,7 +5,7 @@ use crate::support::AllocError;
 #[allow(unused_imports)]
 use crate::support::prelude::*;
 use crate::ucd_files::fields::{column, field};
-use crate::ucd_files::names::{Name, is_same_name};
+use crate::ucd_files::names::{Matching, Name, is_same_name};
 use crate::ucd_files::statement::Columns;
 use crate::ucd_files::value_names::ValueNames;
 use crate::ucptab_table::input::first_line;
@@ -38,7 +38,7 @@ pub fn has_unihan_property(file: &[u8], property: &[u8]) -> bool {
 
 /// Appends a name with the next number, unless it is empty or known.
 pub fn push_new<'f>(names: &mut ValueNames<'f>, text: &'f [u8]) -> Result<(), AllocError> {
-    if !text.is_empty() && names.number_named(text).is_none() {
+    if !text.is_empty() && names.number_named(Matching::Exact, text).is_none() {
         let number = names.as_slice().len();
         names.try_push(number, text)?;
     }

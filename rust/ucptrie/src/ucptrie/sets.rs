@@ -5,16 +5,16 @@ use crate::support::AllocError;
 #[allow(unused_imports)]
 use crate::support::prelude::*;
 use crate::ucd_files::kind::FileKind;
-use crate::ucd_files::names::{Numbering, is_same_name, number_of};
+use crate::ucd_files::names::{Matching, Numbering, is_same_name, number_of};
 use crate::ucd_files::value_names::ValueNames;
 use crate::ucptrie::build::unbuilt;
-use crate::ucptrie::choice::{Choice, UnicodeFile, ValueKind, choice};
+use crate::ucptrie::choice::{Choice, UnicodeFile, ValueKind, by_names, choice_of};
 use crate::ucptrie::compressed::expect_text;
 use crate::ucptrie::fault::{Fault, about};
 use crate::ucptrie::forms::{is_json, is_toml};
 use crate::ucptrie::missing::{default_of, test_own_names};
 use crate::ucptrie::names::name_in;
-use crate::ucptrie::offsets::{has_tries, start, starts_trie};
+use crate::ucptrie::offsets::{has_tries, start_of, starts_trie};
 use crate::ucptrie::streams::say;
 use crate::ucptrie::tables::{number, table_in};
 use crate::ucptrie::unicode_files::{
@@ -100,9 +100,12 @@ fn asked_number(matches: &ArgMatches) -> Result<u32, Fault> {
     }
 }
 
-/// Returns the number of the value with this name. No value has an empty name.
+/// Returns the number of the value with this name: of the one that is written so, or else of the
+/// first one that is the same apart from case, spaces, `_` and `-`. No value has an empty name.
 fn number_named(names: &ValueNames<'_>, text: &str) -> Result<u32, Fault> {
-    match number_of(Numbering::Names(names), text.as_bytes()) {
+    let exact = number_of(Numbering::Names(names, Matching::Exact), text.as_bytes());
+    let loose = number_of(Numbering::Names(names, Matching::Loose), text.as_bytes());
+    match exact.or(loose) {
         Some(number) if !is_same_name(&[], text.as_bytes()) => Ok(number),
         _ => Err(about(text, "no value of the property has this name")),
     }
@@ -114,14 +117,13 @@ fn asked_value<'n>(
     file: UnicodeFile<'_>,
     choice: &'n Choice<'n>,
 ) -> Result<(Numbering<'n>, u32), Fault> {
-    let names = &choice.names;
     match (
         matches.get_one::<String>("value").map(String::as_str),
         choice.kind,
     ) {
-        (Some(text), _) => Ok((Numbering::Names(names), number_named(names, text)?)),
+        (Some(text), _) => Ok((by_names(choice), number_named(&choice.names, text)?)),
         (None, ValueKind::Set) => Ok((Numbering::One, 1)),
-        (None, ValueKind::Binary) => Ok((Numbering::Names(names), 1)),
+        (None, ValueKind::Binary) => Ok((by_names(choice), 1)),
         _ => {
             let why = "expected --value, or by --property a property that is true or false";
             Err(about(file.name, why))
@@ -176,7 +178,7 @@ fn set_of_unicode_file(
         columns,
         aliases,
     };
-    let choice = choice(matches, file)?;
+    let choice = choice_of(matches, file)?;
     set_of_lines(matches, file, &choice)
 }
 
@@ -203,7 +205,7 @@ fn set_of_table(
     file: &[u8],
 ) -> Result<CodePointInversionList<'static>, Fault> {
     let value = asked_number(matches)?;
-    let table = table_in(matches, name, file, start(matches))?;
+    let table = table_in(matches, name, file, start_of(matches))?;
     set_in_table(name, &table, value)
 }
 

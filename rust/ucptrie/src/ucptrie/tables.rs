@@ -51,7 +51,7 @@ pub fn form(matches: &ArgMatches) -> Form<'_> {
         Some("toml") => Form::Toml,
         Some("json") => Form::Json,
         Some("c") => Form::C(name),
-        Some("rust") => Form::Rust(name),
+        Some("rust" | "rust-static") => Form::Rust(name),
         _ => Form::Rows,
     }
 }

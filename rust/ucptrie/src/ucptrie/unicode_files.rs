@@ -5,18 +5,18 @@ use crate::host::{HostRuntime, Text};
 use crate::support::prelude::*;
 use crate::ucd_files::fault::FileFault;
 use crate::ucd_files::kind::{FileKind, has_property, kind_of};
-use crate::ucd_files::names::{Numbering, is_same_name};
+use crate::ucd_files::names::{Name, Numbering, is_same_name};
 use crate::ucd_files::statement::Columns;
 use crate::ucd_files::title::title_of;
-use crate::ucd_files::value_names::ValueNames;
 use crate::ucptab_table::input::line_at;
 use crate::ucptab_table::message::line_message;
 use crate::ucptrie::build::{options, unbuilt};
-use crate::ucptrie::choice::{Choice, UnicodeFile, ValueKind, choice, numbering};
+use crate::ucptrie::choice::{Choice, UnicodeFile, ValueKind, choice_of, numbering};
 use crate::ucptrie::fault::{Fault, about, about_arguments, said};
 use crate::ucptrie::missing::{default_of, test_own_names};
 use crate::ucptrie::overlap::has_overlap;
 use crate::ucptrie::properties::{has_unihan_property, missing_property};
+use crate::ucptrie::static_trie::{is_static, with_static};
 use crate::ucptrie::streams::text_at;
 use crate::ucptrie::tables::{form, number};
 use crate::ucptrie::wide::{line_with, too_wide};
@@ -211,11 +211,27 @@ fn push_names(
     bytes: &mut Vec<u8>,
     form: Form<'_>,
     width: ValueWidth,
-    names: &ValueNames<'_>,
+    names: &[Name<'_>],
 ) -> Result<(), UnicodeFileFault> {
-    let source = names_source(form, width.bits(), names.as_slice())?;
+    let source = names_source(form, width.bits(), names)?;
     bytes.try_extend_from_slice(source.as_bytes())?;
     Ok(())
+}
+
+/// Returns a table in a form, followed by the source of these names and by the static trie that the
+/// arguments ask for.
+fn with_names(
+    matches: &ArgMatches,
+    bytes: Vec<u8>,
+    form: Form<'_>,
+    width: ValueWidth,
+    names: &[Name<'_>],
+) -> Result<Vec<u8>, UnicodeFileFault> {
+    let mut bytes = bytes;
+    if !is_static(matches) {
+        push_names(&mut bytes, form, width, names)?;
+    }
+    Ok(with_static(matches, bytes, width, names)?)
 }
 
 /// Returns the table of a file in the form that the arguments name.
@@ -228,12 +244,13 @@ fn written_of_file(
 ) -> Result<Vec<u8>, UnicodeFileFault> {
     let form = form(matches);
     let table = table_of_file(file.bytes, file.columns, numbering, options)?;
-    let mut bytes = written(&table, form)?;
+    let bytes = written(&table, form)?;
     let is_binary = matches!(choice.kind, ValueKind::Binary);
-    if matches!(numbering, Numbering::Names(_)) && !is_binary {
-        push_names(&mut bytes, form, table.width, &choice.names)?;
+    if matches!(numbering, Numbering::Names(_, _)) && !is_binary {
+        let names = choice.names.as_slice();
+        return with_names(matches, bytes, form, table.width, names);
     }
-    Ok(bytes)
+    with_names(matches, bytes, form, table.width, &[])
 }
 
 /// Returns what the table of a file is to be.
@@ -259,7 +276,7 @@ fn built_of_file(
     choice: &Choice<'_>,
 ) -> Result<Vec<u8>, Fault> {
     let numbering = numbering(matches, file, choice);
-    if matches!(numbering, Numbering::Names(_)) {
+    if matches!(numbering, Numbering::Names(_, _)) {
         test_own_names(file, choice)?;
     }
     let options = options_of_file(matches, file, choice, numbering)?;
@@ -291,6 +308,6 @@ pub fn build_file(
         columns,
         aliases,
     };
-    let choice = choice(matches, file)?;
+    let choice = choice_of(matches, file)?;
     built_of_file(matches, file, &choice)
 }

@@ -189,18 +189,13 @@ fn strings_in(property: &Value) -> usize {
     }
 }
 
-/// Returns how many strings the property that is asked for has, or 0 if there is no single one.
-fn strings_of_asked(property: Result<&Value, SetFileFault>) -> usize {
-    match property {
-        Ok(property) => strings_in(property),
-        Err(_) => 0,
-    }
-}
-
 /// Returns how many strings the property that is asked for has in a table.
 fn strings_of_table(file: &Table, name: Option<&str>) -> usize {
     match items_at(file, "binary_property") {
-        Some(properties) => strings_of_asked(asked_among(properties, name)),
+        Some(properties) => match asked_among(properties, name) {
+            Ok(property) => strings_in(property),
+            Err(_) => 0,
+        },
         None => 0,
     }
 }
