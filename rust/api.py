@@ -3,20 +3,24 @@
 import os
 import re
 
-from files import read
-from rules import DERIVED, GETTERS
+from erase import owner_of
+from files import Stop, read
+from rules import DERIVED, GETTERS, ITERATORS
 
 HERE = os.path.dirname(os.path.realpath(__file__))
 # A public type, with its derived traits if it has some.
 TYPE = r"(?m)^(?:#\[derive\(([^)]*)\)\]\n)?((?:pub(?:\(crate\))? )?(struct|enum) (\w+))"
 # A public function, and what it returns.
 FUNCTION = r"(?m)^( *)((?:#\[\w+(?:\(\w+\))?\]\n\1)*)(pub (?:const )?fn \w+[^;{]*?\) -> ([^;{]+?)(?= where|\s*\{))"
-# Results that carry `must_use` themselves, or iterators, which do too.
-MARKED = r"Result<|impl |(?:Iter\w*|\w+Iter\w*|Spans|Values?\w*Of\w*|Matches)<"
+# What iterators that are not used get, as those of Rust's std.
+LAZY = '#[must_use = "iterators are lazy and do nothing unless consumed"]\n'
+# Results that carry `must_use` themselves.
+MARKED = rf"Result<|impl |(?:{'|'.join(ITERATORS)})<"
 
 
 def derived(code):
-    """Adds the traits of DERIVED in rust/rules.py, and marks enums of errors as non-exhaustive."""
+    """Adds the traits of DERIVED in rust/rules.py, and marks iterators, and enums of errors as
+    non-exhaustive."""
 
     def traits(found):
         said, head, kind, name = found[1] or "", found[2], found[3], found[4]
@@ -27,8 +31,12 @@ def derived(code):
         names += [it for it in more.split() if it not in names]
         line = f"#[derive({', '.join(names)})]\n" if names else ""
         is_open = kind == "enum" and name.endswith("Error")
+        line += LAZY if name in ITERATORS and kind == "struct" else ""
         return line + ("#[non_exhaustive]\n" if is_open else "") + head
 
+    for name in re.findall(r"(?m)^impl.* Iterator for (\w+)", code):
+        if name not in ITERATORS:
+            raise Stop(f"{name} is an iterator, but not in ITERATORS of rust/rules.py")
     return re.sub(TYPE, traits, code)
 
 
@@ -37,7 +45,10 @@ def must_use(code):
 
     def marked(found):
         indent, attributes, head, returned = found[1], found[2], found[3], found[4]
-        if "&mut " in head or re.match(MARKED, returned) or " for " in owner(code, found.start()):
+        # What comes before the last arrow is the type of a closure.
+        returned, home = re.sub(r"(?s)^.*\) -> ", "", returned), owner(code, found.start())
+        returned = re.sub("^Self$", f"{owner_of(home)}<", returned)
+        if "&mut " in head or re.match(MARKED, returned) or " for " in home:
             return found[0]
         return f"{indent}#[must_use]\n{indent}{attributes}{head}"
 

@@ -61,15 +61,21 @@ PANICS = {
     "trait Cells::data_at": "Panics if there is no such cell.",
     "trait Cells::index_at": "Panics if there is no such cell.",
 }
+ITERATORS = (
+    "Iter IterRanges IterRangesComplemented IterChars Spans Matches Iter2 CodePointMapRangeIterator"
+    " MappedRanges IterRangesMapped IterRangesForValue RangeListIteratorCoalescer ValuesOf"
+    " ValueIndicesOf ValuesOfUtf16 ValuesOfUtf8"
+).split()
 # Traits that a type derives beside those of the proved source.
 DERIVED = {
     **dict.fromkeys(
-        # Iterators, and what they are made of.
-        "Iter IterRanges IterRangesComplemented IterChars Spans Matches Iter2 Pending Entries Walk"
-        " Spelling CodePointMapRangeIterator MappedRanges IterRangesMapped IterRangesForValue"
-        " RangeListIteratorCoalescer ValuesOf ValueIndicesOf ValuesOfUtf16 ValuesOfUtf8 AsciiInPlace"
-        # Builders, and what they are made of.
-        " CodePointTrieBuilder NumberMap Numbers Blocks Char16TrieBuilder CodePointTrieToml Fields".split(),
+        [
+            *ITERATORS,
+            # What iterators are made of.
+            *"Pending Entries Walk Spelling AsciiInPlace".split(),
+            # Builders, and what they are made of.
+            *"CodePointTrieBuilder NumberMap Numbers Blocks Char16TrieBuilder CodePointTrieToml Fields".split(),
+        ],
         "Clone",
     ),
     "CodePointInversionListBuilder": "PartialEq Eq",
@@ -328,8 +334,9 @@ EDITS = {
         (r"(?ms)^impl<X: RangePoint> RangeOf.*?^\}\n", "", 6),
         (
             r"fn is_used_up\(range: &RangeInclusive<Self>\) -> bool;",
-            "#[doc(hidden)]\n    fn is_used_up(_: &RangeInclusive<Self>) -> bool {\n        false\n    }",
+            "#[doc(hidden)]\n    #[must_use]\n    fn is_used_up(_: &RangeInclusive<Self>) -> bool {\n        false\n    }",
             1,
         ),
+        (r"(?m)^    (?=fn number\(self\) -> u32;)", "    #[must_use]\n    ", 1),
     ],
 }

@@ -104,6 +104,7 @@ const fn test_cells<T: ConstCells>(bytes: &[u8]) -> Result<(), UleError> {
 
 impl<T: AsULE> ZeroVec<'_, T> {
     /// Returns the empty vector. Does not allocate.
+    #[must_use]
     pub const fn new() -> Self {
         ZeroVec::from_packed(&[])
     }
@@ -126,6 +127,7 @@ impl<'a, T: ConstCells> ZeroSlice<'a, T> {
     ///
     /// # Panics
     /// Panics if [`try_from_static`](Self::try_from_static) returns an error.
+    #[must_use]
     pub const fn from_static(bytes: &'a [u8]) -> Self {
         match ZeroSlice::try_from_static(bytes) {
             Ok(slice) => slice,
@@ -139,6 +141,7 @@ impl<'a, T: ConstCells> ZeroSlice<'a, T> {
 
 /// Returns the cell of a number, for [`zeroslice!`](crate::zeroslice).
 #[doc(hidden)]
+#[must_use]
 pub const fn cell_of(number: i64, width: usize) -> [u8; 4] {
     let bits = 8 * width;
     assert!(
@@ -309,6 +312,7 @@ impl<'trie, T: ConstValue> CodePointTrie<'trie, T> {
     ///
     /// # Panics
     /// Panics if [`try_from_static`](Self::try_from_static) returns an error.
+    #[must_use]
     pub const fn from_static(
         header: CodePointTrieHeader,
         index: ZeroSlice<'trie, u16>,
@@ -469,6 +473,7 @@ impl<'data> CodePointInversionList<'data> {
     ///
     /// # Panics
     /// Panics if the boundaries are not an inversion list.
+    #[must_use]
     pub const fn from_static(ends: ZeroSlice<'data, PotentialCodePoint>) -> Self {
         assert!(
             is_valid(ends.as_bytes()),
@@ -483,6 +488,7 @@ impl<'data> CodePointInversionList<'data> {
 // What databake writes, under the Rust crate's names. Each function tests its parts nevertheless.
 impl<'data> CodePointInversionList<'data> {
     #[doc(hidden)]
+    #[must_use]
     pub const fn from_parts_unchecked(ends: ZeroVec<'data, PotentialCodePoint>, _: u32) -> Self {
         assert!(
             is_valid(ends.as_bytes()),
@@ -494,6 +500,7 @@ impl<'data> CodePointInversionList<'data> {
 
 impl<'trie, T: ConstValue> CodePointTrie<'trie, T> {
     #[doc(hidden)]
+    #[must_use]
     pub const fn from_parts_unstable_unchecked_v1(
         header: CodePointTrieHeader,
         index: ZeroVec<'trie, u16>,
@@ -522,6 +529,7 @@ impl<'data> Char16Trie<'data> {
     ///     Char16Trie::from_static(zeroslice!(u16; [0x31, 0x61, 0x62, 0x8003]));
     /// assert_eq!(WORDS.longest_match_str("abc"), Some((2, 3)));
     /// ```
+    #[must_use]
     pub const fn from_static(units: ZeroSlice<'data, u16>) -> Self {
         Char16Trie::new(units.as_zerovec())
     }
@@ -530,6 +538,7 @@ impl<'data> Char16Trie<'data> {
 /// Returns ranges that contain the same numbers, ascending and joined, and then empty ones; and how
 /// many are not empty. For [`trie_values!`](crate::trie_values).
 #[doc(hidden)]
+#[must_use]
 pub const fn joined<const N: usize>(mut numbers: [u32; N]) -> ([(u32, u32); N], usize) {
     let mut ranges = [(1, 0); N];
     let mut count: usize = 0;

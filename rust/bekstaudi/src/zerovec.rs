@@ -50,6 +50,7 @@ impl<'a, T: AsULE> ZeroVec<'a, T> {
     /// # Panics
     /// Panics if an allocation fails; [`alloc_from_slice`](Self::alloc_from_slice) returns an error
     /// then.
+    #[must_use]
     pub fn from_slice_or_alloc(values: &'a [T]) -> ZeroVec<'a, T> {
         plain(ZeroVec::alloc_from_slice(values))
     }

@@ -12,6 +12,7 @@ use crate::support::prelude::*;
 /// not a trie, the items are what their nodes contain, as far as the units go. The iterator then
 /// ends when one call has opened that many nodes without finding an entry.
 #[derive(Debug, Clone)]
+#[must_use = "iterators are lazy and do nothing unless consumed"]
 pub struct Iter2<'a> {
     pending: Pending<'a>,
 }

@@ -9,6 +9,7 @@ use crate::icu_char16trie::cursor::Char16TrieCursor;
 /// keeps returning `None`. If the units are not a trie, the items are what the steps lead to. The
 /// iterator ends on all units.
 #[derive(Debug, Clone)]
+#[must_use = "iterators are lazy and do nothing unless consumed"]
 pub struct Matches<'a> {
     cursor: Char16TrieCursor<'a>,
     text: &'a [u16],

@@ -71,6 +71,7 @@ impl<'data> Char16Trie<'data> {
     /// assert_eq!(iterator.next('b'), TrieResult::FinalValue(3));
     /// # Ok::<(), Box<dyn std::error::Error>>(())
     /// ```
+    #[must_use]
     #[inline]
     pub fn iter(&self) -> Char16TrieIterator<'_> {
         Char16TrieIterator::new(self.data.as_slice())

@@ -14,6 +14,7 @@ pub struct Span<'t> {
 /// An iterator over the spans of a text, from its start to its end.
 /// [`spans`](crate::icu_frozen_sets::frozen::FrozenCodePointSet::spans) returns it.
 #[derive(Debug, Clone)]
+#[must_use = "iterators are lazy and do nothing unless consumed"]
 pub struct Spans<'s, 't> {
     set: &'s FrozenCodePointSet,
     rest: &'t str,

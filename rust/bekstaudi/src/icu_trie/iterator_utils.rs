@@ -12,6 +12,7 @@ use core::iter::Fuse;
 ///
 /// Over (0..=3, 1), (4..=6, 1), (8..=9, 1) it gives (0..=6, 1), (8..=9, 1).
 #[derive(Debug, Clone)]
+#[must_use = "iterators are lazy and do nothing unless consumed"]
 pub struct RangeListIteratorCoalescer<I, U> {
     iter: Fuse<I>,
     peek: Option<CodePointMapRange<U>>,
@@ -19,7 +20,6 @@ pub struct RangeListIteratorCoalescer<I, U> {
 
 impl<I: Iterator<Item = CodePointMapRange<U>>, U: Eq> RangeListIteratorCoalescer<I, U> {
     /// Joins the ranges of `iter`. Once `iter` has returned `None`, it is not called again.
-    #[must_use]
     #[inline]
     pub fn new(iter: I) -> Self {
         Self {

@@ -23,7 +23,6 @@ impl<'trie, T: TrieValue> CodePointTrie<'trie, T> {
     /// assert_eq!(ranges[0].range, 0..=0xFFFF);
     /// assert_eq!(ranges[1].range, 0x10000..=0x10FFFF);
     /// ```
-    #[must_use]
     #[inline]
     pub fn iter_ranges_mapped<U: Eq, F: Fn(T) -> U>(
         &self,
@@ -41,6 +40,7 @@ impl<'trie, T: TrieValue> CodePointTrie<'trie, T> {
 /// An iterator over the ranges of a trie, each with the result of a closure for its value. It does
 /// not join ranges of equal results; [`IterRangesMapped`] contains it and joins them.
 #[derive(Debug, Clone)]
+#[must_use = "iterators are lazy and do nothing unless consumed"]
 pub struct MappedRanges<'a, T: TrieValue, F> {
     ranges: CodePointMapRangeIterator<'a, T>,
     map: F,
@@ -64,6 +64,7 @@ impl<'a, T: TrieValue, U, F: Fn(T) -> U> Iterator for MappedRanges<'a, T, F> {
 ///
 /// Once `next` returns `None`, it returns `None` forever.
 #[derive(Debug, Clone)]
+#[must_use = "iterators are lazy and do nothing unless consumed"]
 pub struct IterRangesMapped<'a, T: TrieValue, U, F> {
     ranges: RangeListIteratorCoalescer<MappedRanges<'a, T, F>, U>,
 }

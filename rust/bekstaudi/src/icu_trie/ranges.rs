@@ -97,6 +97,7 @@ impl<'trie, T: TrieValue> CodePointTrie<'trie, T> {
 /// It returns what [`get_range`](CodePointTrie::get_range) returns at 0, and then at the code point
 /// after each range. Once it returns `None`, it returns `None` forever.
 #[derive(Debug, Clone)]
+#[must_use = "iterators are lazy and do nothing unless consumed"]
 pub struct CodePointMapRangeIterator<'a, T: TrieValue> {
     trie: &'a CodePointTrie<'a, T>,
     next: u32,

@@ -24,6 +24,7 @@ impl<'trie, T: TrieValue> CodePointTrie<'trie, T> {
 ///
 /// Once `next` returns `None`, it returns `None` forever.
 #[derive(Debug, Clone)]
+#[must_use = "iterators are lazy and do nothing unless consumed"]
 pub struct IterRangesForValue<'a, T: TrieValue> {
     ranges: CodePointMapRangeIterator<'a, T>,
     value: T,

@@ -8,6 +8,7 @@ use crate::icu_trie_text::first_utf16::first_code_point;
 ///
 /// Created by [`values_of_utf16`].
 #[derive(Debug, Clone)]
+#[must_use = "iterators are lazy and do nothing unless consumed"]
 pub struct ValuesOfUtf16<'a, T: TrieValue> {
     trie: &'a CodePointTrie<'a, T>,
     rest: &'a [u16],

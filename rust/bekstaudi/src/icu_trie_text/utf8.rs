@@ -10,6 +10,7 @@ use crate::icu_trie_text::first_utf8::{ill_formed_size, of_four, of_three, of_tw
 ///
 /// Created by [`values_of_utf8`].
 #[derive(Debug, Clone)]
+#[must_use = "iterators are lazy and do nothing unless consumed"]
 pub struct ValuesOfUtf8<'a, T: TrieValue> {
     trie: AsciiInPlace<'a, T>,
     rest: &'a [u8],

@@ -9,6 +9,7 @@ use crate::icu_trie_text::first::first_value;
 ///
 /// Created by [`values_of`].
 #[derive(Debug, Clone)]
+#[must_use = "iterators are lazy and do nothing unless consumed"]
 pub struct ValuesOf<'a, T: TrieValue> {
     trie: AsciiInPlace<'a, T>,
     rest: &'a str,

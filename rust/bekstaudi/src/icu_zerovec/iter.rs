@@ -9,6 +9,7 @@ use core::marker::PhantomData;
 ///
 /// It knows how many values are left.
 #[derive(Clone)]
+#[must_use = "iterators are lazy and do nothing unless consumed"]
 pub struct Iter<'a, T: AsULE> {
     bytes: &'a [u8],
     of: PhantomData<fn(T) -> T>,

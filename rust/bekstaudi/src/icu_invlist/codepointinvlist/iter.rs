@@ -9,6 +9,7 @@ use core::ops::RangeInclusive;
 ///
 /// It knows how many ranges are left.
 #[derive(Debug, Clone)]
+#[must_use = "iterators are lazy and do nothing unless consumed"]
 pub struct IterRanges<'a> {
     ends: Iter<'a, PotentialCodePoint>,
 }
@@ -49,6 +50,7 @@ impl<'a> ExactSizeIterator for IterRanges<'a> {
 /// [`iter_ranges_complemented`](crate::icu_invlist::codepointinvlist::CodePointInversionList::iter_ranges_complemented)
 /// returns it.
 #[derive(Debug, Clone)]
+#[must_use = "iterators are lazy and do nothing unless consumed"]
 pub struct IterRangesComplemented<'a> {
     start: Option<u32>,
     ends: Iter<'a, PotentialCodePoint>,
@@ -97,6 +99,7 @@ impl<'a> Iterator for IterRangesComplemented<'a> {
 /// An iterator over the characters in a set, in ascending order.
 /// [`iter_chars`](crate::icu_invlist::codepointinvlist::CodePointInversionList::iter_chars) returns it.
 #[derive(Debug, Clone)]
+#[must_use = "iterators are lazy and do nothing unless consumed"]
 pub struct IterChars<'a> {
     next: u32,
     end: u32,

@@ -6,11 +6,13 @@ use core::ops::{Range, RangeFrom, RangeFull, RangeInclusive, RangeTo, RangeToInc
 /// A type that ranges can be made of: `char` or `u32`.
 pub trait RangePoint: Copy {
     /// Returns the number of the value; for a character, its code point.
+    #[must_use]
     fn number(self) -> u32;
 
     /// Returns true if `range` was iterated to its end: it is empty, although its start is not
     /// above its end.
     #[doc(hidden)]
+    #[must_use]
     fn is_used_up(_: &RangeInclusive<Self>) -> bool {
         false
     }
