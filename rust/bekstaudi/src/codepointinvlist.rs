@@ -44,7 +44,6 @@ use crate::codepointinvliststringlist::CodePointInversionListAndStringList;
 use crate::icu_zerovec::CODE_POINT_LIMIT;
 #[cfg(feature = "alloc")]
 use crate::plain::{plain, plain_calls, plain_clone};
-#[cfg(feature = "alloc")]
 use crate::zerovec::{PotentialCodePoint, ZeroVec};
 #[cfg(feature = "alloc")]
 use alloc::vec::Vec;
@@ -139,12 +138,12 @@ impl Default for CodePointInversionListBuilder {
     }
 }
 
-#[cfg(feature = "alloc")]
 impl<'data> CodePointInversionList<'data> {
     /// Returns the set with this list of boundaries, and takes over the list without copying it.
     ///
     /// # Errors
-    /// Returns [`InvalidSetError`] with a copy of the list if `ends` is not an inversion list.
+    /// Returns [`InvalidSetError`] if `ends` is not an inversion list. It contains a copy of the
+    /// list, or is empty without the feature `alloc`.
     ///
     /// # Panics
     /// Panics if allocating that copy fails;
@@ -165,18 +164,29 @@ impl<'data> CodePointInversionList<'data> {
     /// Panics if an allocation fails;
     /// [`try_from_u32_inversion_list_slice_fallible`](Self::try_from_u32_inversion_list_slice_fallible)
     /// returns an error then.
+    #[cfg(feature = "alloc")]
     pub fn try_from_u32_inversion_list_slice(ends: &[u32]) -> Result<Self, InvalidSetError> {
         without_memory(Self::try_from_u32_inversion_list_slice_fallible(ends))
     }
 }
 
-#[cfg(feature = "alloc")]
 /// Returns the result with the error of the Rust crate. Panics if an allocation failed.
+#[cfg(feature = "alloc")]
 fn without_memory<T>(answer: Result<T, SetError>) -> Result<T, InvalidSetError> {
     match answer {
         Err(SetError::Invalid(error)) => Err(error),
         answer => Ok(plain(answer)),
     }
+}
+
+/// Returns the result with the error of the Rust crate. Only an invalid list is copied, so without
+/// an allocator a failed allocation means that the list is invalid.
+#[cfg(not(feature = "alloc"))]
+fn without_memory<T>(answer: Result<T, SetError>) -> Result<T, InvalidSetError> {
+    answer.map_err(|error| match error {
+        SetError::Invalid(error) => error,
+        SetError::Memory => InvalidSetError(crate::support::prelude::Vec::new()),
+    })
 }
 
 #[cfg(feature = "alloc")]

@@ -5,10 +5,7 @@ use crate::codepointinvlist::{
     FrozenCodePointSetAndStrings, RangeOf, Spans,
 };
 use crate::codepointinvliststringlist::CodePointInversionListAndStringList;
-use crate::codepointtrie::binary::AnyWidthTrie;
-use crate::codepointtrie::{
-    CodePointMapRange, CodePointTrieBuilder, FastCodePointTrie, SmallCodePointTrie, TrieValue, Typed,
-};
+use crate::codepointtrie::{CodePointMapRange, CodePointTrieBuilder, TrieValue};
 use crate::icu_zerovec::CODE_POINT_LIMIT;
 use crate::plain::{fused, plain};
 use alloc::string::String;
@@ -174,39 +171,5 @@ impl<'data> From<CodePointInversionList<'data>> for CodePointInversionListAndStr
 impl Hash for CodePointInversionListAndStringList<'_> {
     fn hash<H: Hasher>(&self, state: &mut H) {
         (self.code_points(), self.strings()).hash(state);
-    }
-}
-
-macro_rules! typed_clone {
-    ($($name:ident $variant:ident;)*) => {
-        $(
-            /// # Panics
-            /// Panics if an allocation fails.
-            impl<T: TrieValue> Clone for $name<'_, T> {
-                fn clone(&self) -> Self {
-                    match self.as_untyped_ref().clone().to_typed() {
-                        Typed::$variant(trie) => trie,
-                        _ => unreachable!("a clone has the same type"),
-                    }
-                }
-            }
-        )*
-    };
-}
-
-typed_clone! {
-    FastCodePointTrie Fast;
-    SmallCodePointTrie Small;
-}
-
-/// # Panics
-/// Panics if an allocation fails.
-impl Clone for AnyWidthTrie<'_> {
-    fn clone(&self) -> Self {
-        match self {
-            AnyWidthTrie::Bits8(trie) => AnyWidthTrie::Bits8(trie.clone()),
-            AnyWidthTrie::Bits16(trie) => AnyWidthTrie::Bits16(trie.clone()),
-            AnyWidthTrie::Bits32(trie) => AnyWidthTrie::Bits32(trie.clone()),
-        }
     }
 }

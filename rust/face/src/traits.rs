@@ -4,9 +4,10 @@ use crate::char16trie::{Char16Trie, Iter2, Matches};
 use crate::codepointinvlist::{
     CodePointInversionList, IterChars, IterRanges, IterRangesComplemented,
 };
+use crate::codepointtrie::binary::AnyWidthTrie;
 use crate::codepointtrie::{
     CodePointMapRange, CodePointMapRangeIterator, CodePointTrie, FastCodePointTrie,
-    IterRangesForValue, IterRangesMapped, SmallCodePointTrie, TrieValue, text,
+    IterRangesForValue, IterRangesMapped, SmallCodePointTrie, TrieValue, Typed, text,
 };
 use crate::icu_trie::iterator_utils::RangeListIteratorCoalescer;
 use crate::icu_trie::mapped_ranges::MappedRanges;
@@ -98,5 +99,67 @@ impl<'a, T: AsULE> IntoIterator for ZeroSlice<'a, T> {
 
     fn into_iter(self) -> Iter<'a, T> {
         self.iter()
+    }
+}
+
+// Without an allocator, clones borrow what is borrowed. With one, they own a copy.
+#[cfg(not(feature = "alloc"))]
+impl<T: TrieValue> Clone for CodePointTrie<'_, T> {
+    fn clone(&self) -> Self {
+        CodePointTrie {
+            header: self.header,
+            index: self.index.clone(),
+            data: self.data.clone(),
+        }
+    }
+}
+
+#[cfg(not(feature = "alloc"))]
+impl Clone for CodePointInversionList<'_> {
+    fn clone(&self) -> Self {
+        CodePointInversionList {
+            ends: self.ends.clone(),
+        }
+    }
+}
+
+#[cfg(not(feature = "alloc"))]
+impl Clone for Char16Trie<'_> {
+    fn clone(&self) -> Self {
+        Char16Trie::new(self.data.clone())
+    }
+}
+
+macro_rules! typed_clone {
+    ($($name:ident $variant:ident;)*) => {
+        $(
+            /// # Panics
+            /// Panics if an allocation fails.
+            impl<T: TrieValue> Clone for $name<'_, T> {
+                fn clone(&self) -> Self {
+                    match self.as_untyped_ref().clone().to_typed() {
+                        Typed::$variant(trie) => trie,
+                        _ => unreachable!("a clone has the same type"),
+                    }
+                }
+            }
+        )*
+    };
+}
+
+typed_clone! {
+    FastCodePointTrie Fast;
+    SmallCodePointTrie Small;
+}
+
+/// # Panics
+/// Panics if an allocation fails.
+impl Clone for AnyWidthTrie<'_> {
+    fn clone(&self) -> Self {
+        match self {
+            AnyWidthTrie::Bits8(trie) => AnyWidthTrie::Bits8(trie.clone()),
+            AnyWidthTrie::Bits16(trie) => AnyWidthTrie::Bits16(trie.clone()),
+            AnyWidthTrie::Bits32(trie) => AnyWidthTrie::Bits32(trie.clone()),
+        }
     }
 }

@@ -1,12 +1,15 @@
 //! Look-ups in static data. Without an allocator this links only if nothing needs one.
-#![no_std]
+#![cfg_attr(not(test), no_std)]
 
 use bekstaudi::char16trie::Char16Trie;
 use bekstaudi::codepointinvlist::CodePointInversionList;
-use bekstaudi::codepointtrie::{CodePointTrie, CodePointTrieHeader, TrieType, text};
-use bekstaudi::zerovec::PotentialCodePoint;
+use bekstaudi::codepointtrie::{
+    CodePointTrie, CodePointTrieHeader, FastCodePointTrie, TrieType, text,
+};
+use bekstaudi::zerovec::{PotentialCodePoint, ZeroVec};
 use bekstaudi::{trie_values, zeroslice};
 
+#[cfg(not(test))]
 #[panic_handler]
 fn panicked(_: &core::panic::PanicInfo) -> ! {
     loop {}
@@ -52,4 +55,50 @@ pub extern "C" fn counts() -> usize {
     let ranges = KINDS.iter_ranges().count() + SET.iter_ranges().count();
     let values = text::values_of_utf8(&KINDS, b"a\xFF").count();
     ranges + values + WORDS.longest_match_str("ab").map_or(0, |it| it.0)
+}
+
+/// Tables that a user's struct borrows, and copies with it.
+#[derive(Clone)]
+pub struct Tables<'a> {
+    kinds: CodePointTrie<'a, Kind>,
+    numbers: Option<FastCodePointTrie<'a, u16>>,
+    set: CodePointInversionList<'a>,
+    words: Char16Trie<'a>,
+    cells: ZeroVec<'a, u16>,
+}
+
+/// Returns true if copies of borrowed tables have what the tables have, and read the same bytes.
+#[unsafe(no_mangle)]
+pub extern "C" fn copies() -> bool {
+    let ends = ZeroVec::parse_bytes(&[0x41, 0, 0, 0x5B, 0, 0]);
+    let Ok(Ok(set)) = ends.map(CodePointInversionList::try_from_inversion_list) else {
+        return false;
+    };
+    let tables = Tables {
+        kinds: KINDS.clone(),
+        numbers: None,
+        set,
+        words: WORDS.clone(),
+        cells: WORDS.data.clone(),
+    };
+    let copy = tables.clone();
+    copy.kinds == KINDS
+        && copy.numbers.is_none()
+        && copy.set == SET
+        && copy.words == WORDS
+        && copy.cells.as_bytes().as_ptr() == WORDS.data.as_bytes().as_ptr()
+}
+
+/// Returns true if boundaries that are no inversion list are rejected.
+#[unsafe(no_mangle)]
+pub extern "C" fn rejects() -> bool {
+    let list =
+        ZeroVec::parse_bytes(&[0x41, 0, 0]).map(CodePointInversionList::try_from_inversion_list);
+    matches!(list, Ok(Err(error)) if error.0.is_empty())
+}
+
+#[cfg(test)]
+#[test]
+fn tables_are_copied_and_rejected() {
+    assert!(copies() && rejects());
 }
