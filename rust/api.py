@@ -34,7 +34,7 @@ def derived(code):
         line += LAZY if name in ITERATORS and kind == "struct" else ""
         return line + ("#[non_exhaustive]\n" if is_open else "") + head
 
-    for name in re.findall(r"(?m)^impl.* Iterator for (\w+)", code):
+    for name in re.findall(r"(?m)^impl[^{}]* Iterator\s+for (\w+)", code):
         if name not in ITERATORS:
             raise Stop(f"{name} is an iterator, but not in ITERATORS of rust/rules.py")
     return re.sub(TYPE, traits, code)
@@ -75,10 +75,21 @@ def owner(code, place):
     return heads[-1][0] if heads else ""
 
 
+def with_added(code, text):
+    """Appends code of rust/added. What follows a line `//# NAME` is a method of the iterator NAME."""
+    rest, *parts = re.split(r"(?m)^//# (\w+)\n", text)
+    for name, part in zip(parts[::2], parts[1::2]):
+        body = rf"(?ms)^(impl[^{{}}]* Iterator\s+for {name}\b.*?\n)(?=^\}})"
+        code, count = re.subn(body, lambda it: f"{it[1]}\n{part}", code)
+        if count != 1:
+            raise Stop(f"rust/added: expected one iterator {name}, found {count}")
+    return f"{code}\n{rest}"
+
+
 def guided(module, code):
     """Returns the code of a module of the library with all of these."""
     code = multiples(must_use(derived(code)))
     for name in GETTERS.get(module, "").split():
         code = re.sub(rf"\bpub (?=fn {name}\b)", "pub const ", code)
     path = f"{HERE}/added/{module}.rs"
-    return code + "\n" + read(path) if os.path.exists(path) else code
+    return with_added(code, read(path)) if os.path.exists(path) else code

@@ -42,6 +42,13 @@ impl<'s, 't> Iterator for Spans<'s, 't> {
         self.rest = rest;
         Some(span)
     }
+
+    /// A span is one character or more.
+    #[inline]
+    fn size_hint(&self) -> (usize, Option<usize>) {
+        let (least, most) = self.rest.chars().size_hint();
+        (least.min(1), most)
+    }
 }
 
 /// Cutting a text into spans.

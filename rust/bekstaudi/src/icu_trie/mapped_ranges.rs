@@ -57,6 +57,11 @@ impl<'a, T: TrieValue, U, F: Fn(T) -> U> Iterator for MappedRanges<'a, T, F> {
             value: (self.map)(range.value),
         })
     }
+
+    #[inline]
+    fn size_hint(&self) -> (usize, Option<usize>) {
+        self.ranges.size_hint()
+    }
 }
 
 /// An iterator over the ranges of a trie with mapped values, in which adjacent ranges of equal
@@ -75,5 +80,10 @@ impl<'a, T: TrieValue, U: Eq, F: Fn(T) -> U> Iterator for IterRangesMapped<'a, T
     #[inline]
     fn next(&mut self) -> Option<CodePointMapRange<U>> {
         self.ranges.next()
+    }
+
+    #[inline]
+    fn size_hint(&self) -> (usize, Option<usize>) {
+        self.ranges.size_hint()
     }
 }

@@ -42,4 +42,9 @@ impl<'a, T: TrieValue> Iterator for IterRangesForValue<'a, T> {
         }
         None
     }
+
+    #[inline]
+    fn size_hint(&self) -> (usize, Option<usize>) {
+        (0, self.ranges.size_hint().1)
+    }
 }

@@ -110,4 +110,10 @@ impl<'a, T: TrieValue> Iterator for ValuesOfUtf8<'a, T> {
         self.rest = rest;
         Some(item)
     }
+
+    /// A character, or what U+FFFD replaces, is one to four bytes.
+    #[inline]
+    fn size_hint(&self) -> (usize, Option<usize>) {
+        (self.rest.len().div_ceil(4), Some(self.rest.len()))
+    }
 }

@@ -49,4 +49,19 @@ impl<'a, T: TrieValue> Iterator for ValuesOf<'a, T> {
         self.rest = rest;
         Some(item)
     }
+
+    #[inline]
+    fn size_hint(&self) -> (usize, Option<usize>) {
+        self.rest.chars().size_hint()
+    }
+}
+
+impl<T: TrieValue> DoubleEndedIterator for ValuesOf<'_, T> {
+    #[inline]
+    fn next_back(&mut self) -> Option<(char, T)> {
+        let mut characters = self.rest.chars();
+        let last = characters.next_back()?;
+        self.rest = characters.as_str();
+        Some((last, self.trie.get(last)))
+    }
 }
