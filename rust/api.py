@@ -5,7 +5,7 @@ import re
 
 from erase import owner_of
 from files import Stop, read
-from rules import DERIVED, GETTERS, ITERATORS
+from rules import DERIVED, GETTERS, ITERATORS, METHODS
 
 HERE = os.path.dirname(os.path.realpath(__file__))
 # A public type, with its derived traits if it has some.
@@ -69,6 +69,24 @@ def multiples(code):
     return re.sub(MULTIPLE, named, code)
 
 
+# A private import: its path, and its name or names.
+IMPORT = r"(?m)^use ((?:\w+::)+)(?:(\w+)|\{([^{}]*)\});\n"
+
+
+def used(code):
+    """Removes imported names that only proofs use: the code has them nowhere else."""
+    rest = re.sub(r"//.*", "", re.sub(IMPORT, "", code))
+
+    def kept(found):
+        names = re.findall(r"\w+", found[2] or found[3])
+        left = [it for it in names if re.search(rf"\b({it}|{METHODS.get(it, it)})\b", rest)]
+        if left == names:
+            return found[0]
+        return f"use {found[1]}{{{', '.join(left)}}};\n" if left else ""
+
+    return re.sub(IMPORT, kept, code)
+
+
 def owner(code, place):
     """Returns the line of the `impl` or `trait` that the code at `place` is in."""
     heads = [it for it in re.finditer(r"(?m)^(?:impl|pub trait|\})[^\n]*", code) if it.start() < place]
@@ -88,8 +106,8 @@ def with_added(code, text):
 
 def guided(module, code):
     """Returns the code of a module of the library with all of these."""
-    code = multiples(must_use(derived(code)))
+    code = must_use(derived(code))
     for name in GETTERS.get(module, "").split():
         code = re.sub(rf"\bpub (?=fn {name}\b)", "pub const ", code)
     path = f"{HERE}/added/{module}.rs"
-    return with_added(code, read(path)) if os.path.exists(path) else code
+    return used(with_added(code, read(path)) if os.path.exists(path) else code)

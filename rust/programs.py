@@ -80,6 +80,12 @@ EDITS = {
     ],
     "ucd_files/read": [(r"(missing\.append\(&mut explicit\))\?", r"\1", 1)],
     "ucd_files/value_names": [(r"\.entry\((.*)\)\?\.or_default\(\)", r".try_or_default(\1)?", 1)],
+    # What clippy would write in another form.
+    "ucptrie_sets/source": [(r"(set\.size\(\)) as usize", r"\1", 1)],
+    "ucptrie_words/line": [
+        (r"match (str::from_utf8\(bytes\)) \{\s*Ok\(text\) => Some\(text\),\s*Err\(_\) => None,\s*\}", r"\1.ok()", 1),
+    ],
+    "ucptrie_words/rows": [(r"\.iter\(\)\.any\(\|byte\| \*byte == (\x02\d+\x03)\)", r".contains(&\1)", 1)],
     "ucptrie_sets/toml_file": [(r"\n *Err\(error\) if error\.is_memory\(\) => [^\n]*", "", 2)],
     # serde_json ends the program if an allocation fails.
     "ucptrie_sets/written": [(r"\.to_string\(\)\?", ".to_string()", 1), (r"text\.try_push(\(\x02\d+\x03\))\?", r"text.push\1", 1)],

@@ -111,6 +111,11 @@ GETTERS = {
     "icu_trie/typed": "as_untyped_ref",
     "icu_trie_text/utf16": "values_of_utf16",
 }
+# Traits that modules import for a method, and a word that such a module has.
+METHODS = {
+    "Cells": "cells", "PartValues": "ascii", "RangeOf": "deconstruct", "RangePoint": "number",
+    "TrieValue": "to_u32", "Write": "write",
+}
 # The modules of Rattle's std that Rust's core has under the same names.
 OWN = "cmp error fmt hash iter marker ops"
 RULES = [
@@ -277,6 +282,8 @@ EDITS = {
             10,
         ),
         (r"(?m)^(?=struct TomlFields)", "pub(crate) ", 1),
+        (r"(?m)^(?=use crate::support::\{?AllocError\}?;)", '#[cfg(feature = "toml")]\n', 1),
+        (r"(\n +)(?=value_width: u8,\n)", r"\1#[allow(dead_code)] // The array that is there says the width.\1", 1),
         (r"(?m)^    (?=(?:index|data_8|data_16|data_32|\w+_width|\w+_start|\w+_offset|trie_type|null_value|fields): [\w<>]+,$)", "    pub(crate) ", 12),
     ],
     # So is that the number of boundaries is even, for types with their own `Eq`. In a constant there
@@ -317,6 +324,8 @@ EDITS = {
     "icu_text_sets/codepointinvliststringlist/make": [
         (r"str_list: Vec<String>,(?=\n +\) -> Result)", "str_list: impl Into<Vec<String>>,", 1),
         (r"(\n +)(?=match first_fault)", r"\1let str_list = str_list.into();\1", 1),
+        (r"(?<=fn fault_before\(text: &)String", "str", 1),
+        (r"(?<=only_char\()text\.as_str\(\)(?=\)\.is_some)|(?<=match )text\.as_str\(\)(?=\.cmp\(next)", "text", 2),
     ],
     # The bounds of the Rust crate.
     "icu_trie_core/value": [
@@ -327,6 +336,23 @@ EDITS = {
         (r"\n +error_value: self\.error_value,", "", 1),
         (r"(const TRIE_TYPE: TrieType;\n)", rf"\1{UNTYPED}", 1),
         (r"(const TRIE_TYPE: TrieType = TrieType::\w+;\n)", rf"\1{UNTYPED_BODIES}", 2),
+    ],
+    # Names and variables that only a proof uses, and what clippy would write in another form.
+    "icu_trie_core/lookup": [
+        (r"(?<=fn look_up_fast<T, C: Cells<T>>\()header(?=:)", "_", 1),
+        (r"(?<=fn look_up_high<T, C: Cells<T>>\()header(: &CodePointTrieHeader, cells: &mut C, )c(?=:)", r"_\1_", 1),
+        (r"(?m)^(?=pub fn look_up_whole)", "// Tests call it.\n#[allow(dead_code)]\n", 1),
+    ],
+    "icu_trie_core/cells": [(r"(\n +)(?=fn index_len\(&self\) -> usize;)", r"\1// Tests call it.\1#[allow(dead_code)]\1", 1)],
+    "icu_char16trie/spelling": [(r"(fn push_apart\(&mut self, )lead\b", r"\1_", 1)],
+    "icu_trie/lib": [(r"(?m)^(?=pub use icu_trie_core::\{)", "#[allow(unused_imports)] // Tests use them.\n", 1)],
+    "icu_trie_text/lib": [(r"(?m)^(?=(?:pub )?mod characters;)", "#[allow(dead_code)] // The C library uses it.\n", 1)],
+    "icu_trie_binary/binary": [(r"\(\((high_start) \+ 0xfff\) / (0x1000)\)", r"\1.div_ceil(\2)", 1)],
+    "icu_char16trie_builder/sorted": [(r"key: \*key,", "key,", 1)],
+    "icu_trie_compaction/blocks": [(r"&(stored\[stored\.len\(\) - common\.\.\]) == &", r"\1 == ", 1)],
+    "icu_trie_compaction/window_table": [
+        (r"heads: &mut Vec<u32>", "heads: &mut [u32]", 1),
+        (r"\.max\(FIRST_BUCKETS\)\.min\(MOST_BUCKETS\)", ".clamp(FIRST_BUCKETS, MOST_BUCKETS)", 1),
     ],
     # The range that the last character has been taken of, for DoubleEndedIterator.
     "icu_invlist/codepointinvlist/iter": [

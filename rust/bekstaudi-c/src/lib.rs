@@ -5,7 +5,17 @@
 //! in this file and in `exports`, and only touches memory that the C caller or `malloc` provides.
 #![no_std]
 #![deny(unsafe_op_in_unsafe_fn)]
-#![allow(dead_code, unused_imports, unused_variables)]
+// The C library uses a part of the modules of rust/bekstaudi, whose lib.rs says why the others are
+// allowed. `to_typed` and `to_untyped` are the Rust crate's names.
+#![allow(dead_code, unused_imports)]
+#![allow(
+    clippy::needless_range_loop,
+    clippy::manual_find,
+    clippy::manual_range_contains,
+    clippy::while_let_on_iterator,
+    clippy::collapsible_if,
+    clippy::wrong_self_convention
+)]
 
 extern crate alloc;
 
@@ -48,7 +58,7 @@ unsafe impl GlobalAlloc for Malloc {
         unsafe { free(block.cast()) }
     }
 
-    unsafe fn realloc(&self, block: *mut u8, layout: Layout, size: usize) -> *mut u8 {
+    unsafe fn realloc(&self, block: *mut u8, _: Layout, size: usize) -> *mut u8 {
         unsafe { realloc(block.cast(), size).cast() }
     }
 }

@@ -13,5 +13,8 @@ fn main() {
     for range in set.iter_ranges() {
         println!("U+{:04X}..U+{:04X}", range.start(), range.end());
     }
-    println!("the first {} bytes are in the set", set.span("abc-123", true));
+    println!(
+        "the first {} bytes are in the set",
+        set.span("abc-123", true)
+    );
 }

@@ -127,41 +127,33 @@ pub mod zerovec;
 
 pub use plain::iterator_utils;
 
-// rust/make writes the lists. Names may be unused: some are used by proofs only, and some are public
-// in their crate but not here. The sources count in loops over indices, which proofs are about.
+// rust/make writes the two lists.
 macro_rules! generated {
     ($($name:ident)*) => {
-        $(#[allow(dead_code, unused_imports, unused_variables)]
-        #[allow(
-            clippy::collapsible_if,
-            clippy::explicit_auto_deref,
-            clippy::manual_clamp,
-            clippy::manual_div_ceil,
-            clippy::manual_find,
-            clippy::manual_range_contains,
-            clippy::needless_range_loop,
-            clippy::op_ref,
-            clippy::ptr_arg,
-            clippy::while_let_on_iterator
-        )]
-        mod $name;)*
+        modules! { all(): $($name)* }
     };
 }
 macro_rules! generated_with_alloc {
     ($($name:ident)*) => {
-        $(#[cfg(feature = "alloc")]
-        #[allow(dead_code, unused_imports, unused_variables)]
+        modules! { feature = "alloc": $($name)* }
+    };
+}
+// What is allowed is what the proofs are about: loops over indices, also in searches, bounds that
+// are compared one by one, a `while` over an iterator that is used afterwards, and nested cases.
+macro_rules! modules {
+    ($on:meta: $($name:ident)*) => {
+        $(#[cfg($on)]
         #[allow(
-            clippy::collapsible_if,
-            clippy::explicit_auto_deref,
-            clippy::manual_clamp,
-            clippy::manual_div_ceil,
+            clippy::needless_range_loop,
             clippy::manual_find,
             clippy::manual_range_contains,
-            clippy::needless_range_loop,
-            clippy::op_ref,
-            clippy::ptr_arg,
-            clippy::while_let_on_iterator
+            clippy::while_let_on_iterator,
+            clippy::collapsible_if
+        )]
+        // Without these features nothing uses what they need.
+        #[cfg_attr(
+            not(all(feature = "alloc", feature = "json")),
+            allow(dead_code, unused_imports)
         )]
         mod $name;)*
     };

@@ -4,7 +4,7 @@
 use crate::icu_char16trie::trie::Char16Trie;
 use crate::icu_zerovec::{MemoryError, ZeroSlice, ZeroVec};
 use crate::support::prelude::*;
-use serde_json::{Value, json};
+use serde_json::Value;
 
 /// Why a JSON value is not a trie.
 #[derive(Clone, Copy, Debug, PartialEq, Eq, Hash)]

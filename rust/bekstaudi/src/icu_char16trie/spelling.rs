@@ -75,7 +75,7 @@ impl Spelling {
     /// Appends a unit after a held lead surrogate with which it is no pair.
     #[cold]
     #[inline(never)]
-    fn push_apart(&mut self, lead: LeadSurrogate, unit: u16) -> Result<(), AllocError> {
+    fn push_apart(&mut self, _: LeadSurrogate, unit: u16) -> Result<(), AllocError> {
         self.held = None;
         self.text.try_push(char::REPLACEMENT_CHARACTER)?;
         self.push_next(unit)?;

@@ -77,10 +77,7 @@ pub(crate) fn entries_of_pairs<'a>(
 ) -> Result<Vec<Entry<'a>>, AllocError> {
     let mut list = Vec::with_room(pairs.len())?;
     for (key, value) in pairs {
-        list.try_push(Entry {
-            key: *key,
-            value: *value,
-        })?;
+        list.try_push(Entry { key, value: *value })?;
     }
     Ok(list)
 }

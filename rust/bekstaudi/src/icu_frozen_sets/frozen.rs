@@ -4,7 +4,6 @@ use crate::icu_frozen_sets::ascii::ascii_of;
 use crate::icu_frozen_sets::bits::CodePointBits;
 use crate::icu_frozen_sets::filling::Filling;
 use crate::icu_invlist::codepointinvlist::CodePointInversionList;
-use crate::icu_zerovec::ule::AsULE;
 use crate::icu_zerovec::{CODE_POINT_LIMIT, MemoryError};
 
 /// A set of code points for many look-ups, each of which takes two loads and no search (ICU: a

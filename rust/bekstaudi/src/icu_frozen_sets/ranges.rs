@@ -1,7 +1,6 @@
 //! Whether a frozen set contains a range.
 
 use crate::icu_frozen_sets::frozen::FrozenCodePointSet;
-use crate::icu_invlist::codepointinvlist::RangeOf;
 
 /// Ranges in a frozen set.
 impl FrozenCodePointSet {

@@ -29,4 +29,5 @@ pub mod ranges;
 pub mod ranges_of_value;
 pub mod typed;
 
+#[allow(unused_imports)] // Tests use them.
 pub use crate::icu_trie_core::{cells, coherent, header, impl_const, lookup, value, walk};

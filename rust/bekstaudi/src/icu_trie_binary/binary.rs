@@ -55,7 +55,7 @@ fn trie_header<T: TrieValue>(
     let high_start = u32::from(header.shifted_high_start) * 0x200;
     CodePointTrieHeader {
         high_start,
-        shifted12_high_start: ((high_start + 0xfff) / 0x1000) as u16,
+        shifted12_high_start: high_start.div_ceil(0x1000) as u16,
         index3_null_offset: header.index3_null_offset,
         data_null_offset: header.data_null_offset,
         null_value: null_number(header, values),

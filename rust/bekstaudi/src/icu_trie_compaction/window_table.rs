@@ -36,7 +36,7 @@ impl WindowTable {
     /// `AllocError` if the allocation fails.
     #[inline]
     pub(crate) fn for_cells(size: usize, cells: usize) -> Result<WindowTable, AllocError> {
-        let buckets = cells.max(FIRST_BUCKETS).min(MOST_BUCKETS);
+        let buckets = cells.clamp(FIRST_BUCKETS, MOST_BUCKETS);
         WindowTable::with_buckets(size, buckets)
     }
 
@@ -138,7 +138,7 @@ impl WindowTable {
 
 /// Sets the head of a bucket.
 #[inline]
-fn set_head(heads: &mut Vec<u32>, bucket: usize, head: u32) {
+fn set_head(heads: &mut [u32], bucket: usize, head: u32) {
     heads[bucket] = head;
 }
 

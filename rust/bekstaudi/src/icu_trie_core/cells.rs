@@ -7,6 +7,8 @@
 /// costs no bytes and no time. [`Steps`] implements it.
 pub trait Cells<T> {
     /// Returns the number of cells in the index. Does not count as a read.
+    // Tests call it.
+    #[allow(dead_code)]
     fn index_len(&self) -> usize;
 
     /// Returns the number of cells in the data. Does not count as a read.

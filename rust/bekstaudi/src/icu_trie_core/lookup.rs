@@ -114,11 +114,7 @@ pub fn look_up<T, C: Cells<T>>(header: &CodePointTrieHeader, cells: &mut C, c: u
 ///
 /// Public for the crates that build on this one.
 #[inline(always)]
-pub(crate) fn look_up_fast<T, C: Cells<T>>(
-    header: &CodePointTrieHeader,
-    cells: &mut C,
-    c: u32,
-) -> T {
+pub(crate) fn look_up_fast<T, C: Cells<T>>(_: &CodePointTrieHeader, cells: &mut C, c: u32) -> T {
     let offset = cells.index_at((c >> FAST_TYPE_SHIFT) as usize);
     cells.data_at(offset as usize + (c & FAST_TYPE_DATA_MASK) as usize)
 }
@@ -136,11 +132,7 @@ fn high_value_of<T, C: Cells<T>>(cells: &mut C) -> T {
 /// The fast index must be whole, which implies that the data have a high value. Public for the
 /// crates that build on this one.
 #[inline(always)]
-pub(crate) fn look_up_high<T, C: Cells<T>>(
-    header: &CodePointTrieHeader,
-    cells: &mut C,
-    c: u32,
-) -> T {
+pub(crate) fn look_up_high<T, C: Cells<T>>(_: &CodePointTrieHeader, cells: &mut C, _: u32) -> T {
     high_value_of(cells)
 }
 
@@ -183,6 +175,8 @@ pub(crate) fn look_up_small<T, C: Cells<T>>(
 /// The fast index is whole if it has a cell for each block of 64 below the fast limit, and all
 /// these blocks are inside the data.
 #[inline(always)]
+// Tests call it.
+#[allow(dead_code)]
 pub(crate) fn look_up_whole<T, C: Cells<T>>(
     header: &CodePointTrieHeader,
     cells: &mut C,

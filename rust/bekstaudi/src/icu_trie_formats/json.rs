@@ -6,7 +6,7 @@ use crate::icu_trie::header::{CodePointTrieHeader, TrieType};
 use crate::icu_trie::value::TrieValue;
 use crate::icu_zerovec::{MemoryError, ZeroSlice};
 use crate::support::prelude::*;
-use serde_json::{Value, json};
+use serde_json::Value;
 
 /// Why a JSON value is not a trie.
 #[derive(Clone, Copy, Debug, PartialEq, Eq, Hash)]

@@ -6,8 +6,8 @@ use crate::icu_trie::error::{CodePointTrieError, PartsError};
 use crate::icu_trie::header::{CodePointTrieHeader, TrieType};
 use crate::icu_trie::value::TrieValue;
 use crate::icu_zerovec::MemoryError;
-use crate::support::AllocError;
 use crate::support::prelude::*;
+#[cfg(feature = "toml")]
 #[cfg(feature = "toml")]
 use toml::value::{Table, Value};
 
@@ -85,6 +85,7 @@ pub(crate) struct TomlFields {
     pub(crate) high_start: u32,
     pub(crate) shifted12_high_start: u16,
     pub(crate) trie_type: u8,
+    #[allow(dead_code)] // The array that is there says the width.
     pub(crate) value_width: u8,
     pub(crate) index3_null_offset: u16,
     pub(crate) data_null_offset: u32,

@@ -18,6 +18,7 @@
 //! - `ascii`: tries whose data start with the values of ASCII
 
 mod ascii;
+#[allow(dead_code)] // The C library uses it.
 pub mod characters;
 mod copy;
 pub mod copy_parts;

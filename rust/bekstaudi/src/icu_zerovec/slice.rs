@@ -4,7 +4,6 @@ use crate::icu_zerovec::cells;
 use crate::icu_zerovec::iter::Iter;
 use crate::icu_zerovec::ule::AsULE;
 use crate::icu_zerovec::vec::ZeroVec;
-use crate::support::AllocError;
 use core::fmt;
 use core::hash::{Hash, Hasher};
 use core::marker::PhantomData;

@@ -17,7 +17,7 @@ const TITLE: &str = "// Made by ucptrie: a set of % code points in % ranges.\n";
 
 /// Returns the first line of source, a comment with the number of ranges.
 pub(crate) fn title_of(set: &CodePointInversionList<'_>) -> Result<String, AllocError> {
-    let sizes = [Decimal(set.size() as usize), Decimal(set.get_range_count())];
+    let sizes = [Decimal(set.size()), Decimal(set.get_range_count())];
     let mut text = String::new();
     push_pattern(&mut text, TITLE, "", &sizes)?;
     Ok(text)
@@ -35,7 +35,7 @@ pub(crate) fn frozen_with_title(
 
 /// Appends a cell of an array: eight to a line, with commas between them. `i` is its index.
 fn push_cell(text: &mut String, i: usize, cell: u64) -> Result<(), AllocError> {
-    if i % CELLS_IN_LINE != 0 {
+    if !i.is_multiple_of(CELLS_IN_LINE) {
         text.try_push_str(", ")?;
     } else if i > 0 {
         text.try_push_str(",\n")?;

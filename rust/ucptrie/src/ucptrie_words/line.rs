@@ -17,10 +17,7 @@ pub struct Word<'a> {
 
 /// Returns the bytes as text if they are UTF-8.
 fn text_of(bytes: &[u8]) -> Option<&str> {
-    match str::from_utf8(bytes) {
-        Ok(text) => Some(text),
-        Err(_) => None,
-    }
+    str::from_utf8(bytes).ok()
 }
 
 /// Returns the number, or its negative, if it has 32 bits with the sign.

@@ -17,7 +17,7 @@ fn has_replacement(text: &str) -> bool {
 
 /// Returns whether the bytes have a line feed.
 fn has_line_feed(bytes: &[u8]) -> bool {
-    bytes.iter().any(|byte| *byte == b'\n')
+    bytes.contains(&b'\n')
 }
 
 /// Returns whether a line can have the text as its key.

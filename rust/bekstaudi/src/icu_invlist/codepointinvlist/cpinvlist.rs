@@ -10,7 +10,6 @@ use crate::icu_invlist::codepointinvlist::iter::{
     IterChars, IterRanges, IterRangesComplemented, start_of_gap,
 };
 use crate::icu_invlist::codepointinvlist::utils::{RangeOf, is_valid_slice, is_valid_zv};
-use crate::icu_zerovec::ule::AsULE;
 use crate::icu_zerovec::{CODE_POINT_LIMIT, MemoryError, PotentialCodePoint, ZeroSlice, ZeroVec};
 use core::ops::RangeInclusive;
 use packing::{cut_to_points, pack, unpacked};

@@ -1,7 +1,7 @@
 //! The numbers in a range, and the validity of an inversion list.
 
 use crate::icu_zerovec::{CODE_POINT_LIMIT, PotentialCodePoint, ZeroVec};
-use core::ops::{Range, RangeFrom, RangeFull, RangeInclusive, RangeTo, RangeToInclusive};
+use core::ops::RangeInclusive;
 
 /// A type that ranges can be made of: `char` or `u32`.
 pub trait RangePoint: Copy {

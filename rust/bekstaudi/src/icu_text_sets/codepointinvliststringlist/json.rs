@@ -5,7 +5,7 @@ use crate::icu_text_sets::codepointinvliststringlist::error::StringListJsonError
 use crate::icu_text_sets::codepointinvliststringlist::set::CodePointInversionListAndStringList;
 use crate::icu_zerovec::MemoryError;
 use crate::support::prelude::*;
-use serde_json::{Value, json};
+use serde_json::Value;
 
 /// Returns the strings as JSON strings, in order.
 #[inline]

@@ -19,11 +19,11 @@ enum Fault {
 
 /// Returns the fault of a string, given the next one if there is one.
 #[inline]
-fn fault_before(text: &String, next: Option<&String>) -> Option<Fault> {
-    if only_char(text.as_str()).is_some() {
+fn fault_before(text: &str, next: Option<&String>) -> Option<Fault> {
+    if only_char(text).is_some() {
         return Some(Fault::OneCodePoint);
     }
-    match text.as_str().cmp(next?.as_str()) {
+    match text.cmp(next?.as_str()) {
         Ordering::Less => None,
         Ordering::Equal => Some(Fault::Repeated),
         Ordering::Greater => Some(Fault::Unsorted),
