@@ -3,6 +3,7 @@
 
 use bekstaudi::char16trie::Char16Trie;
 use bekstaudi::codepointinvlist::CodePointInversionList;
+use bekstaudi::codepointinvliststringlist::CodePointInversionListAndStringList;
 use bekstaudi::codepointtrie::planes::get_planes_trie;
 use bekstaudi::codepointtrie::{CodePointTrie, CodePointTrieHeader, ConstValue, TrieType, TrieValue};
 use bekstaudi::zerovec::{ZeroSlice, ZeroVec, ule::AsULE};
@@ -39,6 +40,14 @@ impl<'zf> ZeroFrom<'zf, Char16Trie<'_>> for Char16Trie<'zf> {
     }
 }
 
+// The strings are owned, so they are copied.
+impl<'zf> ZeroFrom<'zf, CodePointInversionListAndStringList<'_>> for CodePointInversionListAndStringList<'zf> {
+    fn zero_from(other: &'zf CodePointInversionListAndStringList<'_>) -> Self {
+        let code_points = ZeroFrom::zero_from(other.code_points());
+        CodePointInversionListAndStringList::try_from(code_points, other.strings().to_vec()).expect("a set")
+    }
+}
+
 /// The safe half of yoke's trait: the compiler shortens the lifetime. The other half, `make` and
 /// `transform_mut`, is unsafe code in yoke's own derive too.
 trait Yokeable<'a> {
@@ -69,6 +78,7 @@ yokeable! {
     [T: AsULE + 'static] ZeroVec<'static, T>, ZeroVec<'a, T>;
     [T: TrieValue + 'static] CodePointTrie<'static, T>, CodePointTrie<'a, T>;
     [] CodePointInversionList<'static>, CodePointInversionList<'a>;
+    [] CodePointInversionListAndStringList<'static>, CodePointInversionListAndStringList<'a>;
     [] Char16Trie<'static>, Char16Trie<'a>;
     [] CodePointTrieHeader, CodePointTrieHeader;
     [] TrieType, TrieType;
@@ -90,6 +100,11 @@ fn values_are_borrowed_from_others() {
     let words = Char16Trie::new(ZeroVec::alloc_from_slice(&[0x30, 0x61, 0x8001]).unwrap());
     let lent: Char16Trie = ZeroFrom::zero_from(&words);
     assert_eq!(first(lent.data.as_slice()), first(words.data.as_slice()));
+    let texts: CodePointInversionListAndStringList = ["a", "abc"].into_iter().collect();
+    let lent: CodePointInversionListAndStringList = ZeroFrom::zero_from(&texts);
+    assert_eq!(first(lent.code_points().as_inversion_list()), first(texts.code_points().as_inversion_list()));
+    assert_eq!(lent, texts);
+    assert_eq!(texts.clone().transform_owned(), texts);
 }
 
 #[test]
@@ -137,6 +152,66 @@ impl Bake for CodePointInversionList<'_> {
         let ends = numbers(self.as_inversion_list(), u32::from);
         format!("bekstaudi::codepointinvlist::CodePointInversionList::from_static(bekstaudi::zeroslice!(bekstaudi::zerovec::PotentialCodePoint as u32; {ends}))").into()
     }
+}
+
+impl Bake for Char16Trie<'_> {
+    fn bake(&self) -> Cow<'static, str> {
+        let units = numbers(self.data.as_slice(), u32::from);
+        format!("bekstaudi::char16trie::Char16Trie::from_static(bekstaudi::zeroslice!(u16; {units}))").into()
+    }
+}
+
+// No expression of a constant, since the strings are owned.
+impl Bake for CodePointInversionListAndStringList<'_> {
+    fn bake(&self) -> Cow<'static, str> {
+        let set = self.code_points().bake();
+        let strings = self.strings();
+        format!("bekstaudi::codepointinvliststringlist::CodePointInversionListAndStringList::try_from({set}, bekstaudi::zerovec::VarZeroVec::from(&{strings:?}))").into()
+    }
+}
+
+/// databake's trait: how many bytes the baked value borrows.
+trait BakeSize {
+    fn borrows_size(&self) -> usize;
+}
+
+impl<T: TrieValue> BakeSize for CodePointTrie<'_, T> {
+    fn borrows_size(&self) -> usize {
+        let (_, index, data) = self.parts();
+        index.as_bytes().len() + data.as_bytes().len()
+    }
+}
+
+impl BakeSize for CodePointInversionList<'_> {
+    fn borrows_size(&self) -> usize {
+        self.as_inversion_list().as_bytes().len()
+    }
+}
+
+impl BakeSize for Char16Trie<'_> {
+    fn borrows_size(&self) -> usize {
+        self.data.as_bytes().len()
+    }
+}
+
+impl BakeSize for CodePointInversionListAndStringList<'_> {
+    fn borrows_size(&self) -> usize {
+        self.code_points().borrows_size()
+    }
+}
+
+static WORDS: Char16Trie<'static> =
+    bekstaudi::char16trie::Char16Trie::from_static(bekstaudi::zeroslice!(u16; [49,97,98,32771,]));
+
+#[test]
+fn baked_words_and_strings_are_what_was_baked() {
+    let text = "bekstaudi::char16trie::Char16Trie::from_static(bekstaudi::zeroslice!(u16; [49,97,98,32771,]))";
+    assert_eq!((WORDS.bake().as_ref(), WORDS.borrows_size()), (text, 8));
+    assert_eq!(WORDS.longest_match_str("ab"), Some((2, 3)));
+    let texts = bekstaudi::codepointinvliststringlist::CodePointInversionListAndStringList::try_from(bekstaudi::codepointinvlist::CodePointInversionList::from_static(bekstaudi::zeroslice!(bekstaudi::zerovec::PotentialCodePoint as u32; [65,91,])), bekstaudi::zerovec::VarZeroVec::from(&["ab", "cd"])).unwrap();
+    let text = "bekstaudi::codepointinvliststringlist::CodePointInversionListAndStringList::try_from(bekstaudi::codepointinvlist::CodePointInversionList::from_static(bekstaudi::zeroslice!(bekstaudi::zerovec::PotentialCodePoint as u32; [65,91,])), bekstaudi::zerovec::VarZeroVec::from(&[\"ab\", \"cd\"]))";
+    assert_eq!((texts.bake().as_ref(), texts.borrows_size(), SET.borrows_size()), (text, 6, 6));
+    assert_eq!(get_planes_trie().borrows_size(), get_planes_trie().parts().1.as_bytes().len() + get_planes_trie().parts().2.len());
 }
 
 // The text of the expression is what the compiler reads below.
