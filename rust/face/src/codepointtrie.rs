@@ -39,6 +39,8 @@
 //! ```
 
 pub use crate::constant::ConstValue;
+#[doc(hidden)]
+pub use crate::constant::null_number;
 pub use crate::icu_trie::cptrie::CodePointTrie;
 pub use crate::icu_trie::error::{CodePointTrieError, ConvertError, PartsError};
 pub use crate::icu_trie::header::{CodePointTrieHeader, TrieType};

@@ -13,6 +13,34 @@ use crate::zerovec::{CODE_POINT_LIMIT, PotentialCodePoint, ZeroSlice, ZeroVec};
 ///
 /// [`trie_values!`](crate::trie_values) implements it for the enum that it declares. If `CELLS`
 /// and [`AsULE::from_unaligned`] disagree, look-ups may panic, but read nothing out of bounds.
+///
+/// ```
+/// use bekstaudi::zerovec::{ConstCells, ZeroSlice, ule::AsULE};
+/// use bekstaudi::zeroslice;
+///
+/// /// A number from 0 to 99, in one byte.
+/// #[derive(Clone, Copy, Debug, PartialEq, Eq)]
+/// struct Percent(u8);
+///
+/// impl AsULE for Percent {
+///     const WIDTH: usize = 1;
+///
+///     fn to_unaligned(self) -> [u8; 4] {
+///         [self.0, 0, 0, 0]
+///     }
+///
+///     fn from_unaligned(bytes: &[u8]) -> Option<Self> {
+///         Some(Percent(bytes[0])).filter(|it| it.0 < 100)
+///     }
+/// }
+///
+/// impl ConstCells for Percent {
+///     const CELLS: &'static [(u32, u32)] = &[(0, 99)];
+/// }
+///
+/// static SHARES: ZeroSlice<'static, Percent> = zeroslice!(Percent as u8; [20, 80]);
+/// assert_eq!(SHARES.get(1), Some(Percent(80)));
+/// ```
 pub trait ConstCells: AsULE {
     /// The cells that are values, each as the number of its bytes, lowest byte first: ranges with
     /// both bounds included.
@@ -22,6 +50,69 @@ pub trait ConstCells: AsULE {
 /// A value of tries in constants.
 ///
 /// [`trie_values!`](crate::trie_values) implements it for the enum that it declares.
+///
+/// ```
+/// use bekstaudi::codepointtrie::{CodePointTrie, ConstValue, NotAValue, TrieValue};
+/// use bekstaudi::zerovec::{ConstCells, ule::AsULE};
+///
+/// /// Whether a character is a letter, in one byte: its number is 0 or 1.
+/// #[derive(Clone, Copy, Debug, PartialEq, Eq)]
+/// struct IsLetter(bool);
+///
+/// impl AsULE for IsLetter {
+///     const WIDTH: usize = 1;
+///
+///     fn to_unaligned(self) -> [u8; 4] {
+///         u32::from(self.0).to_le_bytes()
+///     }
+///
+///     fn from_unaligned(bytes: &[u8]) -> Option<Self> {
+///         IsLetter::try_from_u32(bytes[0].into()).ok()
+///     }
+/// }
+///
+/// impl TrieValue for IsLetter {
+///     type TryFromU32Error = NotAValue;
+///
+///     fn to_u32(self) -> u32 {
+///         self.0.into()
+///     }
+///
+///     fn try_from_u32(number: u32) -> Result<Self, NotAValue> {
+///         match number {
+///             0 | 1 => Ok(IsLetter(number == 1)),
+///             _ => Err(NotAValue),
+///         }
+///     }
+/// }
+///
+/// impl ConstCells for IsLetter {
+///     const CELLS: &'static [(u32, u32)] = &[(0, 1)];
+/// }
+///
+/// // Its numbers are those of its cells.
+/// impl ConstValue for IsLetter {}
+///
+/// mod made {
+/// #   pub mod letters {
+/// #     pub type Value = u8;
+/// #     pub const TRIE_TYPE: u8 = 1;
+/// #     pub const HIGH_START: u32 = 0x1000;
+/// #     pub const SHIFTED12_HIGH_START: u16 = 0x1;
+/// #     pub const INDEX3_NULL_OFFSET: u16 = 0x7fff;
+/// #     pub const DATA_NULL_OFFSET: u32 = 0xfffff;
+/// #     pub const NULL_VALUE: u32 = 0x1;
+/// #     pub static INDEX: [u16; 64] = [0; 64];
+/// #     pub static DATA: [Value; 64] = [1; 64];
+/// #   }
+/// # /*
+///     include!("letters.rs"); // ucptrie build --as rust --name letters
+/// # */
+/// }
+///
+/// static LETTERS: CodePointTrie<'static, IsLetter> = bekstaudi::trie_of!(made::letters as IsLetter);
+/// assert_eq!(LETTERS.get('A'), IsLetter(true));
+/// ```
 pub trait ConstValue: TrieValue + ConstCells {
     /// The numbers that [`TrieValue::try_from_u32`] accepts: ranges with both bounds included.
     const NUMBERS: &'static [(u32, u32)] = Self::CELLS;
@@ -222,6 +313,18 @@ const fn test_parts<T: ConstValue>(
     Ok(())
 }
 
+/// Returns the null value of a table of unsigned cells as the number of a value, for
+/// [`trie_of!`](crate::trie_of): the number of a negative value has the sign in all bits above.
+#[doc(hidden)]
+#[must_use]
+pub const fn null_number<T: ConstValue>(cell: u32) -> u32 {
+    if T::WIDTH == 0 || T::WIDTH > 3 || is_in(T::NUMBERS, cell) || cell >> (8 * T::WIDTH) != 0 {
+        return cell;
+    }
+    let above = 32 - 8 * T::WIDTH as u32;
+    ((cell << above).cast_signed() >> above).cast_unsigned()
+}
+
 /// Panics if parts do not form a trie.
 const fn require_parts<T: ConstValue>(header: &CodePointTrieHeader, index: &[u8], data: &[u8]) {
     match test_parts::<T>(header, index, data) {
@@ -260,7 +363,8 @@ impl<'trie, T: ConstValue> CodePointTrie<'trie, T> {
     }
 
     /// Makes a trie of these parts, which it borrows. In a constant, parts that do not form a trie
-    /// do not compile. For parts that `ucptrie` writes, use [`trie_of!`](crate::trie_of).
+    /// do not compile. For parts that `ucptrie` writes, use [`trie_of!`](crate::trie_of), whose docs
+    /// say how long the check takes.
     ///
     /// ```
     /// use bekstaudi::codepointtrie::{CodePointTrie, CodePointTrieHeader, TrieType};
@@ -322,7 +426,10 @@ impl<'trie, T: ConstValue> CodePointTrie<'trie, T> {
 
 /// Makes a trie of the module that `ucptrie build --as rust` writes, in a constant.
 ///
+/// The program is in Bekstaudi's repository, as this crate is:
+///
 /// ```sh
+/// cargo install --path rust/ucptrie
 /// ucptrie build --as rust --name table --width 8 --default 0 --error 0 < rows.txt > table.rs
 /// ```
 ///
@@ -331,7 +438,10 @@ impl<'trie, T: ConstValue> CodePointTrie<'trie, T> {
 /// `trie_of!(table)` has the module's numbers as values, and `trie_of!(table as Kind)` the values of a
 /// type with these numbers, such as an enum of [`trie_values!`](crate::trie_values). A number that is
 /// not a value of the type does not compile. This includes the numbers of `--default` and `--error`, which
-/// are 0 if they are not given.
+/// are 0 if they are not given. For a signed type, a number is the cell of a value: 255 is the `i8` -1.
+///
+/// Each build checks the table again. That takes about 7 seconds for 480 kB of data, and less than
+/// 0.1 seconds for a few kilobytes.
 ///
 /// ```
 /// use bekstaudi::codepointtrie::CodePointTrie;
@@ -364,6 +474,53 @@ impl<'trie, T: ConstValue> CodePointTrie<'trie, T> {
 /// static KINDS: CodePointTrie<'static, Kind> = bekstaudi::trie_of!(made::table as Kind);
 /// assert_eq!(KINDS.get('A'), Kind::Letter);
 /// ```
+///
+/// If the values are names, as in the files of the Unicode Character Database, `ucptrie` numbers them
+/// and writes an enum too. `trie_of!` gives the numbers, and the enum has `try_from`:
+///
+/// ```sh
+/// ucptrie build Scripts.txt --values names --width 8 --as rust --name scripts > scripts.rs
+/// ```
+///
+/// ```
+/// use bekstaudi::codepointtrie::CodePointTrie;
+///
+/// mod made {
+/// # /*
+///     include!("scripts.rs");
+/// # */
+/// #   pub mod scripts {
+/// #     pub type Value = u8;
+/// #     pub const TRIE_TYPE: u8 = 1;
+/// #     pub const HIGH_START: u32 = 0x1000;
+/// #     pub const SHIFTED12_HIGH_START: u16 = 0x1;
+/// #     pub const INDEX3_NULL_OFFSET: u16 = 0x7fff;
+/// #     pub const DATA_NULL_OFFSET: u32 = 0xfffff;
+/// #     pub const NULL_VALUE: u32 = 0x0;
+/// #     pub static INDEX: [u16; 64] = [0; 64];
+/// #     pub static DATA: [Value; 64] = [1; 64];
+/// #   }
+/// #   #[derive(Debug, PartialEq, Eq)]
+/// #   pub enum Scripts {
+/// #     Unlisted = 0,
+/// #     Latin = 1,
+/// #   }
+/// #   impl TryFrom<u8> for Scripts {
+/// #     type Error = u8;
+/// #     fn try_from(value: u8) -> Result<Scripts, u8> {
+/// #       match value {
+/// #         0 => Ok(Scripts::Unlisted),
+/// #         1 => Ok(Scripts::Latin),
+/// #         _ => Err(value),
+/// #       }
+/// #     }
+/// #   }
+/// }
+/// use made::Scripts;
+///
+/// static SCRIPTS: CodePointTrie<'static, u8> = bekstaudi::trie_of!(made::scripts);
+/// assert_eq!(Scripts::try_from(SCRIPTS.get('A')), Ok(Scripts::Latin));
+/// ```
 #[macro_export]
 macro_rules! trie_of {
     ($($table:ident)::+) => {
@@ -377,7 +534,7 @@ macro_rules! trie_of {
                     shifted12_high_start: $($table)::+::SHIFTED12_HIGH_START,
                     index3_null_offset: $($table)::+::INDEX3_NULL_OFFSET,
                     data_null_offset: $($table)::+::DATA_NULL_OFFSET,
-                    null_value: $($table)::+::NULL_VALUE,
+                    null_value: $crate::codepointtrie::null_number::<$value>($($table)::+::NULL_VALUE),
                     trie_type: match $($table)::+::TRIE_TYPE {
                         0 => $crate::codepointtrie::TrieType::Fast,
                         _ => $crate::codepointtrie::TrieType::Small,
@@ -392,7 +549,7 @@ macro_rules! trie_of {
 
 /// The error of [`CodePointInversionList::try_from_static`]: the boundaries are not an inversion
 /// list.
-#[derive(Clone, Copy, Debug, PartialEq, Eq)]
+#[derive(Clone, Copy, Debug, PartialEq, Eq, Hash)]
 pub struct InvalidStaticSet;
 
 impl core::fmt::Display for InvalidStaticSet {
@@ -455,6 +612,28 @@ impl<'data> CodePointInversionList<'data> {
     /// assert!(LETTERS.contains('Z') && !LETTERS.contains('['));
     /// ```
     ///
+    /// The boundaries that `ucptrie set --as rust --name letters` writes become a set like this:
+    ///
+    /// ```
+    /// # use bekstaudi::codepointinvlist::CodePointInversionList;
+    /// # use bekstaudi::zerovec::PotentialCodePoint;
+    /// # use bekstaudi::zeroslice;
+    /// mod made {
+    /// # /*
+    ///     include!("letters.rs");
+    /// # */
+    /// #   pub mod letters {
+    /// #     pub static BOUNDARIES: [u32; 2] = [0x41, 0x5B];
+    /// #   }
+    /// }
+    /// static LETTERS: CodePointInversionList<'static> = CodePointInversionList::from_static(
+    ///     zeroslice!(PotentialCodePoint as u32; made::letters::BOUNDARIES),
+    /// );
+    /// assert_eq!(LETTERS.size(), 26);
+    /// ```
+    ///
+    /// Boundaries that are not strictly ascending do not compile:
+    ///
     /// ```compile_fail,E0080
     /// # use bekstaudi::codepointinvlist::CodePointInversionList;
     /// # use bekstaudi::zerovec::PotentialCodePoint;
@@ -502,7 +681,8 @@ impl<'trie, T: ConstValue> CodePointTrie<'trie, T> {
 
 impl<'data> Char16Trie<'data> {
     /// Returns the trie of these units, which it borrows. Like [`new`](Self::new), it does not
-    /// validate them: look-ups return on all units.
+    /// validate them, also in a constant: look-ups return on all units. A test can call
+    /// `try_is_trie`, which takes too many steps for a constant.
     ///
     /// ```
     /// use bekstaudi::{char16trie::Char16Trie, zeroslice};
@@ -510,6 +690,23 @@ impl<'data> Char16Trie<'data> {
     /// // The map of "ab" to 3.
     /// static WORDS: Char16Trie<'static> =
     ///     Char16Trie::from_static(zeroslice!(u16; [0x31, 0x61, 0x62, 0x8003]));
+    /// assert_eq!(WORDS.longest_match_str("abc"), Some((2, 3)));
+    /// ```
+    ///
+    /// The units that `ucptrie words --as rust --name words` writes become a trie like this:
+    ///
+    /// ```
+    /// # use bekstaudi::{char16trie::Char16Trie, zeroslice};
+    /// mod made {
+    /// # /*
+    ///     include!("words.rs");
+    /// # */
+    /// #   pub mod words {
+    /// #     pub static UNITS: [u16; 4] = [0x31, 0x61, 0x62, 0x8003];
+    /// #   }
+    /// }
+    /// static WORDS: Char16Trie<'static> =
+    ///     Char16Trie::from_static(zeroslice!(u16; made::words::UNITS));
     /// assert_eq!(WORDS.longest_match_str("abc"), Some((2, 3)));
     /// ```
     #[must_use]

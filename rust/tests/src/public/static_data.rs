@@ -101,6 +101,35 @@ fn statics_return_their_values() {
     assert_eq!(zeroslice!(i32; [-2]).as_bytes(), [0xFE, 0xFF, 0xFF, 0xFF]);
 }
 
+/// A table as `ucptrie build --default 255 --as rust` writes it, of which 255 is the null value.
+mod signed {
+    pub type Value = u8;
+    pub const TRIE_TYPE: u8 = 1;
+    pub const HIGH_START: u32 = 0x1000;
+    pub const SHIFTED12_HIGH_START: u16 = 1;
+    pub const INDEX3_NULL_OFFSET: u16 = 0x7FFF;
+    pub const DATA_NULL_OFFSET: u32 = 0;
+    pub const NULL_VALUE: u32 = 0xFF;
+    pub static INDEX: [u16; 64] = [0; 64];
+    pub static DATA: [Value; 64] = [0xFF; 64];
+}
+static SIGNED: CodePointTrie<'static, i8> = bekstaudi::trie_of!(signed as i8);
+static UNSIGNED: CodePointTrie<'static, u8> = bekstaudi::trie_of!(signed);
+
+#[test]
+fn a_signed_table_may_have_a_negative_default() {
+    assert_eq!((SIGNED.get('A'), SIGNED.null_value(), SIGNED.error_value()), (-1, -1, -1));
+    assert_eq!((UNSIGNED.get('A'), UNSIGNED.null_value()), (255, 255));
+    use bekstaudi::codepointtrie::null_number;
+    for number in 0..0x2_0000 {
+        let wanted = |is_value: bool, extended: u32| if is_value { extended } else { number };
+        assert_eq!(null_number::<i8>(number), wanted(number < 0x100, number as i8 as u32));
+        assert_eq!(null_number::<i16>(number), wanted(number < 0x1_0000, number as i16 as u32));
+        assert_eq!((null_number::<u8>(number), null_number::<i32>(number)), (number, number));
+    }
+    assert_eq!((null_number::<i8>(u32::MAX), null_number::<u16>(u32::MAX)), (u32::MAX, u32::MAX));
+}
+
 #[test]
 fn an_enum_has_the_numbers_that_it_lists() {
     assert_eq!(Few::CELLS, [(0, 1), (7, 7), (0xFE, 0xFE)]);
