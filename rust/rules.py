@@ -92,6 +92,7 @@ DERIVED = {
     "CodePointMapRange": "Hash",
     "CodePointDataSlice": "PartialEq Eq",
     "Found": "Hash",
+    "Copied": "PartialEq Eq Hash",
     "Write": "Eq Hash",
     "NotAValue": "Hash",
     "ApplyRefused": "Hash",
@@ -99,7 +100,8 @@ DERIVED = {
 }
 # Public functions that are `const`.
 GETTERS = {
-    "icu_invlist/codepointinvlist/builder": "new",
+    "icu_zerovec/vec": "as_slice",
+    "icu_invlist/codepointinvlist/builder": "new is_empty",
     "icu_text_sets/codepointinvliststringlist/set": "has_strings code_points string_slice",
     "icu_frozen_sets/frozen": "as_set",
     "icu_frozen_sets/spans": "spans",
@@ -108,7 +110,9 @@ GETTERS = {
     "icu_char16trie/listing": "value",
     "icu_trie_core/header": "fast_limit fast_index_len",
     "icu_trie/ranges": "iter_ranges",
-    "icu_trie/typed": "as_untyped_ref",
+    "icu_trie/ranges_of_value": "iter_ranges_for_value",
+    "icu_trie/typed": "as_untyped_ref to_typed",
+    "icu_trie_formats/trie_toml": "index_slice data_slice",
     "icu_trie_text/utf16": "values_of_utf16",
 }
 # Traits that modules import for a method, and a word that such a module has.

@@ -87,6 +87,19 @@ impl FromIterator<char> for CodePointInversionList<'_> {
     }
 }
 
+/// Returns the union of the ranges, which may be in any order and overlap. A range of characters
+/// includes the surrogates between them.
+///
+/// # Panics
+/// Panics if an allocation fails.
+impl FromIterator<RangeInclusive<char>> for CodePointInversionList<'_> {
+    fn from_iter<I: IntoIterator<Item = RangeInclusive<char>>>(ranges: I) -> Self {
+        let bounds = ranges.into_iter().map(RangeOf::deconstruct);
+        let ranges = bounds.filter(|it| it.0 < it.1).map(|it| (it.0, it.1 - 1));
+        plain(CodePointInversionList::from_valid_slice(&ends_of(ranges.collect())))
+    }
+}
+
 macro_rules! collected {
     ($($item:ty)*) => {
         $(
@@ -113,7 +126,7 @@ macro_rules! collected {
     };
 }
 
-collected! { char RangeInclusive<u32> }
+collected! { char RangeInclusive<char> RangeInclusive<u32> }
 
 impl From<CodePointInversionList<'_>> for CodePointInversionListBuilder {
     /// Returns a builder that holds the set, to be changed.

@@ -26,19 +26,19 @@ impl<'a> Strings<'a> {
 
     /// Returns the strings as a slice.
     #[must_use]
-    pub fn as_slice(self) -> &'a [String] {
+    pub const fn as_slice(self) -> &'a [String] {
         self.strings
     }
 
     /// Returns the number of strings.
     #[must_use]
-    pub fn len(self) -> usize {
+    pub const fn len(self) -> usize {
         self.strings.len()
     }
 
     /// Returns true if there are no strings.
     #[must_use]
-    pub fn is_empty(self) -> bool {
+    pub const fn is_empty(self) -> bool {
         self.strings.is_empty()
     }
 
@@ -110,7 +110,20 @@ impl fmt::Debug for Strings<'_> {
     }
 }
 
-/// A list of strings for [`try_from`] under the Rust crate's name. It is stored as a `Vec<String>`.
+/// A list of strings for [`try_from`] under the Rust crate's name. It is stored as a `Vec<String>`,
+/// which [`try_from`] takes too.
+///
+/// ```
+/// use bekstaudi::codepointinvlist::CodePointInversionList;
+/// use bekstaudi::codepointinvliststringlist::CodePointInversionListAndStringList;
+/// use bekstaudi::zerovec::VarZeroVec;
+///
+/// let strings = VarZeroVec::from(&["ab", "cd"]);
+/// let digits = CodePointInversionList::try_from('0'..='9')?;
+/// let set = CodePointInversionListAndStringList::try_from(digits, strings)?;
+/// assert!(set.contains('7') && set.contains_str("cd"));
+/// # Ok::<(), Box<dyn std::error::Error>>(())
+/// ```
 ///
 /// [`try_from`]: crate::codepointinvliststringlist::CodePointInversionListAndStringList::try_from
 #[derive(Clone, Debug, PartialEq, Eq)]

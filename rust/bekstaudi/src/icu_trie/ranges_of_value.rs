@@ -11,7 +11,7 @@ impl<'trie, T: TrieValue> CodePointTrie<'trie, T> {
     /// If the trie is coherent, as every built one is, these are the maximal runs of the value. If
     /// no code point has the value, there are none.
     #[inline]
-    pub fn iter_ranges_for_value(&self, value: T) -> IterRangesForValue<'_, T> {
+    pub const fn iter_ranges_for_value(&self, value: T) -> IterRangesForValue<'_, T> {
         IterRangesForValue {
             ranges: self.iter_ranges(),
             value,

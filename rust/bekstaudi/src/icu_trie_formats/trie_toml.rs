@@ -264,7 +264,7 @@ impl CodePointTrieToml {
     /// Returns the cells of the index.
     #[must_use]
     #[inline]
-    pub fn index_slice(&self) -> &[u16] {
+    pub const fn index_slice(&self) -> &[u16] {
         self.index.as_slice()
     }
 
@@ -274,7 +274,7 @@ impl CodePointTrieToml {
     /// # Errors
     /// Returns `FromDeserialized` if the table has none of them.
     #[inline]
-    pub fn data_slice(&self) -> Result<CodePointDataSlice<'_>, CodePointTrieError> {
+    pub const fn data_slice(&self) -> Result<CodePointDataSlice<'_>, CodePointTrieError> {
         if let Some(cells) = &self.data_8 {
             Ok(CodePointDataSlice::U8(cells.as_slice()))
         } else if let Some(cells) = &self.data_16 {

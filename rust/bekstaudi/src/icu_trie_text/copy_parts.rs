@@ -5,7 +5,7 @@ use crate::icu_trie_text::first_utf8::{
 };
 
 /// How many values a function copied to a buffer, and how many bytes of the text they stand for.
-#[derive(Clone, Copy, Debug)]
+#[derive(Clone, Copy, Debug, PartialEq, Eq, Hash)]
 pub struct Copied {
     /// The number of values at the start of the buffer.
     pub values: usize,

@@ -252,7 +252,7 @@ impl<'a, T: AsULE> ZeroVec<'a, T> {
     /// Returns a view of the vector.
     #[must_use]
     #[inline]
-    pub fn as_slice(&self) -> ZeroSlice<'_, T> {
+    pub const fn as_slice(&self) -> ZeroSlice<'_, T> {
         ZeroSlice::from_packed(self.bytes())
     }
 }

@@ -3,13 +3,16 @@
 use bekstaudi::char16trie::{Char16Trie, Char16TrieBuilder};
 use bekstaudi::codepointinvlist::{
     CodePointInversionList, CodePointInversionListBuilder, FrozenCodePointSet,
-    FrozenCodePointSetAndStrings, Span,
+    FrozenCodePointSetAndStrings, InvalidStaticSet, Span,
 };
-use bekstaudi::codepointinvliststringlist::CodePointInversionListAndStringList;
+use bekstaudi::codepointinvliststringlist::{CodePointInversionListAndStringList, Strings};
 use bekstaudi::codepointtrie::binary::{from_binary_any, to_binary};
 use bekstaudi::codepointtrie::planes::get_planes_trie;
-use bekstaudi::codepointtrie::{CodePointTrieBuilder, TrieType, Typed};
-use bekstaudi::zerovec::ZeroVec;
+use bekstaudi::codepointtrie::{
+    CodePointTrie, CodePointTrieBuilder, FastCodePointTrie, IterRangesForValue, SmallCodePointTrie, TrieType, Typed, text,
+};
+use bekstaudi::zeroslice;
+use bekstaudi::zerovec::{ZeroSlice, ZeroVec};
 use std::collections::BTreeSet;
 use std::fmt::Debug;
 use std::hash::{BuildHasher, BuildHasherDefault, DefaultHasher, Hash};
@@ -92,6 +95,11 @@ fn sets_collect_ranges() {
             set
         );
     }
+    let letters: CodePointInversionList = ['x'..='z', 'a'..='c', 'b'..='f'].into_iter().collect();
+    assert_eq!(letters.get_inversion_list_vec(), [0x61, 0x67, 0x78, 0x7B]);
+    let mut builder: CodePointInversionListBuilder = ['\u{D7FF}'..='\u{E000}'].into_iter().collect();
+    builder.extend(['a'..='a']);
+    assert_eq!(builder.build().size(), 0x803);
     let whole: CodePointInversionList = [0..=0x10_FFFF].into_iter().collect();
     assert_eq!(whole, CodePointInversionList::all());
     let none: CodePointInversionList = [0..=0x11_0000, 7..=6].into_iter().collect();
@@ -167,6 +175,43 @@ fn iterators_clone_and_end() -> Result<(), Box<dyn std::error::Error>> {
     assert!(entries.advance());
     assert!(entries.clone().advance() && entries.key() == "a");
     Ok(())
+}
+
+#[test]
+fn results_are_compared_and_hashed() {
+    let trie = get_planes_trie();
+    let mut buffer = [0; 4];
+    let copied = text::copy_values(&trie, b"ab", &mut buffer);
+    assert_eq!(copied, text::copy_values(&trie, b"cd", &mut buffer));
+    assert_ne!(copied, text::copy_values(&trie, b"a", &mut buffer));
+    clones(&copied);
+    clones(&InvalidStaticSet);
+}
+
+// What constants can call.
+static BUILDER: CodePointInversionListBuilder = CodePointInversionListBuilder::new();
+const BUILDER_IS_EMPTY: bool = BUILDER.is_empty();
+const NUMBERS: ZeroVec<'static, u16> = zeroslice!(u16; [1, 2]).as_zerovec();
+const NUMBERS_AGAIN: ZeroSlice<'static, u16> = NUMBERS_STATIC.as_slice();
+static NUMBERS_STATIC: ZeroVec<'static, u16> = NUMBERS;
+const fn ranges<'a>(trie: &'a CodePointTrie<'_, u8>) -> IterRangesForValue<'a, u8> {
+    trie.iter_ranges_for_value(1)
+}
+const fn typed(trie: CodePointTrie<'_, u8>) -> Typed<FastCodePointTrie<'_, u8>, SmallCodePointTrie<'_, u8>> {
+    trie.to_typed()
+}
+const fn count(strings: Strings<'_>) -> usize {
+    if strings.is_empty() { 0 } else { strings.len() + strings.as_slice().len() }
+}
+
+#[test]
+fn constants_call_getters() {
+    const { assert!(BUILDER_IS_EMPTY) };
+    assert_eq!(NUMBERS_AGAIN.iter().collect::<Vec<_>>(), [1, 2]);
+    assert_eq!(ranges(&get_planes_trie()).next(), Some(0x1_0000..=0x1_FFFF));
+    assert!(matches!(typed(get_planes_trie()), Typed::Small(_)));
+    let texts: CodePointInversionListAndStringList = ["ab", "abc"].into_iter().collect();
+    assert_eq!(count(texts.strings()), 4);
 }
 
 #[test]

@@ -44,7 +44,7 @@ impl CodePointInversionListBuilder {
     /// Returns true if the set contains no code points.
     #[must_use]
     #[inline]
-    pub fn is_empty(&self) -> bool {
+    pub const fn is_empty(&self) -> bool {
         self.ends.is_empty()
     }
 
