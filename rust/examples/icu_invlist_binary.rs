@@ -1,3 +1,10 @@
+//# serialized mod
+use bekstaudi::codepointinvlist::{CodePointInversionList, serialized};
+
+let set = CodePointInversionList::try_from('a'..='z')?;
+let units = serialized::to_serialized(&set)?;
+assert_eq!(units, [2, 0x61, 0x7B]);
+assert_eq!(serialized::from_serialized(&units)?.0, set);
 //# serialized to_serialized
 use bekstaudi::codepointinvlist::CodePointInversionList;
 use bekstaudi::codepointinvlist::serialized::to_serialized;

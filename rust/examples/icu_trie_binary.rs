@@ -1,3 +1,12 @@
+//# binary mod
+use bekstaudi::codepointtrie::{CodePointTrieBuilder, TrieType, binary};
+
+let mut builder = CodePointTrieBuilder::new(0u8, 9, TrieType::Small);
+builder.set_range_value(0x41..=0x5A, 1);
+let bytes = binary::to_binary(&builder.build())?;
+// The bytes of a file are read in place, at any address.
+let (trie, size) = binary::from_binary::<u8>(&bytes)?;
+assert_eq!((trie.get('A'), size), (1, bytes.len()));
 //# binary from_binary
 use bekstaudi::codepointtrie::binary::{from_binary, to_binary};
 use bekstaudi::codepointtrie::planes::get_planes_trie;

@@ -1,3 +1,11 @@
+//# json mod
+use bekstaudi::codepointtrie::{CodePointTrieBuilder, TrieType, json};
+
+let mut builder = CodePointTrieBuilder::new(0u8, 9, TrieType::Small);
+builder.set_range_value(0x41..=0x5A, 1);
+let trie = builder.build();
+let text = json::to_json(&trie)?.to_string();
+assert_eq!(json::from_json::<u8>(&serde_json::from_str(&text)?)?, trie);
 //# json from_json
 use bekstaudi::codepointtrie::json::{from_json, to_json};
 use bekstaudi::codepointtrie::planes::get_planes_trie;

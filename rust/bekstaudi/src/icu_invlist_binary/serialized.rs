@@ -10,6 +10,16 @@
 //!
 //! For example, the set of `a` to `z` and U+1F600 to U+10FFFF is `[0x8004, 2, 0x61, 0x7B, 1,
 //! 0xF600]`.
+//!
+//! ```
+//! use bekstaudi::codepointinvlist::{CodePointInversionList, serialized};
+//!
+//! let set = CodePointInversionList::try_from('a'..='z')?;
+//! let units = serialized::to_serialized(&set)?;
+//! assert_eq!(units, [2, 0x61, 0x7B]);
+//! assert_eq!(serialized::from_serialized(&units)?.0, set);
+//! # Ok::<(), Box<dyn std::error::Error>>(())
+//! ```
 
 use crate::icu_invlist::codepointinvlist::CodePointInversionList;
 pub use crate::icu_invlist_binary::error::{SerializeError, SerializedSetError, WriteError};

@@ -190,6 +190,20 @@ impl<'trie, T: TrieValue> TypedCodePointTrie<'trie, T> for SmallCodePointTrie<'t
 }
 
 /// A trie together with its type.
+///
+/// ```
+/// use bekstaudi::codepointtrie::{CodePointTrieBuilder, TrieType, Typed, TypedCodePointTrie};
+///
+/// let mut builder = CodePointTrieBuilder::new(0u8, 9, TrieType::Fast);
+/// builder.set_value(0x41, 1);
+/// let trie = builder.build();
+/// // A look-up in a typed trie does not test the type again.
+/// let count = |text: &str| match trie.as_typed_ref() {
+///     Typed::Fast(fast) => text.chars().filter(|c| fast.get(*c) == 1).count(),
+///     Typed::Small(small) => text.chars().filter(|c| small.get(*c) == 1).count(),
+/// };
+/// assert_eq!(count("ABA"), 2);
+/// ```
 #[derive(Clone, Copy, Debug, PartialEq, Eq, Hash)]
 pub enum Typed<F, S> {
     /// The trie is of the type `Fast`.

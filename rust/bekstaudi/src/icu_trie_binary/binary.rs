@@ -1,5 +1,17 @@
 //! Reads tries from ICU's binary form, which `ucptrie_toBinary` writes, in place; and writes tries
 //! in this form.
+//!
+//! ```
+//! use bekstaudi::codepointtrie::{CodePointTrieBuilder, TrieType, binary};
+//!
+//! let mut builder = CodePointTrieBuilder::new(0u8, 9, TrieType::Small);
+//! builder.set_range_value(0x41..=0x5A, 1);
+//! let bytes = binary::to_binary(&builder.build())?;
+//! // The bytes of a file are read in place, at any address.
+//! let (trie, size) = binary::from_binary::<u8>(&bytes)?;
+//! assert_eq!((trie.get('A'), size), (1, bytes.len()));
+//! # Ok::<(), Box<dyn std::error::Error>>(())
+//! ```
 
 use crate::icu_trie::cptrie::CodePointTrie;
 use crate::icu_trie::header::CodePointTrieHeader;

@@ -1,4 +1,15 @@
 //! Reads and writes a trie as JSON: an object with a header, an index and data.
+//!
+//! ```
+//! use bekstaudi::codepointtrie::{CodePointTrieBuilder, TrieType, json};
+//!
+//! let mut builder = CodePointTrieBuilder::new(0u8, 9, TrieType::Small);
+//! builder.set_range_value(0x41..=0x5A, 1);
+//! let trie = builder.build();
+//! let text = json::to_json(&trie)?.to_string();
+//! assert_eq!(json::from_json::<u8>(&serde_json::from_str(&text)?)?, trie);
+//! # Ok::<(), Box<dyn std::error::Error>>(())
+//! ```
 
 use crate::icu_trie::cptrie::CodePointTrie;
 use crate::icu_trie::error::{CodePointTrieError, PartsError};
