@@ -48,7 +48,7 @@ where
     }
 }
 
-/// Turns from the front, from the back, and mixed.
+/// Turns at the start only, at the end only, and at both.
 const TURNS: [u64; 5] = [0, u64::MAX, 0x5555_5555_5555_5555, 0xF0F3_0C11_8E5A_77E1, 1];
 
 fn is_whole_set(set: &CodePointInversionList<'_>) {
