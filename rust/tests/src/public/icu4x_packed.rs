@@ -2,6 +2,7 @@
 //! implement. The packed types of single values are arrays of bytes here.
 
 use bekstaudi::codepointinvlist::CodePointInversionList;
+use bekstaudi::codepointinvliststringlist::CodePointInversionListAndStringList;
 use bekstaudi::codepointtrie::planes::get_planes_trie;
 use bekstaudi::codepointtrie::{CodePointTrie, CodePointTrieBuilder, TrieType, TrieValue};
 use bekstaudi::zerovec::ule::{AsULE as Packed, UleError};
@@ -122,4 +123,72 @@ fn sets_have_an_unsized_form() {
         assert!(CodePointInversionListULE::parse_bytes(&bytes).is_err());
     }
     assert!(CodePointInversionListULE::parse_bytes(&[1, 0, 0]).is_err());
+}
+
+/// The packed form of a set with strings: the number of bytes of the packed set, that set, and each
+/// string with its number of bytes before it. zerovec has all these numbers in one list.
+#[repr(transparent)]
+struct CodePointInversionListAndStringListULE([u8]);
+
+/// Takes a part and its number of bytes off the start.
+fn take_part<'a>(bytes: &mut &'a [u8]) -> Option<&'a [u8]> {
+    let (count, rest) = bytes.split_first_chunk::<4>()?;
+    let (part, rest) = rest.split_at_checked(u32::from_le_bytes(*count) as usize)?;
+    *bytes = rest;
+    Some(part)
+}
+
+/// Returns the set of its packed form, if it is one.
+fn unpacked(mut bytes: &[u8]) -> Option<CodePointInversionListAndStringList<'_>> {
+    let set = CodePointInversionListULE::parse_bytes(take_part(&mut bytes)?).ok()?.set();
+    let mut strings = Vec::new();
+    while !bytes.is_empty() {
+        strings.push(str::from_utf8(take_part(&mut bytes)?).ok()?.to_string());
+    }
+    CodePointInversionListAndStringList::try_from(set, strings).ok()
+}
+
+impl VarULE for CodePointInversionListAndStringListULE {
+    fn parse_bytes(bytes: &[u8]) -> Result<&Self, UleError> {
+        unpacked(bytes).ok_or(UleError::Cell(0))?;
+        // SAFETY: the type is transparent over its bytes.
+        Ok(unsafe { &*(std::ptr::from_ref(bytes) as *const Self) })
+    }
+
+    fn as_bytes(&self) -> &[u8] {
+        &self.0
+    }
+}
+
+impl EncodeAsVarULE<CodePointInversionListAndStringListULE> for CodePointInversionListAndStringList<'_> {
+    fn encode_var_ule_len(&self) -> usize {
+        let strings: usize = self.strings().iter().map(|it| 4 + it.len()).sum();
+        4 + self.code_points().encode_var_ule_len() + strings
+    }
+
+    fn encode_var_ule_write(&self, bytes: &mut [u8]) {
+        let mut set = vec![0; self.code_points().encode_var_ule_len()];
+        self.code_points().encode_var_ule_write(&mut set);
+        let parts = std::iter::once(&*set).chain(self.strings().iter().map(str::as_bytes));
+        let packed: Vec<u8> = parts.flat_map(|it| [&(it.len() as u32).to_le_bytes(), it].concat()).collect();
+        bytes.copy_from_slice(&packed);
+    }
+}
+
+#[test]
+fn sets_with_strings_have_an_unsized_form() {
+    let set: CodePointInversionListAndStringList = ["a", "abc", "xyz"].into_iter().collect();
+    let mut bytes = vec![0; set.encode_var_ule_len()];
+    set.encode_var_ule_write(&mut bytes);
+    let unaligned = CodePointInversionListAndStringListULE::parse_bytes(&bytes).expect("a set");
+    assert_eq!((unpacked(unaligned.as_bytes()), unaligned.as_bytes()), (Some(set), &*bytes));
+    for i in 0..bytes.len() {
+        // What is cut after the set or after a string is a set too.
+        let is_cut = CodePointInversionListAndStringListULE::parse_bytes(&bytes[..i]).is_err();
+        assert_eq!(is_cut, ![14, 21].contains(&i), "{i}");
+    }
+    // Strings that are not sorted.
+    let last = bytes.len() - 1;
+    bytes[last - 2] = 0x41;
+    assert!(CodePointInversionListAndStringListULE::parse_bytes(&bytes).is_err());
 }
