@@ -279,11 +279,11 @@ fn parts_of_sets_are_tested() {
 #[test]
 #[should_panic(expected = "the boundaries are not an inversion list")]
 fn a_baked_set_is_tested() {
-    CodePointInversionList::from_parts_unchecked([PotentialCodePoint::try_from(1).unwrap()].into_iter().collect(), 1);
+    let _ = CodePointInversionList::from_parts_unchecked([PotentialCodePoint::try_from(1).unwrap()].into_iter().collect(), 1);
 }
 
 #[test]
 #[should_panic(expected = "the data are empty")]
 fn a_baked_trie_is_tested() {
-    CodePointTrie::from_parts_unstable_unchecked_v1(HEADER, ZeroVec::new(), ZeroVec::new(), 0u8, 0);
+    let _ = CodePointTrie::from_parts_unstable_unchecked_v1(HEADER, ZeroVec::new(), ZeroVec::new(), 0u8, 0);
 }
