@@ -57,7 +57,10 @@ UNKNOWN = [
 ]
 # Forms that it knows, and what they become.
 KNOWN = {
-    "use std::marker::{Brand, PhantomData};\n": "use core::marker::PhantomData;\n",
+    "use std::marker::{Brand, PhantomData};\nstruct S(PhantomData<u8>);\n":
+        "use core::marker::PhantomData;\nstruct S(PhantomData<u8>);\n",
+    "use std::cmp::{self, Ordering};\nuse std::fmt::Debug;\nstruct S(Ordering);\n":
+        "use core::cmp::{Ordering};\nstruct S(Ordering);\n",
 }
 # Changes of c/bekstaudi.h after which it no longer declares what icu_collections_c has.
 OTHER_HEADERS = [
