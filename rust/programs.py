@@ -79,8 +79,19 @@ EDITS = {
         (r"(fn \w+)<'a>", r"\1", 8),
     ],
     "ucd_files/read": [(r"(missing\.append\(&mut explicit\))\?", r"\1", 1)],
-    "ucd_files/value_names": [(r"\.entry\((.*)\)\?\.or_default\(\)", r".try_or_default(\1)?", 1)],
-    # What clippy would write in another form.
+    "ucd_files/value_names": [
+        (r"\.entry\((.*)\)\?\.or_default\(\)", r".try_or_default(\1)?", 1),
+        # What clippy would write in another form, as all up to serde_json.
+        (r"(if let Some\(name\) = names\.get\(\*index\)) \{\s*if (.*) \{\s*(.*)\s*\}\s*\}", r"\1 && \2 { \3 }", 1),
+    ],
+    "bzip2_reader/codes": [(r"length < 1 \|\| length > LONGEST", "!(1..=LONGEST).contains(&length)", 1)],
+    "bzip2_reader/recent": [(r"let next = \*item;\s*\*item = moved;\s*moved = next;", "core::mem::swap(item, &mut moved);", 1)],
+    "bzip2_reader/symbols": [(r"count < 2 \|\| count > MOST_TABLES", "!(2..=MOST_TABLES).contains(&count)", 1)],
+    "bzip2_reader/transform": [
+        (r"(column\.weight) = column\.weight << 1", r"\1 <<= 1", 1),
+        (r"(\*cell) = \*cell \| i << 8", r"\1 |= i << 8", 1),
+    ],
+    "ucptrie/compressed": [(r"starts_with\(\*start\)", "starts_with(start)", 1)],
     "ucptrie_sets/source": [(r"(set\.size\(\)) as usize", r"\1", 1)],
     "ucptrie_words/line": [
         (r"match (str::from_utf8\(bytes\)) \{\s*Ok\(text\) => Some\(text\),\s*Err\(_\) => None,\s*\}", r"\1.ok()", 1),

@@ -34,7 +34,7 @@ pub struct Codes {
 fn read_length(reader: &mut BitReader<'_>, last: u8) -> Result<u8, Bzip2Error> {
     let mut length = last;
     for _ in 0..u64::MAX {
-        if length < 1 || length > LONGEST {
+        if !(1..=LONGEST).contains(&length) {
             return Err(Bzip2Error::Malformed);
         }
         if bit(reader)? == 0 {

@@ -13,9 +13,7 @@ pub fn take(recent: &mut Recent, index: u8) -> u8 {
     let taken = recent.items[usize::from(index)];
     let mut moved = taken;
     for item in &mut recent.items[..usize::from(index) + 1] {
-        let next = *item;
-        *item = moved;
-        moved = next;
+        core::mem::swap(item, &mut moved);
     }
     taken
 }

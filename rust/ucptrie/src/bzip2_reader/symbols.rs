@@ -87,7 +87,7 @@ fn read_all_codes(
 pub fn read_tables(reader: &mut BitReader<'_>) -> Result<Tables, Bzip2Error> {
     let used = read_used(reader)?;
     let count = bits(reader, 3)? as u8;
-    if used.is_empty() || used.len() > 256 || count < 2 || count > MOST_TABLES {
+    if used.is_empty() || used.len() > 256 || !(2..=MOST_TABLES).contains(&count) {
         return Err(Bzip2Error::Malformed);
     }
     let selectors = read_selectors(reader, count)?;

@@ -37,7 +37,7 @@ fn count_run(column: &mut Column, digit: u16) -> Result<(), Bzip2Error> {
         column.weight << 1
     };
     column.run = column.run.saturating_add(more);
-    column.weight = column.weight << 1;
+    column.weight <<= 1;
     if column.run > column.limit {
         return Err(Bzip2Error::Malformed);
     }
@@ -151,7 +151,7 @@ fn cells_of(bytes: &[u8]) -> Result<Vec<u32>, Bzip2Error> {
     for (i, byte) in (0u32..).zip(bytes) {
         let start = &mut starts[usize::from(*byte)];
         let cell: &mut u32 = cells.get_mut(*start).ok_or(Bzip2Error::Malformed)?;
-        *cell = *cell | i << 8;
+        *cell |= i << 8;
         *start = start.saturating_add(1);
     }
     Ok(cells)

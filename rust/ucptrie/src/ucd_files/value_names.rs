@@ -51,10 +51,10 @@ fn number_among(
     text: &[u8],
 ) -> Option<usize> {
     for index in indices {
-        if let Some(name) = names.get(*index) {
-            if is_match(matching, name.text, text) {
-                return Some(name.number);
-            }
+        if let Some(name) = names.get(*index)
+            && is_match(matching, name.text, text)
+        {
+            return Some(name.number);
         }
     }
     None

@@ -46,7 +46,7 @@ pub fn unpacked(name: &str, bytes: Vec<u8>) -> Result<Vec<u8>, Fault> {
 /// were read from.
 pub fn expect_text(name: &str, bytes: &[u8]) -> Result<(), Fault> {
     for (start, why) in OTHERS.iter() {
-        if bytes.starts_with(*start) {
+        if bytes.starts_with(start) {
             return Err(about(name, *why));
         }
     }
