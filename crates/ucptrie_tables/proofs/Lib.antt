@@ -8,6 +8,7 @@ mod RebuildLemmas
 mod ShownLemmas
 mod SizeLemmas
 mod SourceLemmas
+mod SourceTexts
 mod StatedLemmas
 mod TableLemmas
 mod TomlLemmas

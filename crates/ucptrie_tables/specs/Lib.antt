@@ -9,6 +9,7 @@ pub mod UnicodeFiles
 pub mod Shown
 pub mod Source
 pub mod Stated
+pub mod TableSource
 pub mod Tables
 pub mod TomlFiles
 pub mod ValueIdentifiers

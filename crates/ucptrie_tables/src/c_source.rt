@@ -1,5 +1,8 @@
 //! A table as source in C.
-use crate::cells::push_cells;
+ghost use Rattle.std.specs.Prelude.{◌≡◌, ◌++◌, IfOk, OnOk, string_bytes};
+ghost use Rattle.ucptrie_tables.specs.TableSource.{c_data, c_index, c_look_up, c_numbers, c_struct, c_text};
+
+use crate::cells::{push_data, push_index};
 use crate::source::{header_numbers, index1_offset, push_sizes};
 use crate::table::Table;
 use std::alloc::{AllocError, Global};
@@ -27,9 +30,12 @@ static inline uint32_t @_get(uint32_t c) {
 }
 ";
 
-/// Appends the two arrays.
-fn push_arrays(text: &mut String, table: &Table, name: &str) -> Result<(), AllocError> {
-    let (_, index, values) = table.trie.parts();
+/// Appends the array of the index, up to the end of its cells.
+fn push_index_array(text: &mut String, table: &Table, name: &str) -> Result<(), AllocError>
+    ensures { OnOk result (string_bytes text.new
+        ≡ string_bytes text.old ++ c_index name.now table.now) }
+{
+    let (_, index, _) = table.trie.parts();
     let size = [Decimal(index.len())];
     push_pattern(
         text,
@@ -37,16 +43,25 @@ fn push_arrays(text: &mut String, table: &Table, name: &str) -> Result<(), Alloc
         name,
         &size,
     )?;
-    push_cells(text, index, "")?;
+    push_index(text, table, "")
+}
+
+/// Appends the array of the data, up to the end of its cells.
+fn push_data_array(text: &mut String, table: &Table, name: &str) -> Result<(), AllocError>
+    ensures { OnOk result (string_bytes text.new
+        ≡ string_bytes text.old ++ c_data name.now table.now) }
+{
+    let (_, _, values) = table.trie.parts();
     let sizes = [Decimal(table.width.bits() as usize), Decimal(values.len())];
     let front = "\n};\n\nstatic const uint%_t @_trieData[%]={\n";
     push_pattern(text, front, name, &sizes)?;
-    push_cells(text, values, "")?;
-    text.push_str("\n};\n\n")
+    push_data(text, table, "")
 }
 
-/// The numbers that the look-up needs.
-const NUMBERS: &str = "\
+/// What follows the data: the numbers that the look-up needs.
+const NUMBERS: &str = "
+};
+
 enum {
     @_fastLimit = %,
     @_highStart = %,
@@ -56,8 +71,11 @@ enum {
 
 ";
 
-/// Appends the numbers that the look-up needs.
-fn push_numbers(text: &mut String, table: &Table, name: &str) -> Result<(), AllocError> {
+/// Appends the end of the data, and the numbers that the look-up needs.
+fn push_numbers(text: &mut String, table: &Table, name: &str) -> Result<(), AllocError>
+    ensures { OnOk result (string_bytes text.new
+        ≡ string_bytes text.old ++ c_numbers name.now table.now) }
+{
     let (header, _, values) = table.trie.parts();
     let numbers = [
         Hexadecimal(header.trie_type.fast_limit()),
@@ -85,15 +103,34 @@ static const UCPTrie @_trie={
 #endif
 ";
 
+/// Appends the trie for ICU.
+fn push_struct(text: &mut String, table: &Table, name: &str) -> Result<(), AllocError>
+    ensures { OnOk result (string_bytes text.new
+        ≡ string_bytes text.old ++ c_struct name.now table.now) }
+{
+    push_pattern(text, STRUCT, name, &header_numbers(table))
+}
+
+/// Appends the look-up.
+#[tactic(auto, unfolding(crate::specs::TableSource::c_look_up))]
+fn push_look_up(text: &mut String, name: &str) -> Result<(), AllocError>
+    ensures { OnOk result (string_bytes text.new ≡ string_bytes text.old ++ c_look_up name.now) }
+{
+    push_named(text, LOOK_UP, name)
+}
+
 /// Returns the table in C: the two arrays, a look-up over them that needs no ICU, and the trie for
 /// ICU if its header is included before.
-pub(crate) fn c_text(alloc: Global, table: &Table, name: &str) -> Result<String, AllocError> {
+pub(crate) fn c_text(alloc: Global, table: &Table, name: &str) -> Result<String, AllocError>
+    ensures { IfOk result (λ text. string_bytes text ≡ c_text name.now table.now) }
+{
     let mut text = String::new(alloc);
     push_sizes(&mut text, table)?;
     text.push_str("\n#include <stdint.h>\n\n")?;
-    push_arrays(&mut text, table, name)?;
+    push_index_array(&mut text, table, name)?;
+    push_data_array(&mut text, table, name)?;
     push_numbers(&mut text, table, name)?;
-    push_named(&mut text, LOOK_UP, name)?;
-    push_pattern(&mut text, STRUCT, name, &header_numbers(table))?;
+    push_look_up(&mut text, name)?;
+    push_struct(&mut text, table, name)?;
     Ok(text)
 }

@@ -23,12 +23,14 @@
 #![tactic(auto)]
 
 ghost use Rattle.std.specs.Prelude.{◌≡◌, ◌++◌, ℕ, List, [], ◌∷◌, Err, IfErr, IfOk};
+ghost use Rattle.std.specs.Borrow.{Bor};
 ghost use Rattle.serde_json.specs.Written.{compact_text};
 ghost use Rattle.icu_trie_formats.specs.TrieJson.{json_of};
 ghost use Rattle.ucptab_table.specs.TableText.{IsFirstFault, IsTableText, IsTooLargeInput};
 ghost use Rattle.ucptab_table.specs.declared.fault.RowFault.{RowFault};
 ghost use Rattle.ucptab_table.specs.declared.fault.TableError.TheVariants.{Row, TooLarge};
 ghost use Rattle.ucptrie_tables.specs.Stated.{stating_lines};
+ghost use Rattle.ucptrie_tables.specs.TableSource.{c_text, rust_text, toml_text};
 ghost use Rattle.ucptrie_tables.specs.Tables.{binary_bytes, IsTableOf, IsWhyNotBuilt};
 ghost use Rattle.ucptrie_tables.specs.declared.fault.BuildFault.TheVariants.{Table as TableFault};
 ghost use Rattle.ucptrie_tables.specs.declared.table.Table.{Table};
@@ -87,6 +89,14 @@ pub fn built(
     ensures json { form.entry ≡ Form.Json → IfOk result
         (λ bytes. (t : Table) × (IsTableOf rows.now options t
         × (bytes.items ≡ compact_text (json_of (λ n. n) t.trie) ++ 10 ∷ []))) }
+    ensures toml { form.entry ≡ Form.Toml → IfOk result
+        (λ bytes. (t : Table) × (IsTableOf rows.now options t × (bytes.items ≡ toml_text t))) }
+    ensures c { (name : Bor (List ℕ)) → form.entry ≡ Form.C name → IfOk result
+        (λ bytes. (t : Table)
+        × (IsTableOf rows.now options t × (bytes.items ≡ c_text name.now t))) }
+    ensures rust { (name : Bor (List ℕ)) → form.entry ≡ Form.Rust name → IfOk result
+        (λ bytes. (t : Table)
+        × (IsTableOf rows.now options t × (bytes.items ≡ rust_text name.now t))) }
     ensures err { IfErr result (IsWhyNotBuilt rows.now options form.entry) }
     ensures row { (k : ℕ) (f : RowFault) → result ≡ Err (TableFault (Row k f))
         → IsFirstFault rows.now k f }

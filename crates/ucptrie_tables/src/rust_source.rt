@@ -1,13 +1,18 @@
 //! A table as source in Rust.
-use crate::cells::push_cells;
+ghost use Rattle.std.specs.Prelude.{◌≡◌, ◌++◌, IfOk, OnOk, string_bytes};
+ghost use Rattle.ucptrie_tables.specs.TableSource.{rust_data, rust_head, rust_index, rust_text};
+
+use crate::cells::{push_data, push_index};
 use crate::source::{index1_offset, push_sizes, type_code};
 use crate::table::Table;
 use std::alloc::{AllocError, Global};
 use ucptrie_source::pattern::Number::{Decimal, Hexadecimal};
 use ucptrie_source::pattern::push_pattern;
 
-/// The look-up, by the three stages of the format.
+/// The end of the data, and the look-up, by the three stages of the format.
 const LOOK_UP: &str = "
+    ];
+
     fn index(place: u32) -> u32 {
         u32::from(INDEX[place as usize])
     }
@@ -55,7 +60,10 @@ pub mod @ {
 ";
 
 /// Appends the head of the module.
-fn push_head(text: &mut String, table: &Table, name: &str) -> Result<(), AllocError> {
+fn push_head(text: &mut String, table: &Table, name: &str) -> Result<(), AllocError>
+    ensures { OnOk result (string_bytes text.new
+        ≡ string_bytes text.old ++ rust_head name.now table.now) }
+{
     let (header, _, _) = table.trie.parts();
     let numbers = [
         Decimal(table.width.bits() as usize),
@@ -71,24 +79,37 @@ fn push_head(text: &mut String, table: &Table, name: &str) -> Result<(), AllocEr
     push_pattern(text, HEAD, name, &numbers)
 }
 
-/// Appends the two arrays.
-fn push_arrays(text: &mut String, table: &Table) -> Result<(), AllocError> {
-    let (_, index, values) = table.trie.parts();
+/// Appends the array of the index, up to the end of its cells.
+fn push_index_array(text: &mut String, table: &Table) -> Result<(), AllocError>
+    ensures { OnOk result (string_bytes text.new
+        ≡ string_bytes text.old ++ rust_index table.now) }
+{
+    let (_, index, _) = table.trie.parts();
     let front = "    #[rustfmt::skip]\n    pub static INDEX: [u16; %] = [\n";
     push_pattern(text, front, "", &[Decimal(index.len())])?;
-    push_cells(text, index, "")?;
+    push_index(text, table, "")
+}
+
+/// Appends the array of the data, up to the end of its cells.
+fn push_data_array(text: &mut String, table: &Table) -> Result<(), AllocError>
+    ensures { OnOk result (string_bytes text.new
+        ≡ string_bytes text.old ++ rust_data table.now) }
+{
+    let (_, _, values) = table.trie.parts();
     let front = "\n    ];\n\n    #[rustfmt::skip]\n    pub static DATA: [Value; %] = [\n";
     push_pattern(text, front, "", &[Decimal(values.len())])?;
-    push_cells(text, values, "")?;
-    text.push_str("\n    ];\n")
+    push_data(text, table, "")
 }
 
 /// The table in Rust: a module with the header, the two arrays and a look-up over them.
-pub(crate) fn rust_text(alloc: Global, table: &Table, name: &str) -> Result<String, AllocError> {
+pub(crate) fn rust_text(alloc: Global, table: &Table, name: &str) -> Result<String, AllocError>
+    ensures { IfOk result (λ text. string_bytes text ≡ rust_text name.now table.now) }
+{
     let mut text = String::new(alloc);
     push_sizes(&mut text, table)?;
     push_head(&mut text, table, name)?;
-    push_arrays(&mut text, table)?;
+    push_index_array(&mut text, table)?;
+    push_data_array(&mut text, table)?;
     text.push_str(LOOK_UP)?;
     Ok(text)
 }

@@ -1,8 +1,13 @@
 //! What the sources in C and in Rust have in common.
-ghost use Rattle.std.specs.Prelude.{◌≡◌};
+ghost use Rattle.std.specs.Prelude.{◌≡◌, ◌++◌, ◌*◌, ◌^◌, ◌<◌, OnOk, string_bytes};
+ghost use Rattle.icu_trie_core.specs.Format.{index1_start};
+ghost use Rattle.icu_trie_core.specs.ValueNumbers.{type_number};
 ghost use Rattle.ucptrie_tables.specs.Source.{is_name, is_name_byte};
+ghost use Rattle.ucptrie_tables.specs.TableSource.{header_numbers, sizes_text, type_name};
+ghost use Rattle.ucptrie_tables.specs.ValueWidth.{bytes_of};
 
 use crate::table::Table;
+use crate::width::ValueWidth;
 use icu_trie::header::TrieType;
 use std::alloc::AllocError;
 use ucptrie_source::pattern::Number::{self, Decimal, Hexadecimal};
@@ -29,7 +34,9 @@ pub fn is_name(text: &str) -> bool
 }
 
 /// Returns the name of a type, as in `ucptab`'s arguments.
-pub(crate) fn type_name(trie_type: TrieType) -> &'static str {
+pub(crate) fn type_name(trie_type: TrieType) -> &'static str
+    ensures { result.now ≡ type_name trie_type }
+{
     match trie_type {
         TrieType::Fast => "fast",
         TrieType::Small => "small",
@@ -37,7 +44,9 @@ pub(crate) fn type_name(trie_type: TrieType) -> &'static str {
 }
 
 /// Returns ICU's number of a type (UCPTRIE_TYPE_FAST, _SMALL).
-pub(crate) fn type_code(trie_type: TrieType) -> u8 {
+pub(crate) fn type_code(trie_type: TrieType) -> u8
+    ensures { result ≡ type_number trie_type }
+{
     match trie_type {
         TrieType::Fast => 0,
         TrieType::Small => 1,
@@ -46,11 +55,21 @@ pub(crate) fn type_code(trie_type: TrieType) -> u8 {
 
 /// Returns what is added to `c >> 14` for the index of the index-1 cell of `c`. The cells follow
 /// the fast index, and a fast trie leaves out the four of the BMP.
-pub(crate) fn index1_offset(trie_type: TrieType) -> u32 {
+pub(crate) fn index1_offset(trie_type: TrieType) -> u32
+    ensures { result ≡ index1_start trie_type }
+{
     match trie_type {
         TrieType::Fast => 1024 - 4,
         TrieType::Small => 64,
     }
+}
+
+/// Returns the number of bytes in so many values, of which each has at most four.
+fn data_size(len: usize, width: ValueWidth) -> usize
+    requires { len * 4 < 2 ^ 63 }
+    ensures { result ≡ len * bytes_of width }
+{
+    len * width.bytes()
 }
 
 /// The comment about the trie and its sizes.
@@ -60,21 +79,26 @@ const SIZES: &str = "\
 ";
 
 /// Appends a comment about the trie and its sizes.
-pub(crate) fn push_sizes(text: &mut String, table: &Table) -> Result<(), AllocError> {
+pub(crate) fn push_sizes(text: &mut String, table: &Table) -> Result<(), AllocError>
+    ensures { OnOk result (string_bytes text.new
+        ≡ string_bytes text.old ++ sizes_text table.now) }
+{
     let (header, index, values) = table.trie.parts();
     let numbers = [
         Decimal(table.width.bits() as usize),
         Decimal(index.len()),
-        Decimal(index.as_bytes().len()),
+        Decimal(index.len() * 2),
         Decimal(values.len()),
-        Decimal(values.len().saturating_mul(table.width.bytes())),
+        Decimal(data_size(values.len(), table.width)),
     ];
     push_pattern(text, SIZES, type_name(header.trie_type), &numbers)
 }
 
 /// Returns the numbers of the header in the order of ICU's struct and of TOML: lengths, the high
 /// start in two forms, type and width, null blocks and the null value.
-pub(crate) fn header_numbers(table: &Table) -> [Number; 9] {
+pub(crate) fn header_numbers(table: &Table) -> [Number; 9]
+    ensures { result ≡ header_numbers table.now }
+{
     let (header, index, values) = table.trie.parts();
     [
         Decimal(index.len()),

@@ -1,5 +1,8 @@
 //! A table in TOML, as ICU's usrc_writeUCPTrie writes it.
-use crate::cells::push_cells;
+ghost use Rattle.std.specs.Prelude.{◌≡◌, ◌++◌, IfOk, OnOk, string_bytes};
+ghost use Rattle.ucptrie_tables.specs.TableSource.{toml_data, toml_header, toml_index, toml_text};
+
+use crate::cells::{push_data, push_index};
 use crate::source::header_numbers;
 use crate::table::Table;
 use std::alloc::{AllocError, Global};
@@ -20,15 +23,41 @@ dataNullOffset = %
 nullValue = %
 ";
 
-/// Returns the table in TOML.
-pub(crate) fn toml_text(alloc: Global, table: &Table) -> Result<String, AllocError> {
-    let (_, index, values) = table.trie.parts();
-    let mut text = String::new(alloc);
+/// Appends the array of the index.
+#[tactic(auto, unfolding(crate::specs::TableSource::toml_index))]
+fn push_index_array(text: &mut String, table: &Table) -> Result<(), AllocError>
+    ensures { OnOk result (string_bytes text.new
+        ≡ string_bytes text.old ++ toml_index table.now) }
+{
     text.push_str("index = [\n  ")?;
-    push_cells(&mut text, index, "  ")?;
+    push_index(text, table, "  ")
+}
+
+/// Appends the array of the data, up to the end of its cells.
+#[tactic(auto, unfolding(crate::specs::TableSource::toml_data))]
+fn push_data_array(text: &mut String, table: &Table) -> Result<(), AllocError>
+    ensures { OnOk result (string_bytes text.new ≡ string_bytes text.old ++ toml_data table.now) }
+{
     let bits = [Decimal(table.width.bits() as usize)];
-    push_pattern(&mut text, "\n]\ndata_% = [\n  ", "", &bits)?;
-    push_cells(&mut text, values, "  ")?;
-    push_pattern(&mut text, HEADER, "", &header_numbers(table))?;
+    push_pattern(text, "\n]\ndata_% = [\n  ", "", &bits)?;
+    push_data(text, table, "  ")
+}
+
+/// Appends what follows the data.
+fn push_header(text: &mut String, table: &Table) -> Result<(), AllocError>
+    ensures { OnOk result (string_bytes text.new
+        ≡ string_bytes text.old ++ toml_header table.now) }
+{
+    push_pattern(text, HEADER, "", &header_numbers(table))
+}
+
+/// Returns the table in TOML.
+pub(crate) fn toml_text(alloc: Global, table: &Table) -> Result<String, AllocError>
+    ensures { IfOk result (λ text. string_bytes text ≡ toml_text table.now) }
+{
+    let mut text = String::new(alloc);
+    push_index_array(&mut text, table)?;
+    push_data_array(&mut text, table)?;
+    push_header(&mut text, table)?;
     Ok(text)
 }

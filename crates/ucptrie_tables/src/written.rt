@@ -1,5 +1,6 @@
 //! A table as the bytes of a file.
 ghost use Rattle.std.specs.Prelude.{◌≡◌, ◌^◌, ◌<◌, ◌++◌, ℕ, List, [], ◌∷◌, None, Some, IfErr, IfOk, OnOk, string_bytes};
+ghost use Rattle.std.specs.Borrow.{Bor};
 ghost use Rattle.serde_json.specs.Written.{compact_text};
 ghost use Rattle.icu_zerovec.specs.CodePoints.{code_point_limit};
 ghost use Rattle.icu_zerovec.specs.Canonical.{IsCanonical};
@@ -12,6 +13,7 @@ ghost use Rattle.icu_trie_formats.specs.TrieJson.{json_of};
 ghost use Rattle.ucptab_table.specs.TableText.{runs_text};
 ghost use Rattle.ucptrie_tables.specs.Inside.Numbers.{HasNumbersOf, IsWhyNotNarrowed};
 ghost use Rattle.ucptrie_tables.specs.Stated.{stating_lines, StatesValues};
+ghost use Rattle.ucptrie_tables.specs.TableSource.{c_text, rust_text, toml_text};
 ghost use Rattle.ucptrie_tables.specs.Tables.{binary_bytes, HasBinaryForm, IsWhyNotWritten};
 
 use crate::c_source::c_text;
@@ -101,6 +103,12 @@ pub fn written(alloc: Global, table: &Table, form: Form<'_>) -> Result<Vec<u8>, 
         → IfOk result (λ bytes. bytes.items ≡ binary_bytes table.now) }
     ensures json { form.entry ≡ Form.Json → IfOk result (λ bytes. bytes.items
         ≡ compact_text (json_of (λ n. n) table.now.trie) ++ 10 ∷ []) }
+    ensures toml { form.entry ≡ Form.Toml
+        → IfOk result (λ bytes. bytes.items ≡ toml_text table.now) }
+    ensures c { (name : Bor (List ℕ)) → form.entry ≡ Form.C name
+        → IfOk result (λ bytes. bytes.items ≡ c_text name.now table.now) }
+    ensures rust { (name : Bor (List ℕ)) → form.entry ≡ Form.Rust name
+        → IfOk result (λ bytes. bytes.items ≡ rust_text name.now table.now) }
     ensures rows { form.entry ≡ Form.Rows → IsCoherentTrie (fitting (2 ^ 32)) table.now.trie
         → (value : ℕ → ℕ)
         → ((u : ℕ) → u < code_point_limit → answers table.now.trie u ≡ Some (value u))

@@ -28,3 +28,12 @@ returns-clause-rows c = λ is.
       c.in_ok-table.table,
       (c.in_ok-table.ensures.ok, (runs_text is_rows.0, ((t.writes, (t.rows, (is_rows.0, (is_rows.1.0, refl)))), is_rows.1.1))),
     )) printed
+
+pub returns-clause-c : goal.returns-clause-c
+returns-clause-c c = λ name is.
+    IfOk-weaker c.written.result _ _ (λ bytes text. (c.in_ok-table.table, (c.in_ok-table.ensures.ok, text))) (c.written.ensures.c name is)
+
+pub returns-clause-rust : goal.returns-clause-rust
+returns-clause-rust c = λ name is.
+    IfOk-weaker c.written.result _ _ (λ bytes text. (c.in_ok-table.table, (c.in_ok-table.ensures.ok, text)))
+    (c.written.ensures.rust name is)

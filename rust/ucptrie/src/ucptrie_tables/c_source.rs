@@ -1,4 +1,5 @@
 //! A table as source in C.
+
 #[allow(unused_imports)]
 use crate::host::{HostRuntime, Text};
 use crate::support::AllocError;
@@ -6,7 +7,7 @@ use crate::support::AllocError;
 use crate::support::prelude::*;
 use crate::ucptrie_source::pattern::Number::{Decimal, Hexadecimal};
 use crate::ucptrie_source::pattern::{push_named, push_pattern};
-use crate::ucptrie_tables::cells::push_cells;
+use crate::ucptrie_tables::cells::{push_data, push_index};
 use crate::ucptrie_tables::source::{header_numbers, index1_offset, push_sizes};
 use crate::ucptrie_tables::table::Table;
 
@@ -31,9 +32,9 @@ static inline uint32_t @_get(uint32_t c) {
 }
 ";
 
-/// Appends the two arrays.
-fn push_arrays(text: &mut String, table: &Table, name: &str) -> Result<(), AllocError> {
-    let (_, index, values) = table.trie.parts();
+/// Appends the array of the index, up to the end of its cells.
+fn push_index_array(text: &mut String, table: &Table, name: &str) -> Result<(), AllocError> {
+    let (_, index, _) = table.trie.parts();
     let size = [Decimal(index.len())];
     push_pattern(
         text,
@@ -41,16 +42,22 @@ fn push_arrays(text: &mut String, table: &Table, name: &str) -> Result<(), Alloc
         name,
         &size,
     )?;
-    push_cells(text, index, "")?;
+    push_index(text, table, "")
+}
+
+/// Appends the array of the data, up to the end of its cells.
+fn push_data_array(text: &mut String, table: &Table, name: &str) -> Result<(), AllocError> {
+    let (_, _, values) = table.trie.parts();
     let sizes = [Decimal(table.width.bits() as usize), Decimal(values.len())];
     let front = "\n};\n\nstatic const uint%_t @_trieData[%]={\n";
     push_pattern(text, front, name, &sizes)?;
-    push_cells(text, values, "")?;
-    text.try_push_str("\n};\n\n")
+    push_data(text, table, "")
 }
 
-/// The numbers that the look-up needs.
-const NUMBERS: &str = "\
+/// What follows the data: the numbers that the look-up needs.
+const NUMBERS: &str = "
+};
+
 enum {
     @_fastLimit = %,
     @_highStart = %,
@@ -60,7 +67,7 @@ enum {
 
 ";
 
-/// Appends the numbers that the look-up needs.
+/// Appends the end of the data, and the numbers that the look-up needs.
 fn push_numbers(text: &mut String, table: &Table, name: &str) -> Result<(), AllocError> {
     let (header, _, values) = table.trie.parts();
     let numbers = [
@@ -89,15 +96,26 @@ static const UCPTrie @_trie={
 #endif
 ";
 
+/// Appends the trie for ICU.
+fn push_struct(text: &mut String, table: &Table, name: &str) -> Result<(), AllocError> {
+    push_pattern(text, STRUCT, name, &header_numbers(table))
+}
+
+/// Appends the look-up.
+fn push_look_up(text: &mut String, name: &str) -> Result<(), AllocError> {
+    push_named(text, LOOK_UP, name)
+}
+
 /// Returns the table in C: the two arrays, a look-up over them that needs no ICU, and the trie for
 /// ICU if its header is included before.
 pub(crate) fn c_text(table: &Table, name: &str) -> Result<String, AllocError> {
     let mut text = String::new();
     push_sizes(&mut text, table)?;
     text.try_push_str("\n#include <stdint.h>\n\n")?;
-    push_arrays(&mut text, table, name)?;
+    push_index_array(&mut text, table, name)?;
+    push_data_array(&mut text, table, name)?;
     push_numbers(&mut text, table, name)?;
-    push_named(&mut text, LOOK_UP, name)?;
-    push_pattern(&mut text, STRUCT, name, &header_numbers(table))?;
+    push_look_up(&mut text, name)?;
+    push_struct(&mut text, table, name)?;
     Ok(text)
 }

@@ -1,4 +1,5 @@
 //! A table as source in Rust.
+
 #[allow(unused_imports)]
 use crate::host::{HostRuntime, Text};
 use crate::support::AllocError;
@@ -6,12 +7,14 @@ use crate::support::AllocError;
 use crate::support::prelude::*;
 use crate::ucptrie_source::pattern::Number::{Decimal, Hexadecimal};
 use crate::ucptrie_source::pattern::push_pattern;
-use crate::ucptrie_tables::cells::push_cells;
+use crate::ucptrie_tables::cells::{push_data, push_index};
 use crate::ucptrie_tables::source::{index1_offset, push_sizes, type_code};
 use crate::ucptrie_tables::table::Table;
 
-/// The look-up, by the three stages of the format.
+/// The end of the data, and the look-up, by the three stages of the format.
 const LOOK_UP: &str = "
+    ];
+
     fn index(place: u32) -> u32 {
         u32::from(INDEX[place as usize])
     }
@@ -75,16 +78,20 @@ fn push_head(text: &mut String, table: &Table, name: &str) -> Result<(), AllocEr
     push_pattern(text, HEAD, name, &numbers)
 }
 
-/// Appends the two arrays.
-fn push_arrays(text: &mut String, table: &Table) -> Result<(), AllocError> {
-    let (_, index, values) = table.trie.parts();
+/// Appends the array of the index, up to the end of its cells.
+fn push_index_array(text: &mut String, table: &Table) -> Result<(), AllocError> {
+    let (_, index, _) = table.trie.parts();
     let front = "    #[rustfmt::skip]\n    pub static INDEX: [u16; %] = [\n";
     push_pattern(text, front, "", &[Decimal(index.len())])?;
-    push_cells(text, index, "")?;
+    push_index(text, table, "")
+}
+
+/// Appends the array of the data, up to the end of its cells.
+fn push_data_array(text: &mut String, table: &Table) -> Result<(), AllocError> {
+    let (_, _, values) = table.trie.parts();
     let front = "\n    ];\n\n    #[rustfmt::skip]\n    pub static DATA: [Value; %] = [\n";
     push_pattern(text, front, "", &[Decimal(values.len())])?;
-    push_cells(text, values, "")?;
-    text.try_push_str("\n    ];\n")
+    push_data(text, table, "")
 }
 
 /// The table in Rust: a module with the header, the two arrays and a look-up over them.
@@ -92,7 +99,8 @@ pub(crate) fn rust_text(table: &Table, name: &str) -> Result<String, AllocError>
     let mut text = String::new();
     push_sizes(&mut text, table)?;
     push_head(&mut text, table, name)?;
-    push_arrays(&mut text, table)?;
+    push_index_array(&mut text, table)?;
+    push_data_array(&mut text, table)?;
     text.try_push_str(LOOK_UP)?;
     Ok(text)
 }

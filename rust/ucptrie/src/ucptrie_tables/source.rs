@@ -8,6 +8,7 @@ use crate::support::prelude::*;
 use crate::ucptrie_source::pattern::Number::{self, Decimal, Hexadecimal};
 use crate::ucptrie_source::pattern::push_pattern;
 use crate::ucptrie_tables::table::Table;
+use crate::ucptrie_tables::width::ValueWidth;
 use bekstaudi::codepointtrie::TrieType;
 
 /// Returns whether a name in C and in Rust can have a byte: an ASCII letter or digit, or `_`.
@@ -51,6 +52,11 @@ pub(crate) fn index1_offset(trie_type: TrieType) -> u32 {
     }
 }
 
+/// Returns the number of bytes in so many values, of which each has at most four.
+fn data_size(len: usize, width: ValueWidth) -> usize {
+    len * width.bytes()
+}
+
 /// The comment about the trie and its sizes.
 const SIZES: &str = "\
 // Made by ucptrie: a @ code point trie, with values of % bits.
@@ -63,9 +69,9 @@ pub(crate) fn push_sizes(text: &mut String, table: &Table) -> Result<(), AllocEr
     let numbers = [
         Decimal(table.width.bits() as usize),
         Decimal(index.len()),
-        Decimal(index.as_bytes().len()),
+        Decimal(index.len() * 2),
         Decimal(values.len()),
-        Decimal(values.len().saturating_mul(table.width.bytes())),
+        Decimal(data_size(values.len(), table.width)),
     ];
     push_pattern(text, SIZES, type_name(header.trie_type), &numbers)
 }

@@ -1,4 +1,5 @@
 //! A table in TOML, as ICU's usrc_writeUCPTrie writes it.
+
 #[allow(unused_imports)]
 use crate::host::{HostRuntime, Text};
 use crate::support::AllocError;
@@ -6,7 +7,7 @@ use crate::support::AllocError;
 use crate::support::prelude::*;
 use crate::ucptrie_source::pattern::Number::Decimal;
 use crate::ucptrie_source::pattern::push_pattern;
-use crate::ucptrie_tables::cells::push_cells;
+use crate::ucptrie_tables::cells::{push_data, push_index};
 use crate::ucptrie_tables::source::header_numbers;
 use crate::ucptrie_tables::table::Table;
 
@@ -24,15 +25,29 @@ dataNullOffset = %
 nullValue = %
 ";
 
+/// Appends the array of the index.
+fn push_index_array(text: &mut String, table: &Table) -> Result<(), AllocError> {
+    text.try_push_str("index = [\n  ")?;
+    push_index(text, table, "  ")
+}
+
+/// Appends the array of the data, up to the end of its cells.
+fn push_data_array(text: &mut String, table: &Table) -> Result<(), AllocError> {
+    let bits = [Decimal(table.width.bits() as usize)];
+    push_pattern(text, "\n]\ndata_% = [\n  ", "", &bits)?;
+    push_data(text, table, "  ")
+}
+
+/// Appends what follows the data.
+fn push_header(text: &mut String, table: &Table) -> Result<(), AllocError> {
+    push_pattern(text, HEADER, "", &header_numbers(table))
+}
+
 /// Returns the table in TOML.
 pub(crate) fn toml_text(table: &Table) -> Result<String, AllocError> {
-    let (_, index, values) = table.trie.parts();
     let mut text = String::new();
-    text.try_push_str("index = [\n  ")?;
-    push_cells(&mut text, index, "  ")?;
-    let bits = [Decimal(table.width.bits() as usize)];
-    push_pattern(&mut text, "\n]\ndata_% = [\n  ", "", &bits)?;
-    push_cells(&mut text, values, "  ")?;
-    push_pattern(&mut text, HEADER, "", &header_numbers(table))?;
+    push_index_array(&mut text, table)?;
+    push_data_array(&mut text, table)?;
+    push_header(&mut text, table)?;
     Ok(text)
 }
