@@ -3,6 +3,7 @@ pub mod Comparison
 pub mod Differences
 pub mod Files
 pub mod Inside
+pub mod NamesSource
 pub mod Properties
 pub mod Rebuilt
 pub mod UnicodeFiles

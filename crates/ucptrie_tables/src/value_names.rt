@@ -1,8 +1,12 @@
 //! Names of values in source: an enum in C or in Rust.
-ghost use Rattle.std.specs.Prelude.{◌≡◌, ◌<◌, ◌++◌, if◌then◌else◌, [], ◌∷◌, false, true, length, map, IfOk, OnOk, string_bytes};
-ghost use Rattle.std.specs.List.{list_any};
+ghost use Rattle.std.specs.Prelude.{◌≡◌, ℕ, ◌<◌, ◌++◌, if◌then◌else◌, List, [], ◌∷◌, false, true, length, map, IfOk, OnOk, string_bytes};
+ghost use Rattle.std.specs.Borrow.{Bor};
+ghost use Rattle.std.specs.List.{flat_map, list_any};
 ghost use Rattle.std.specs.Str.{bytes_eq};
+ghost use Rattle.ucptrie_source.specs.Patterns.{named};
+ghost use Rattle.ucptrie_tables.specs.NamesSource.{c_enum, c_enum_head, has_enum, highest_of, rust_arm, rust_attributes, rust_conversion, rust_conversion_end, rust_enum, rust_enum_head, rust_of, rust_titled, value_line, value_lines, AreRustValues};
 ghost use Rattle.ucptrie_tables.specs.Source.{has_names};
+ghost use Rattle.ucptrie_tables.specs.declared.value_names.EnumValue.{EnumValue};
 ghost use Rattle.ucptrie_tables.specs.ValueIdentifiers.{before_word, c_byte, enum_name, has_name, is_longest, is_reserved, is_taken, last_byte, listed, rust_name, value_name, with_number, with_word, with_words, words, AreIdentifiers, AreValuesOf, IsFirstFree, IsWithValue};
 
 use crate::written::Form;
@@ -288,8 +292,18 @@ pub fn enum_values(
     Ok(values)
 }
 
-/// Appends the line of a value in an enum, after its prefix.
-fn push_line(text: &mut String, value: &EnumValue) -> Result<(), AllocError> {
+/// Appends the line of a value in an enum. It starts with `start`, in which `@` is replaced by the
+/// table's name.
+fn push_line(
+    text: &mut String,
+    start: &str,
+    table: &str,
+    value: &EnumValue,
+) -> Result<(), AllocError>
+    ensures { OnOk result (string_bytes text.new
+        ≡ string_bytes text.old ++ value_line (named table.now start.now) value.now) }
+{
+    push_named(text, start, table)?;
     text.push_str(value.identifier.as_str())?;
     text.push_str(" = ")?;
     push_number(text, Decimal(value.number))?;
@@ -303,16 +317,21 @@ pub(crate) fn push_values(
     start: &str,
     table: &str,
     values: &[EnumValue],
-) -> Result<(), AllocError> {
+) -> Result<(), AllocError>
+    ensures { OnOk result (string_bytes text.new
+        ≡ string_bytes text.old ++ value_lines (named table.now start.now) values.now) }
+{
     for value in values {
-        push_named(text, start, table)?;
-        push_line(text, value)?;
+        push_line(text, start, table, value)?;
     }
     Ok(())
 }
 
 /// Appends an arm of a `match` over the numbers of the values of an enum in Rust.
-fn push_arm(text: &mut String, title: &str, value: &EnumValue) -> Result<(), AllocError> {
+fn push_arm(text: &mut String, title: &str, value: &EnumValue) -> Result<(), AllocError>
+    ensures { OnOk result (string_bytes text.new
+        ≡ string_bytes text.old ++ rust_arm title.now value.now) }
+{
     text.push_str("            ")?;
     push_number(text, Decimal(value.number))?;
     push_named(text, " => @::", title)?;
@@ -321,7 +340,10 @@ fn push_arm(text: &mut String, title: &str, value: &EnumValue) -> Result<(), All
 }
 
 /// Appends the arms of a `match` over the numbers of the values of an enum in Rust.
-fn push_arms(text: &mut String, title: &str, values: &[EnumValue]) -> Result<(), AllocError> {
+fn push_arms(text: &mut String, title: &str, values: &[EnumValue]) -> Result<(), AllocError>
+    ensures { OnOk result (string_bytes text.new
+        ≡ string_bytes text.old ++ flat_map (rust_arm title.now) values.now) }
+{
     for value in values {
         push_arm(text, title, value)?;
     }
@@ -372,9 +394,43 @@ impl @ {
         core::convert::TryFrom::try_from(";
 
 /// Appends a look-up whose results are values of the enum in Rust.
-fn push_of(text: &mut String, title: &str, module: &str) -> Result<(), AllocError> {
+fn push_of(text: &mut String, title: &str, module_name: &str) -> Result<(), AllocError>
+    ensures { OnOk result (string_bytes text.new
+        ≡ string_bytes text.old ++ rust_of title.now module_name.now) }
+{
     push_named(text, OF, title)?;
-    push_named(text, "@::get(c)).ok()\n    }\n}\n", module)
+    push_named(text, "@::get(c)).ok()\n    }\n}\n", module_name)
+}
+
+/// Appends the head of an enum in Rust with this title.
+fn push_enum_head(text: &mut String, title: &str) -> Result<(), AllocError>
+    ensures { OnOk result (string_bytes text.new
+        ≡ string_bytes text.old ++ rust_enum_head title.now) }
+{
+    push_named(text, "pub enum @ {\n", title)
+}
+
+/// Appends the end of an enum in Rust, and the conversion of numbers of so many bits to it up to
+/// its arms.
+fn push_conversion(text: &mut String, title: &str, bits: u32) -> Result<(), AllocError>
+    ensures { OnOk result (string_bytes text.new
+        ≡ string_bytes text.old ++ rust_conversion title.now bits) }
+{
+    let number = Decimal(bits as usize);
+    push_pattern(text, TRY_FROM, title, &[number, number, number, number])
+}
+
+/// Appends the end of the conversion of numbers of so many bits, of which `count` have a value. An
+/// arm for numbers without a name precedes it, if there are any.
+#[tactic(auto, unfolding(crate::specs::NamesSource::rust_conversion_end))]
+fn push_conversion_end(text: &mut String, bits: u32, count: usize) -> Result<(), AllocError>
+    ensures { OnOk result (string_bytes text.new
+        ≡ string_bytes text.old ++ rust_conversion_end bits count) }
+{
+    if count <= highest_of(bits) {
+        text.push_str(NO_NAME)?;
+    }
+    text.push_str(END)
 }
 
 /// Appends the values as an enum in Rust with this title, and the `match` over their numbers. Its
@@ -384,16 +440,15 @@ fn push_rust_enum(
     title: &str,
     bits: u32,
     values: &[EnumValue],
-) -> Result<(), AllocError> {
-    push_named(text, "pub enum @ {\n", title)?;
+) -> Result<(), AllocError>
+    ensures { OnOk result (string_bytes text.new
+        ≡ string_bytes text.old ++ rust_titled title.now bits values.now) }
+{
+    push_enum_head(text, title)?;
     push_values(text, "    ", "", values)?;
-    let number = Decimal(bits as usize);
-    push_pattern(text, TRY_FROM, title, &[number, number, number, number])?;
+    push_conversion(text, title, bits)?;
     push_arms(text, title, values)?;
-    if values.len() <= highest_of(bits) {
-        text.push_str(NO_NAME)?;
-    }
-    text.push_str(END)
+    push_conversion_end(text, bits, values.len())
 }
 
 /// Returns the name of the enum in Rust: the words of the module's name, and `Value` behind them if
@@ -410,7 +465,9 @@ pub(crate) fn enum_name(alloc: Global, module_name: &str) -> Result<String, Allo
 }
 
 /// Returns the highest number of 8, 16 or 32 bits.
-pub(crate) fn highest_of(bits: u32) -> usize {
+pub(crate) fn highest_of(bits: u32) -> usize
+    ensures { result ≡ highest_of bits }
+{
     match bits {
         8 => 0xff,
         16 => 0xffff,
@@ -418,43 +475,71 @@ pub(crate) fn highest_of(bits: u32) -> usize {
     }
 }
 
+/// Appends the attributes of an enum in Rust, which is named after the module.
+fn push_attributes(text: &mut String, module_name: &str, bits: u32) -> Result<(), AllocError>
+    ensures { OnOk result (string_bytes text.new
+        ≡ string_bytes text.old ++ rust_attributes module_name.now bits) }
+{
+    push_pattern(text, MODULE, module_name, &[Decimal(bits as usize)])
+}
+
 /// Appends the values as an enum in Rust, named after the module.
 fn push_rust_names(
     text: &mut String,
     alloc: Global,
-    module: &str,
+    module_name: &str,
     bits: u32,
     values: &[EnumValue],
-) -> Result<(), AllocError> {
-    let title = enum_name(alloc, module)?;
-    push_pattern(text, MODULE, module, &[Decimal(bits as usize)])?;
+) -> Result<(), AllocError>
+    ensures { OnOk result (string_bytes text.new
+        ≡ string_bytes text.old ++ rust_enum module_name.now bits values.now) }
+{
+    let title = enum_name(alloc, module_name)?;
+    push_attributes(text, module_name, bits)?;
     push_rust_enum(text, title.as_str(), bits, values)?;
-    push_of(text, title.as_str(), module)
+    push_of(text, title.as_str(), module_name)
 }
 
 /// Returns the values as an enum in Rust, named after the module.
 fn rust_names(
     alloc: Global,
-    module: &str,
+    module_name: &str,
     bits: u32,
     names: &[Name<'_>],
-) -> Result<String, AllocError> {
+) -> Result<String, AllocError>
+    ensures { IfOk result (λ text. (values : List EnumValue) × (AreRustValues bits names.now values
+        × (string_bytes text ≡ rust_enum module_name.now bits values))) }
+{
     let values = enum_values(alloc, names, true, highest_of(bits))?;
     let mut text = String::new(alloc);
-    push_rust_names(&mut text, alloc, module, bits, &values)?;
+    push_rust_names(&mut text, alloc, module_name, bits, &values)?;
     Ok(text)
 }
 
-/// Appends the values as an enum in C, whose names start with the table's.
-fn push_c_names(text: &mut String, table: &str, values: &[EnumValue]) -> Result<(), AllocError> {
+/// Appends the head of an enum in C.
+fn push_c_head(text: &mut String, table: &str) -> Result<(), AllocError>
+    ensures { OnOk result (string_bytes text.new ≡ string_bytes text.old ++ c_enum_head table.now) }
+{
     let start = "\n// The values of @, by name.\nenum @_value {\n";
-    push_named(text, start, table)?;
+    push_named(text, start, table)
+}
+
+/// Appends the values as an enum in C, whose names start with the table's.
+fn push_c_names(text: &mut String, table: &str, values: &[EnumValue]) -> Result<(), AllocError>
+    ensures { OnOk result (string_bytes text.new
+        ≡ string_bytes text.old ++ c_enum table.now values.now) }
+{
+    push_c_head(text, table)?;
     push_values(text, "    @_", table, values)?;
     text.push_str("};\n")
 }
 
 /// Returns the values as an enum in C, whose names start with the table's.
-fn c_names(alloc: Global, table: &str, names: &[Name<'_>]) -> Result<String, AllocError> {
+fn c_names(alloc: Global, table: &str, names: &[Name<'_>]) -> Result<String, AllocError>
+    ensures { IfOk result (λ text. (values : List EnumValue)
+        × (AreValuesOf false (listed usize.MAX [] names.now) values
+        × (string_bytes text ≡ c_enum table.now values))) }
+{
     let values = enum_values(alloc, names, false, usize::MAX)?;
     let mut text = String::new(alloc);
     push_c_names(&mut text, table, &values)?;
@@ -474,6 +559,14 @@ pub fn names_source(
 ) -> Result<String, AllocError>
     ensures none { names.now ≡ [] → IfOk result (λ text. string_bytes text ≡ []) }
     ensures most { 4096 < length names.now → IfOk result (λ text. string_bytes text ≡ []) }
+    ensures c { (table : Bor (List ℕ)) → form.entry ≡ Form.C table → has_enum names.now ≡ true
+        → IfOk result (λ text. (values : List EnumValue)
+        × (AreValuesOf false (listed usize.MAX [] names.now) values
+        × (string_bytes text ≡ c_enum table.now values))) }
+    ensures rust { (module_name : Bor (List ℕ)) → form.entry ≡ Form.Rust module_name
+        → has_enum names.now ≡ true
+        → IfOk result (λ text. (values : List EnumValue) × (AreRustValues bits names.now values
+        × (string_bytes text ≡ rust_enum module_name.now bits values))) }
     ensures form { has_names form.entry ≡ false
         → IfOk result (λ text. string_bytes text ≡ []) }
 {
@@ -481,7 +574,7 @@ pub fn names_source(
         return Ok(String::new(alloc));
     }
     match form {
-        Form::Rust(module) => rust_names(alloc, module, bits, names),
+        Form::Rust(module_name) => rust_names(alloc, module_name, bits, names),
         Form::C(table) => c_names(alloc, table, names),
         _ => Ok(String::new(alloc)),
     }

@@ -1,4 +1,5 @@
 //! A table in Rust as a static trie of the crate `bekstaudi`, to follow the module of the table.
+
 #[allow(unused_imports)]
 use crate::host::{HostRuntime, Text};
 use crate::support::AllocError;
@@ -25,36 +26,76 @@ const TRIE: &str = "
 #[rustfmt::skip]
 pub static ";
 
-/// Appends the enum with this title, whose cells have so many bits.
+/// What follows the name of the trie. `@` is replaced by the type of its values.
+const TYPE: &str = ": bekstaudi::codepointtrie::CodePointTrie<'static, @> = ";
+
+/// Appends what precedes the values of the enum with this title, whose cells have so many bits.
+fn push_enum_head(
+    text: &mut String,
+    module_name: &str,
+    title: &str,
+    bits: u32,
+) -> Result<(), AllocError> {
+    push_named(text, ENUM, module_name)?;
+    let number = [Decimal(bits as usize)];
+    push_pattern(text, "    pub enum @: u% {\n", title, &number)
+}
+
+/// Appends the enum of a module with this title, whose cells have so many bits.
 fn push_enum(
     text: &mut String,
+    module_name: &str,
     title: &str,
     bits: u32,
     values: &[EnumValue],
 ) -> Result<(), AllocError> {
-    push_pattern(
-        text,
-        "    pub enum @: u% {\n",
-        title,
-        &[Decimal(bits as usize)],
-    )?;
+    push_enum_head(text, module_name, title, bits)?;
     push_values(text, "        ", "", values)?;
     text.try_push_str("    }\n}\n")
 }
 
+/// Returns a text with its ASCII letters in capitals.
+fn capitals(text: &str) -> Result<String, AllocError> {
+    let mut capitals = String::new();
+    capitals.try_push_str(text)?;
+    capitals.make_ascii_uppercase();
+    Ok(capitals)
+}
+
 /// Appends the declaration of the trie of a module, with values of a type.
-fn push_static(text: &mut String, module: &str, value: &str) -> Result<(), AllocError> {
-    push_named(text, TRIE, module)?;
-    for c in module.chars() {
-        text.try_push(c.to_ascii_uppercase())?;
-    }
-    push_named(
-        text,
-        ": bekstaudi::codepointtrie::CodePointTrie<'static, @> = ",
-        value,
-    )?;
-    push_named(text, "bekstaudi::trie_of!(@ as ", module)?;
+fn push_static(text: &mut String, module_name: &str, value: &str) -> Result<(), AllocError> {
+    let name = capitals(module_name)?;
+    push_named(text, TRIE, module_name)?;
+    text.try_push_str(name.as_str())?;
+    push_named(text, TYPE, value)?;
+    push_named(text, "bekstaudi::trie_of!(@ as ", module_name)?;
     push_named(text, "@);\n", value)
+}
+
+/// Returns the type of numbers with so many bits in Rust.
+fn number_type(bits: u32) -> Result<String, AllocError> {
+    let mut text = String::new();
+    push_pattern(&mut text, "u%", "", &[Decimal(bits as usize)])?;
+    Ok(text)
+}
+
+/// Returns the source of a static trie with the table of a module, whose values are numbers with so
+/// many bits.
+fn number_source(module_name: &str, bits: u32) -> Result<String, AllocError> {
+    let value = number_type(bits)?;
+    let mut text = String::new();
+    push_static(&mut text, module_name, value.as_str())?;
+    Ok(text)
+}
+
+/// Returns the source of a static trie with the table of a module, and before it the enum of its
+/// values, whose cells have so many bits.
+fn enum_source(module_name: &str, bits: u32, values: &[EnumValue]) -> Result<String, AllocError> {
+    let title = enum_name(module_name)?;
+    let mut text = String::new();
+    push_enum(&mut text, module_name, title.as_str(), bits, values)?;
+    push_static(&mut text, module_name, title.as_str())?;
+    Ok(text)
 }
 
 /// Returns the source of a static trie with the table of a module, whose values have so many bits.
@@ -62,18 +103,14 @@ fn push_static(text: &mut String, module: &str, value: &str) -> Result<(), Alloc
 ///
 /// # Errors
 /// Returns [`AllocError`] if an allocation fails.
-pub fn static_source(module: &str, bits: u32, names: &[Name<'_>]) -> Result<String, AllocError> {
-    let mut text = String::new();
+pub fn static_source(
+    module_name: &str,
+    bits: u32,
+    names: &[Name<'_>],
+) -> Result<String, AllocError> {
     if names.is_empty() || names.len() > MOST {
-        let mut number = String::new();
-        push_pattern(&mut number, "u%", "", &[Decimal(bits as usize)])?;
-        push_static(&mut text, module, number.as_str())?;
-        return Ok(text);
+        return number_source(module_name, bits);
     }
-    let title = enum_name(module)?;
     let values = enum_values(names, true, highest_of(bits))?;
-    push_named(&mut text, ENUM, module)?;
-    push_enum(&mut text, title.as_str(), bits, &values)?;
-    push_static(&mut text, module, title.as_str())?;
-    Ok(text)
+    enum_source(module_name, bits, &values)
 }

@@ -233,8 +233,15 @@ pub fn enum_values(
     Ok(values)
 }
 
-/// Appends the line of a value in an enum, after its prefix.
-fn push_line(text: &mut String, value: &EnumValue) -> Result<(), AllocError> {
+/// Appends the line of a value in an enum. It starts with `start`, in which `@` is replaced by the
+/// table's name.
+fn push_line(
+    text: &mut String,
+    start: &str,
+    table: &str,
+    value: &EnumValue,
+) -> Result<(), AllocError> {
+    push_named(text, start, table)?;
     text.try_push_str(value.identifier.as_str())?;
     text.try_push_str(" = ")?;
     push_number(text, Decimal(value.number))?;
@@ -250,8 +257,7 @@ pub(crate) fn push_values(
     values: &[EnumValue],
 ) -> Result<(), AllocError> {
     for value in values {
-        push_named(text, start, table)?;
-        push_line(text, value)?;
+        push_line(text, start, table, value)?;
     }
     Ok(())
 }
@@ -317,9 +323,30 @@ impl @ {
         core::convert::TryFrom::try_from(";
 
 /// Appends a look-up whose results are values of the enum in Rust.
-fn push_of(text: &mut String, title: &str, module: &str) -> Result<(), AllocError> {
+fn push_of(text: &mut String, title: &str, module_name: &str) -> Result<(), AllocError> {
     push_named(text, OF, title)?;
-    push_named(text, "@::get(c)).ok()\n    }\n}\n", module)
+    push_named(text, "@::get(c)).ok()\n    }\n}\n", module_name)
+}
+
+/// Appends the head of an enum in Rust with this title.
+fn push_enum_head(text: &mut String, title: &str) -> Result<(), AllocError> {
+    push_named(text, "pub enum @ {\n", title)
+}
+
+/// Appends the end of an enum in Rust, and the conversion of numbers of so many bits to it up to
+/// its arms.
+fn push_conversion(text: &mut String, title: &str, bits: u32) -> Result<(), AllocError> {
+    let number = Decimal(bits as usize);
+    push_pattern(text, TRY_FROM, title, &[number, number, number, number])
+}
+
+/// Appends the end of the conversion of numbers of so many bits, of which `count` have a value. An
+/// arm for numbers without a name precedes it, if there are any.
+fn push_conversion_end(text: &mut String, bits: u32, count: usize) -> Result<(), AllocError> {
+    if count <= highest_of(bits) {
+        text.try_push_str(NO_NAME)?;
+    }
+    text.try_push_str(END)
 }
 
 /// Appends the values as an enum in Rust with this title, and the `match` over their numbers. Its
@@ -330,15 +357,11 @@ fn push_rust_enum(
     bits: u32,
     values: &[EnumValue],
 ) -> Result<(), AllocError> {
-    push_named(text, "pub enum @ {\n", title)?;
+    push_enum_head(text, title)?;
     push_values(text, "    ", "", values)?;
-    let number = Decimal(bits as usize);
-    push_pattern(text, TRY_FROM, title, &[number, number, number, number])?;
+    push_conversion(text, title, bits)?;
     push_arms(text, title, values)?;
-    if values.len() <= highest_of(bits) {
-        text.try_push_str(NO_NAME)?;
-    }
-    text.try_push_str(END)
+    push_conversion_end(text, bits, values.len())
 }
 
 /// Returns the name of the enum in Rust: the words of the module's name, and `Value` behind them if
@@ -361,31 +384,41 @@ pub(crate) fn highest_of(bits: u32) -> usize {
     }
 }
 
+/// Appends the attributes of an enum in Rust, which is named after the module.
+fn push_attributes(text: &mut String, module_name: &str, bits: u32) -> Result<(), AllocError> {
+    push_pattern(text, MODULE, module_name, &[Decimal(bits as usize)])
+}
+
 /// Appends the values as an enum in Rust, named after the module.
 fn push_rust_names(
     text: &mut String,
-    module: &str,
+    module_name: &str,
     bits: u32,
     values: &[EnumValue],
 ) -> Result<(), AllocError> {
-    let title = enum_name(module)?;
-    push_pattern(text, MODULE, module, &[Decimal(bits as usize)])?;
+    let title = enum_name(module_name)?;
+    push_attributes(text, module_name, bits)?;
     push_rust_enum(text, title.as_str(), bits, values)?;
-    push_of(text, title.as_str(), module)
+    push_of(text, title.as_str(), module_name)
 }
 
 /// Returns the values as an enum in Rust, named after the module.
-fn rust_names(module: &str, bits: u32, names: &[Name<'_>]) -> Result<String, AllocError> {
+fn rust_names(module_name: &str, bits: u32, names: &[Name<'_>]) -> Result<String, AllocError> {
     let values = enum_values(names, true, highest_of(bits))?;
     let mut text = String::new();
-    push_rust_names(&mut text, module, bits, &values)?;
+    push_rust_names(&mut text, module_name, bits, &values)?;
     Ok(text)
+}
+
+/// Appends the head of an enum in C.
+fn push_c_head(text: &mut String, table: &str) -> Result<(), AllocError> {
+    let start = "\n// The values of @, by name.\nenum @_value {\n";
+    push_named(text, start, table)
 }
 
 /// Appends the values as an enum in C, whose names start with the table's.
 fn push_c_names(text: &mut String, table: &str, values: &[EnumValue]) -> Result<(), AllocError> {
-    let start = "\n// The values of @, by name.\nenum @_value {\n";
-    push_named(text, start, table)?;
+    push_c_head(text, table)?;
     push_values(text, "    @_", table, values)?;
     text.try_push_str("};\n")
 }
@@ -408,7 +441,7 @@ pub fn names_source(form: Form<'_>, bits: u32, names: &[Name<'_>]) -> Result<Str
         return Ok(String::new());
     }
     match form {
-        Form::Rust(module) => rust_names(module, bits, names),
+        Form::Rust(module_name) => rust_names(module_name, bits, names),
         Form::C(table) => c_names(table, names),
         _ => Ok(String::new()),
     }
