@@ -1,4 +1,5 @@
 pub mod CallerLemmas
+mod ChoiceLemmas
 mod GroupLemmas
 mod KnownNames
 mod NameLemmas

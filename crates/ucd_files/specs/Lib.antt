@@ -4,6 +4,7 @@ pub mod Names
 pub mod Statements
 pub mod Files
 pub mod ValueNames
+pub mod Choices
 pub mod Titles
 pub mod Messages
 pub mod Inside

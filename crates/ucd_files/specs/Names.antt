@@ -1,5 +1,5 @@
 -- Names of values: when two are the same, and which number a value has.
-use Rattle.std.specs.Prelude.{ℕ, ◌==◌, ◌&&◌, ◌||◌, nat_le, nat_eq, not, Bool, List, [], ◌∷◌, codes, map, Option, Some, None, if◌then◌else◌}
+use Rattle.std.specs.Prelude.{ℕ, ◌==◌, ◌&&◌, ◌||◌, nat_le, nat_eq, not, Bool, true, false, List, [], ◌∷◌, codes, map, Option, Some, None, if◌then◌else◌}
 use Rattle.std.specs.Char.{to_ascii_lowercase}
 use Rattle.std.specs.List.{find, starts_with}
 use Rattle.std.specs.Option.{option_and_then, option_map}
@@ -63,3 +63,8 @@ number_of Hexadecimal text = hexadecimal text
 number_of One text = Some 1
 number_of (Names names matching) text =
     option_and_then short_number (number_named matching names.now text)
+
+-- The numbering is by names.
+abbrev pub is_by_names : Numbering → Bool
+is_by_names (Names names matching) = true
+is_by_names numbering = false

@@ -8,11 +8,13 @@
 //! - `read`: what all lines say, as the writes of a map
 //! - `aliases`: names and numbers from `PropertyValueAliases.txt` or a list
 //! - `order`: names in order of first appearance
+//! - `choice`: what the values of a file are, and how they become numbers
 //! - `title`: what a file says of itself
 //! - `fault`: what is wrong with a line or a file
 #![tactic(auto)]
 
 pub mod aliases;
+pub mod choice;
 pub mod fault;
 pub mod fields;
 pub mod kind;

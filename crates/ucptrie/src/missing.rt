@@ -1,11 +1,12 @@
 //! The values of code points without a line.
-use crate::choice::{Choice, UnicodeFile, ValueKind};
+use crate::choice::UnicodeFile;
 use crate::fault::{Fault, about, said};
 use crate::overlap::covers_all;
 use crate::properties::{push_new, push_text};
 use clap::ArgMatches;
 use std::alloc::{AllocError, Global};
 use ucd_files::aliases::missing_alias;
+use ucd_files::choice::{Choice, ValueKind};
 use ucd_files::fault::FileFault;
 use ucd_files::fields::missing_of;
 use ucd_files::kind::has_missing_lines;

@@ -1,6 +1,6 @@
 //! The command `set`: the set of the code points with a value, or of a file of sets, in a form.
 use crate::build::unbuilt;
-use crate::choice::{Choice, UnicodeFile, ValueKind, by_names, choice_of};
+use crate::choice::{UnicodeFile, choice_of};
 use crate::compressed::expect_text;
 use crate::fault::{Fault, about};
 use crate::forms::{is_json, is_toml};
@@ -18,6 +18,7 @@ use icu_invlist_binary::serialized::SerializedSetError;
 use icu_trie_core::header::TrieType;
 use std::alloc::{AllocError, Global};
 use std::str;
+use ucd_files::choice::{Choice, ValueKind, by_names};
 use ucd_files::kind::FileKind;
 use ucd_files::names::{Matching, Numbering, is_same_name, number_of};
 use ucd_files::value_names::ValueNames;

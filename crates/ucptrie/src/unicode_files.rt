@@ -1,6 +1,6 @@
 //! Tables of files of the Unicode Character Database.
 use crate::build::{options, unbuilt};
-use crate::choice::{Choice, UnicodeFile, ValueKind, choice_of, numbering};
+use crate::choice::{UnicodeFile, choice_of, numbering};
 use crate::fault::{Fault, about, about_arguments, said};
 use crate::missing::{default_of, test_own_names};
 use crate::overlap::has_overlap;
@@ -11,6 +11,7 @@ use crate::tables::{form, number};
 use crate::wide::{line_with, too_wide};
 use clap::ArgMatches;
 use std::alloc::Global;
+use ucd_files::choice::{Choice, ValueKind};
 use ucd_files::fault::FileFault;
 use ucd_files::kind::{FileKind, has_property, kind_of};
 use ucd_files::names::{Name, Numbering, is_same_name};

@@ -5,6 +5,7 @@ use crate::support::AllocError;
 #[allow(unused_imports)]
 use crate::support::prelude::*;
 use crate::ucd_files::aliases::missing_alias;
+use crate::ucd_files::choice::{Choice, ValueKind};
 use crate::ucd_files::fault::FileFault;
 use crate::ucd_files::fields::missing_of;
 use crate::ucd_files::kind::has_missing_lines;
@@ -13,7 +14,7 @@ use crate::ucd_files::order::text_of_line;
 use crate::ucd_files::read::read_writes;
 use crate::ucd_files::value_names::ValueNames;
 use crate::ucptab_table::input::first_line;
-use crate::ucptrie::choice::{Choice, UnicodeFile, ValueKind};
+use crate::ucptrie::choice::UnicodeFile;
 use crate::ucptrie::fault::{Fault, about, said};
 use crate::ucptrie::overlap::covers_all;
 use crate::ucptrie::properties::{push_new, push_text};

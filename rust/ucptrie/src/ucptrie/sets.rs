@@ -4,11 +4,12 @@ use crate::host::{HostRuntime, Text};
 use crate::support::AllocError;
 #[allow(unused_imports)]
 use crate::support::prelude::*;
+use crate::ucd_files::choice::{Choice, ValueKind, by_names};
 use crate::ucd_files::kind::FileKind;
 use crate::ucd_files::names::{Matching, Numbering, is_same_name, number_of};
 use crate::ucd_files::value_names::ValueNames;
 use crate::ucptrie::build::unbuilt;
-use crate::ucptrie::choice::{Choice, UnicodeFile, ValueKind, by_names, choice_of};
+use crate::ucptrie::choice::{UnicodeFile, choice_of};
 use crate::ucptrie::compressed::expect_text;
 use crate::ucptrie::fault::{Fault, about};
 use crate::ucptrie::forms::{is_json, is_toml};

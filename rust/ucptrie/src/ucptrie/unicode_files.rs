@@ -3,6 +3,7 @@
 use crate::host::{HostRuntime, Text};
 #[allow(unused_imports)]
 use crate::support::prelude::*;
+use crate::ucd_files::choice::{Choice, ValueKind};
 use crate::ucd_files::fault::FileFault;
 use crate::ucd_files::kind::{FileKind, has_property, kind_of};
 use crate::ucd_files::names::{Name, Numbering, is_same_name};
@@ -11,7 +12,7 @@ use crate::ucd_files::title::title_of;
 use crate::ucptab_table::input::line_at;
 use crate::ucptab_table::message::line_message;
 use crate::ucptrie::build::{options, unbuilt};
-use crate::ucptrie::choice::{Choice, UnicodeFile, ValueKind, choice_of, numbering};
+use crate::ucptrie::choice::{UnicodeFile, choice_of, numbering};
 use crate::ucptrie::fault::{Fault, about, about_arguments, said};
 use crate::ucptrie::missing::{default_of, test_own_names};
 use crate::ucptrie::overlap::has_overlap;
