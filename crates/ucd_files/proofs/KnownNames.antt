@@ -8,7 +8,7 @@ use Rattle.ucd_files.specs.declared.names.Matching.TheVariants.{Exact}
 use Rattle.ucd_files.specs.declared.names.Name.{Name}
 
 -- A name is known if it has a number.
-known : (names : List Name) (text : List ℕ) → is_known (pairs_of names) text ≡ is_some (number_named Exact names text)
+pub known : (names : List Name) (text : List ℕ) → is_known (pairs_of names) text ≡ is_some (number_named Exact names text)
 unfolding number_named
 known [] text = refl
 known (name ∷ names) text = by_test (is_match Exact name.text.now text) refl (known names text) where

@@ -31,7 +31,7 @@ pub fn text_of_line<'t>(columns: Columns<'_>, line: &'t [u8]) -> Option<&'t [u8]
 
 /// Appends a name with the next number, unless it is known.
 #[tactic(auto, using(crate::proofs::KnownNames::with_new, crate::proofs::KnownNames::with_known))]
-fn push_new<'a>(names: &mut ValueNames<'a>, text: &'a [u8]) -> Result<(), AllocError>
+pub(crate) fn push_new<'a>(names: &mut ValueNames<'a>, text: &'a [u8]) -> Result<(), AllocError>
     ensures { IfOk result
         (λ _. pairs_of names.new ≡ with_name (pairs_of names.old) text.now) }
 {

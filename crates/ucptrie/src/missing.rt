@@ -2,46 +2,14 @@
 use crate::choice::UnicodeFile;
 use crate::fault::{Fault, about, said};
 use crate::overlap::covers_all;
-use crate::properties::{push_new, push_text};
+use crate::properties::push_text;
 use clap::ArgMatches;
 use std::alloc::{AllocError, Global};
-use ucd_files::aliases::missing_alias;
 use ucd_files::choice::{Choice, ValueKind};
 use ucd_files::fault::FileFault;
-use ucd_files::fields::missing_of;
-use ucd_files::kind::has_missing_lines;
-use ucd_files::names::{Matching, Numbering, number_of};
-use ucd_files::order::text_of_line;
+use ucd_files::missing_values::{MissingValue, missing_value, only_missing};
+use ucd_files::names::Numbering;
 use ucd_files::read::read_writes;
-use ucd_files::value_names::ValueNames;
-use ucptab_table::input::first_line;
-
-/// Returns the names of the values in a file's `@missing` lines, or else those in its other lines.
-fn names_of_lines<'f>(
-    alloc: Global,
-    file: UnicodeFile<'f>,
-    are_missing: bool,
-) -> Result<ValueNames<'f>, AllocError> {
-    let mut names = ValueNames::new(alloc);
-    let mut rest = file.bytes;
-    while let Some((line, after)) = first_line(rest) {
-        rest = after;
-        if missing_of(line).is_some() == are_missing {
-            push_new(&mut names, text_of_line(file.columns, line).unwrap_or(&[]))?;
-        }
-    }
-    Ok(names)
-}
-
-/// Returns the first of the names that is not among others.
-fn first_other<'f>(names: &ValueNames<'f>, others: &ValueNames<'_>) -> Option<&'f [u8]> {
-    for name in names.as_slice() {
-        if others.number_named(Matching::Exact, name.text).is_none() {
-            return Some(name.text);
-        }
-    }
-    None
-}
 
 /// Returns the line about a value that only an `@missing` line has.
 fn only_missing_line(alloc: Global, name: &str, value: &[u8]) -> Result<String, AllocError> {
@@ -64,12 +32,7 @@ pub fn test_own_names(
     if !matches!(choice.kind, ValueKind::Own) {
         return Ok(());
     }
-    let missing = names_of_lines(alloc, file, true)?;
-    if missing.as_slice().len() < 2 {
-        return Ok(());
-    }
-    let others = names_of_lines(alloc, file, false)?;
-    match first_other(&missing, &others) {
+    match only_missing(alloc, file.bytes, file.columns)? {
         Some(value) => Err(said(only_missing_line(alloc, file.name, value))),
         None => Ok(()),
     }
@@ -89,16 +52,6 @@ fn is_complete(
     }
 }
 
-/// Returns the number that the file of aliases gives to code points without a line.
-fn alias_default(
-    matches: &ArgMatches<'_>,
-    file: UnicodeFile<'_>,
-    numbering: Numbering<'_>,
-) -> Option<u32> {
-    let property = matches.get_str("property")?;
-    number_of(numbering, missing_alias(file.aliases, property.as_bytes())?)
-}
-
 /// Returns the number of the value that code points without a line have, if the values have their
 /// numbers by a file of aliases and the file has no `@missing` line. Then 0 would be the number of
 /// one of the values, and only the file of aliases says which value it is. Returns `other` for
@@ -111,14 +64,15 @@ pub fn default_of(
     other: u32,
     how: &str,
 ) -> Result<u32, Fault> {
-    if !matches!(numbering, Numbering::Names(_, _)) || has_missing_lines(file.bytes, file.columns) {
-        return Ok(other);
+    let property = matches.get_str("property").unwrap_or("").as_bytes();
+    match missing_value(file.bytes, file.columns, numbering, file.aliases, property) {
+        MissingValue::InLines => Ok(other),
+        MissingValue::Number(number) => Ok(number),
+        MissingValue::Unsaid => {
+            if is_complete(alloc, file, numbering)? {
+                return Ok(other);
+            }
+            Err(about(alloc, file.name, how))
+        }
     }
-    if let Some(number) = alias_default(matches, file, numbering) {
-        return Ok(number);
-    }
-    if is_complete(alloc, file, numbering)? {
-        return Ok(other);
-    }
-    Err(about(alloc, file.name, how))
 }

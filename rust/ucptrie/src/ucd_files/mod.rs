@@ -9,6 +9,7 @@
 //! - `aliases`: names and numbers from `PropertyValueAliases.txt` or a list
 //! - `order`: names in order of first appearance
 //! - `choice`: what the values of a file are, and how they become numbers
+//! - `missing_values`: the values of code points without a line
 //! - `title`: what a file says of itself
 //! - `fault`: what is wrong with a line or a file
 
@@ -19,6 +20,7 @@ pub mod choice;
 pub mod fault;
 pub mod fields;
 pub mod kind;
+pub mod missing_values;
 pub mod names;
 pub mod order;
 pub mod read;

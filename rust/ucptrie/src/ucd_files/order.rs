@@ -25,7 +25,7 @@ pub fn text_of_line<'t>(columns: Columns<'_>, line: &'t [u8]) -> Option<&'t [u8]
 }
 
 /// Appends a name with the next number, unless it is known.
-fn push_new<'a>(names: &mut ValueNames<'a>, text: &'a [u8]) -> Result<(), AllocError> {
+pub(crate) fn push_new<'a>(names: &mut ValueNames<'a>, text: &'a [u8]) -> Result<(), AllocError> {
     if names.number_named(Matching::Exact, text).is_none() {
         let number = names.as_slice().len();
         names.try_push(number, text)?;

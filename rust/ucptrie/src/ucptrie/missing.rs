@@ -4,47 +4,16 @@ use crate::host::{HostRuntime, Text};
 use crate::support::AllocError;
 #[allow(unused_imports)]
 use crate::support::prelude::*;
-use crate::ucd_files::aliases::missing_alias;
 use crate::ucd_files::choice::{Choice, ValueKind};
 use crate::ucd_files::fault::FileFault;
-use crate::ucd_files::fields::missing_of;
-use crate::ucd_files::kind::has_missing_lines;
-use crate::ucd_files::names::{Matching, Numbering, number_of};
-use crate::ucd_files::order::text_of_line;
+use crate::ucd_files::missing_values::{MissingValue, missing_value, only_missing};
+use crate::ucd_files::names::Numbering;
 use crate::ucd_files::read::read_writes;
-use crate::ucd_files::value_names::ValueNames;
-use crate::ucptab_table::input::first_line;
 use crate::ucptrie::choice::UnicodeFile;
 use crate::ucptrie::fault::{Fault, about, said};
 use crate::ucptrie::overlap::covers_all;
-use crate::ucptrie::properties::{push_new, push_text};
+use crate::ucptrie::properties::push_text;
 use clap::ArgMatches;
-
-/// Returns the names of the values in a file's `@missing` lines, or else those in its other lines.
-fn names_of_lines<'f>(
-    file: UnicodeFile<'f>,
-    are_missing: bool,
-) -> Result<ValueNames<'f>, AllocError> {
-    let mut names = ValueNames::new();
-    let mut rest = file.bytes;
-    while let Some((line, after)) = first_line(rest) {
-        rest = after;
-        if missing_of(line).is_some() == are_missing {
-            push_new(&mut names, text_of_line(file.columns, line).unwrap_or(&[]))?;
-        }
-    }
-    Ok(names)
-}
-
-/// Returns the first of the names that is not among others.
-fn first_other<'f>(names: &ValueNames<'f>, others: &ValueNames<'_>) -> Option<&'f [u8]> {
-    for name in names.as_slice() {
-        if others.number_named(Matching::Exact, name.text).is_none() {
-            return Some(name.text);
-        }
-    }
-    None
-}
 
 /// Returns the line about a value that only an `@missing` line has.
 fn only_missing_line(name: &str, value: &[u8]) -> Result<String, AllocError> {
@@ -63,12 +32,7 @@ pub fn test_own_names(file: UnicodeFile<'_>, choice: &Choice<'_>) -> Result<(), 
     if !matches!(choice.kind, ValueKind::Own) {
         return Ok(());
     }
-    let missing = names_of_lines(file, true)?;
-    if missing.as_slice().len() < 2 {
-        return Ok(());
-    }
-    let others = names_of_lines(file, false)?;
-    match first_other(&missing, &others) {
+    match only_missing(file.bytes, file.columns)? {
         Some(value) => Err(said(only_missing_line(file.name, value))),
         None => Ok(()),
     }
@@ -84,16 +48,6 @@ fn is_complete(file: UnicodeFile<'_>, numbering: Numbering<'_>) -> Result<bool, 
     }
 }
 
-/// Returns the number that the file of aliases gives to code points without a line.
-fn alias_default(
-    matches: &ArgMatches,
-    file: UnicodeFile<'_>,
-    numbering: Numbering<'_>,
-) -> Option<u32> {
-    let property = matches.get_one::<String>("property").map(String::as_str)?;
-    number_of(numbering, missing_alias(file.aliases, property.as_bytes())?)
-}
-
 /// Returns the number of the value that code points without a line have, if the values have their
 /// numbers by a file of aliases and the file has no `@missing` line. Then 0 would be the number of
 /// one of the values, and only the file of aliases says which value it is. Returns `other` for
@@ -105,14 +59,19 @@ pub fn default_of(
     other: u32,
     how: &str,
 ) -> Result<u32, Fault> {
-    if !matches!(numbering, Numbering::Names(_, _)) || has_missing_lines(file.bytes, file.columns) {
-        return Ok(other);
+    let property = matches
+        .get_one::<String>("property")
+        .map(String::as_str)
+        .unwrap_or("")
+        .as_bytes();
+    match missing_value(file.bytes, file.columns, numbering, file.aliases, property) {
+        MissingValue::InLines => Ok(other),
+        MissingValue::Number(number) => Ok(number),
+        MissingValue::Unsaid => {
+            if is_complete(file, numbering)? {
+                return Ok(other);
+            }
+            Err(about(file.name, how))
+        }
     }
-    if let Some(number) = alias_default(matches, file, numbering) {
-        return Ok(number);
-    }
-    if is_complete(file, numbering)? {
-        return Ok(other);
-    }
-    Err(about(file.name, how))
 }
