@@ -16,7 +16,7 @@ pub bit_of_uniform : (value : Bool) (word k : ℕ) → word ≡ cond value (2 ^ 
 bit_of_uniform true word k e h = rw (e, bit_at_ones 64 k h) refl
 bit_of_uniform false word k e h = rw (e, bit_at-zero k) refl
 
-shared_word : (t : BitTables) (value : Bool) (j : ℕ) → AreTables t → j < 4
+pub shared_word : (t : BitTables) (value : Bool) (j : ℕ) → AreTables t → j < 4
     → get_or t.words (cond value 4 0 + j) 0 ≡ cond value (2 ^ 64 - 1) 0
 shared_word t true j a h = a.all j h
 shared_word t false j a h = rw zero-add (a.none j h)

@@ -6,6 +6,7 @@ pub mod FillingLemmas
 pub mod FreezeLemmas
 pub mod MarkLemmas
 pub mod OneCharacter
+pub mod RunLemmas
 pub mod SpanLemmas
 pub mod TextFrontLemmas
 pub mod TextPieces

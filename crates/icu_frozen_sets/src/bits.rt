@@ -1,5 +1,6 @@
 //! A bit for each code point, in two stages, so that each look-up takes two loads.
-ghost use Rattle.std.specs.Prelude.{◌≡◌, ℕ, ◌+◌, ◌*◌, ◌/◌, ◌<◌, ◌≤◌, ◌↔◌, ◌||◌, Bool, length, slice_index, IfOk, OnOk, IsTrue, if◌then◌else◌};
+ghost use Rattle.std.specs.Prelude.{◌≡◌, ℕ, ◌+◌, ◌*◌, ◌/◌, ◌<◌, ◌≤◌, ◌↔◌, ◌||◌, Bool, true, false, length, slice_index, IfOk, OnOk, IsTrue, if◌then◌else◌};
+ghost use Rattle.std.specs.Int.{bit_at};
 ghost use Rattle.icu_invlist.specs.InversionList.{between};
 ghost use Rattle.icu_frozen_sets.specs.CodePointBits.{has_bit};
 ghost use Rattle.icu_frozen_sets.specs.Inside.Filling.{AreTables, IsFilling, IsUniform, SetsBlock, bit_among, block_bit};
@@ -56,6 +57,17 @@ fn is_all(block: &[u64; 4], word: u64) -> bool
     ensures { IsTrue result ↔ ((k : ℕ) → k < 4 → slice_index block.now k ≡ word) }
 {
     block[0] == word && block[1] == word && block[2] == word && block[3] == word
+}
+
+/// Returns the number of consecutive ones in the word from bit `place` on.
+#[inline(always)]
+fn ones_from(word: u64, place: u32) -> u32
+    requires within { place < 64 }
+    ensures ones { (i : ℕ) → i < result
+        → (place + i < 64) × (bit_at word (place + i) ≡ 1) }
+    ensures stops { result ≡ 0 → bit_at word place ≡ 0 }
+{
+    (word >> place).trailing_ones()
 }
 
 /// Makes the blocks from `from` to before `to` full.
@@ -121,6 +133,45 @@ impl CodePointBits {
         let first = self.index[(word / 4) as usize];
         let bits = self.words[first as usize + (word % 4) as usize];
         (bits >> place) & 1 == 1
+    }
+
+    /// Returns the end of a run of ones that starts with the bit of the code point `c`, or `c` if
+    /// that bit is 0.
+    ///
+    /// The run is cut off at the end of the word, or of the block if the block is full.
+    #[inline(always)]
+    fn past_ones(&self, c: u32) -> u32
+        requires tables { AreTables self.now }
+        requires there { c / 256 < length self.now.index }
+        requires within { c < CODE_POINT_LIMIT }
+        ensures order { c ≤ result }
+        ensures ones { (k : ℕ) → c ≤ k → k < result → has_bit self.now k ≡ true }
+        ensures stops { result ≡ c → has_bit self.now c ≡ false }
+    {
+        let first = self.index[(c / 256) as usize];
+        if first == FULL_BLOCK {
+            return (c / 256 + 1) * 256;
+        }
+        let bits = self.words[first as usize + (c / 64 % 4) as usize];
+        c + ones_from(bits, c % 64)
+    }
+
+    /// Returns true if the bits of all code points in `start..end` are 1.
+    pub(crate) fn contains_range(&self, start: u32, end: u32) -> bool
+        requires tables { AreTables self.now }
+        requires there { end ≤ 256 * length self.now.index }
+        requires within { end ≤ CODE_POINT_LIMIT }
+        ensures { IsTrue result ↔ ((c : ℕ) → start ≤ c → c < end → has_bit self.now c ≡ true) }
+    {
+        let mut next = start;
+        while next < end {
+            let past = self.past_ones(next);
+            if past == next {
+                return false;
+            }
+            next = past;
+        }
+        true
     }
 
     /// Returns the bits of the first 2,048 code points, 64 in each word. Their blocks must be in

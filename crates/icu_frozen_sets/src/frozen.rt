@@ -8,9 +8,9 @@ ghost use mathlib.Core.Bool.{beq};
 ghost use mathlib.Core.List.{reverse};
 ghost use Rattle.icu_zerovec.specs.CodePoints.{code_point_limit};
 ghost use Rattle.icu_invlist.specs.InversionList.{IsValid, holds};
-ghost use Rattle.icu_frozen_sets.specs.CodePointBits.{AreTablesOf};
+ghost use Rattle.icu_frozen_sets.specs.CodePointBits.{AreTablesOf, has_bit};
 ghost use Rattle.icu_frozen_sets.specs.Inside.Characters.{IsAsked};
-ghost use Rattle.icu_frozen_sets.specs.Inside.Filling.{filled};
+ghost use Rattle.icu_frozen_sets.specs.Inside.Filling.{AreTables, filled};
 
 use crate::ascii::ascii_of;
 use crate::bits::CodePointBits;
@@ -137,6 +137,16 @@ impl FrozenCodePointSet {
             index: self.bits.index(),
             words: self.bits.words(),
         }
+    }
+
+    /// Returns the bits of all code points.
+    #[inline(always)]
+    pub(crate) fn bits(&self) -> &CodePointBits
+        ensures tables { AreTables result.now }
+        ensures blocks { length result.now.index ≡ 4352 }
+        ensures bits { (c : ℕ) → c < code_point_limit → has_bit result.now c ≡ holds self.now c }
+    {
+        &self.bits
     }
 
     /// Returns true if the set contains the code point `c`. Returns false for any number above

@@ -42,6 +42,12 @@ fn is_all(block: &[u64; 4], word: u64) -> bool {
     block[0] == word && block[1] == word && block[2] == word && block[3] == word
 }
 
+/// Returns the number of consecutive ones in the word from bit `place` on.
+#[inline(always)]
+fn ones_from(word: u64, place: u32) -> u32 {
+    (word >> place).trailing_ones()
+}
+
 /// Makes the blocks from `from` to before `to` full.
 #[inline]
 fn fill(index: &mut [u16], from: usize, to: usize) {
@@ -88,6 +94,34 @@ impl CodePointBits {
         let first = self.index[(word / 4) as usize];
         let bits = self.words[first as usize + (word % 4) as usize];
         (bits >> place) & 1 == 1
+    }
+
+    /// Returns the end of a run of ones that starts with the bit of the code point `c`, or `c` if
+    /// that bit is 0.
+    ///
+    /// The run is cut off at the end of the word, or of the block if the block is full.
+    #[inline(always)]
+    fn past_ones(&self, c: u32) -> u32 {
+        let first = self.index[(c / 256) as usize];
+        if first == FULL_BLOCK {
+            return (c / 256 + 1) * 256;
+        }
+        let bits = self.words[first as usize + (c / 64 % 4) as usize];
+        c + ones_from(bits, c % 64)
+    }
+
+    /// Returns true if the bits of all code points in `start..end` are 1.
+    #[inline]
+    pub(crate) fn contains_range(&self, start: u32, end: u32) -> bool {
+        let mut next = start;
+        while next < end {
+            let past = self.past_ones(next);
+            if past == next {
+                return false;
+            }
+            next = past;
+        }
+        true
     }
 
     /// Returns the bits of the first 2,048 code points, 64 in each word. Their blocks must be in

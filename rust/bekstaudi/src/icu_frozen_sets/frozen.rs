@@ -113,6 +113,12 @@ impl FrozenCodePointSet {
         }
     }
 
+    /// Returns the bits of all code points.
+    #[inline(always)]
+    pub(crate) fn bits(&self) -> &CodePointBits {
+        &self.bits
+    }
+
     /// Returns true if the set contains the code point `c`. Returns false for any number above
     /// 0x10FFFF.
     #[must_use]

@@ -228,6 +228,44 @@ fn frozen_calls_quiet() {
     });
 }
 
+/// The boundaries of a set in which whole words, blocks and planes are full.
+const RUNS: [u32; 6] = [0x41, 0x5B, 0x3F0, 0xE000, 0x1_0000, 0x11_0000];
+
+/// Ranges in one word, over several words and blocks, long ranges, and ranges that end with a
+/// surrogate.
+///
+/// Calls: `FrozenCodePointSet::contains_range`.
+#[test]
+fn frozen_ranges_quiet() {
+    none_asked(|| {
+        let Some(frozen) = frozen_of(&RUNS) else {
+            return;
+        };
+        say("call");
+        let held = [
+            frozen.contains_range('\u{3F0}'..='\u{3FF}'),
+            frozen.contains_range('\u{3F0}'..'\u{500}'),
+            frozen.contains_range('\u{43F}'..='\u{541}'),
+            frozen.contains_range('\u{D700}'..'\u{E000}'),
+            frozen.contains_range('\u{3F0}'..'\u{E000}'),
+            frozen.contains_range('\u{3F0}'..='\u{D7FF}'),
+            frozen.contains_range('\u{10000}'..),
+        ];
+        let others = [
+            frozen.contains_range('A'..='['),
+            frozen.contains_range('\u{3EF}'..='\u{541}'),
+            frozen.contains_range('Z'..='\u{3F0}'),
+            frozen.contains_range('\u{D700}'..='\u{E000}'),
+            frozen.contains_range('\u{3F0}'..='\u{E000}'),
+            frozen.contains_range('\u{FFFF}'..'\u{10100}'),
+            frozen.contains_range('\u{FFFF}'..),
+        ];
+        say("done");
+        expect_same(held, [true; 7], "ranges in the set");
+        expect_same(others, [false; 7], "ranges that are not");
+    });
+}
+
 /// Says that the call is done. Expects the frozen set, if it was made, to return the right
 /// results.
 fn expect_frozen(made: Option<FrozenCodePointSet>) {

@@ -1,0 +1,86 @@
+-- Runs of ones in the tables.
+use Rattle.std.proofs.Common.{◌≡◌, ◌∙◌, ℕ, ◌+◌, ◌-◌, ◌/◌, ◌%◌, ◌^◌, ◌<◌, ◌≤◌, length, get_or, refl, ap, sym, arith, true, false, inl, inr}
+use Rattle.std.specs.Int.{bit_at, trailing_ones, w64}
+use Rattle.std.specs.Prelude.{nat_eq}
+use Rattle.std.proofs.Math.Nat.{div-div-eq-div-mul, div-le_self}
+use Rattle.std.proofs.lemmas.Bool.{cases_lt}
+use lib.Count.{count_trailing_zeros}
+use Rattle.std.proofs.lemmas.List.{get_or_default}
+use Rattle.std.proofs.lemmas.Nat.{pow-add}
+use Rattle.std.proofs.lemmas.Nat.Bits.{bit_at_above, bit_at_ones, bit_at-trailing_ones}
+use Rattle.icu_frozen_sets.specs.CodePointBits.{BitTables, has_bit, word_with}
+use Rattle.icu_frozen_sets.specs.Inside.Filling.{AreTables}
+use Rattle.icu_frozen_sets.proofs.BlockLemmas.{bit_of_uniform, shared_word}
+
+-- ---- a full block
+pub ones_of_full : (t : BitTables) (c k : ℕ) → AreTables t → get_or t.index (c / 256) 0 ≡ 4 → k / 256 ≡ c / 256 → has_bit t k ≡ true
+ones_of_full t c k a e q = bit_of_uniform true _ (k % 64)
+    (ap (λ (n : ℕ). get_or t.words (n + k / 64 % 4) 0) (ap (λ (b : ℕ). get_or t.index b 0) q ∙ e)
+    ∙ shared_word t true (k / 64 % 4) a (omega arith)) (omega arith)
+
+-- ---- a word
+shifted : (n k i : ℕ) → bit_at (n / 2 ^ k) i ≡ bit_at n (k + i)
+shifted n k i = ap (λ (m : ℕ). m % 2) (div-div-eq-div-mul n (2 ^ k) (2 ^ i) ∙ ap (λ (p : ℕ). n / p) (sym (pow-add 2 k i)))
+
+module _ (word s : ℕ) (fits : word < 2 ^ 64) where
+  abbrev shift : ℕ
+  shift = word / 2 ^ s
+
+  -- The bits above the word are zeros, so a one is in the word.
+  inside : (i : ℕ) → bit_at shift i ≡ 1 → (s + i < 64) × (bit_at word (s + i) ≡ 1)
+  inside i e =
+      let one : bit_at word (s + i) ≡ 1 = sym (shifted word s i) ∙ e in
+      elim (cases_lt (s + i) 64) [
+        | inl h ↦ (h, one)
+        | inr l ↦ absurd (let z = bit_at_above word 64 (s + i) fits l in omega arith)
+      ]
+
+  small : shift ≤ word
+  small = div-le_self word (2 ^ s)
+
+  -- A word of ones has 64.
+  all_ones : shift ≡ 2 ^ 64 - 1 → trailing_ones w64 shift ≡ 64
+  unfolding count_trailing_zeros
+  all_ones e = ap (λ (n : ℕ). trailing_ones w64 n) e
+
+  pub run_ones : (i : ℕ) → i < trailing_ones w64 shift → (s + i < 64) × (bit_at word (s + i) ≡ 1)
+  run_ones i h = inside i (elim (cases_lt (shift + 1) (2 ^ 64)) [
+    | inl l ↦ (bit_at-trailing_ones w64 shift l).2 i h
+    | inr l ↦ (let e : shift ≡ 2 ^ 64 - 1 = omega (arith, small) in
+        ap (λ (n : ℕ). bit_at n i) e ∙ bit_at_ones 64 i (omega (arith, all_ones e)))
+  ])
+
+  pub run_stops : trailing_ones w64 shift ≡ 0 → bit_at word s ≡ 0
+  run_stops e = elim (cases_lt (shift + 1) (2 ^ 64)) [
+    | inl l ↦ sym (ap (λ (n : ℕ). bit_at word n) (omega arith)) ∙ (sym (shifted word s 0)
+        ∙ (sym (ap (λ (n : ℕ). bit_at shift n) e) ∙ (bit_at-trailing_ones w64 shift l).1))
+    | inr l ↦ absurd (let f : shift ≡ 2 ^ 64 - 1 = omega (arith, small) in omega (arith, all_ones f))
+  ]
+
+-- ---- the run of a code point
+module _ (t : BitTables) (c word run : ℕ) (there : word ≡ word_with t c) where
+  bit_here : (k i : ℕ) → k / 64 ≡ c / 64 → k % 64 ≡ i → has_bit t k ≡ nat_eq (bit_at word i) 1
+  bit_here k i q r =
+      let b : k / 256 ≡ c / 256 = omega arith in
+      ap (λ (n : ℕ). nat_eq (bit_at (get_or t.words (get_or t.index n 0 + k / 64 % 4) 0) (k % 64)) 1) b
+      ∙ (ap (λ (n : ℕ). nat_eq (bit_at (get_or t.words (get_or t.index (c / 256) 0 + n % 4) 0) (k % 64)) 1) q
+      ∙ (ap (λ (n : ℕ). nat_eq (bit_at n (k % 64)) 1) (sym there)
+      ∙ ap (λ (n : ℕ). nat_eq (bit_at word n) 1) r))
+
+  pub ones_of_word : ((i : ℕ) → i < run → (c % 64 + i < 64) × (bit_at word (c % 64 + i) ≡ 1))
+      → (k : ℕ) → c ≤ k → k < c + run → has_bit t k ≡ true
+  ones_of_word ones k l h =
+      let o = ones (k - c) (omega arith) in
+      bit_here k (c % 64 + (k - c)) (omega (arith, o.0)) (omega (arith, o.0)) ∙ ap (λ (n : ℕ). nat_eq n 1) o.1
+
+  pub stops_at_word : bit_at word (c % 64) ≡ 0 → has_bit t c ≡ false
+  stops_at_word e = bit_here c (c % 64) refl refl ∙ ap (λ (n : ℕ). nat_eq n 1) e
+
+-- The word that the code reads.
+pub word_read : (t : BitTables) (c first word : ℕ) → AreTables t → c / 256 < length t.index → first ≡ get_or t.index (c / 256) first
+    → word ≡ get_or t.words (first + c / 64 % 4) word → word ≡ word_with t c
+word_read t c first word a h f w =
+    let p = a.placed (c / 256) h in
+    let place : first ≡ get_or t.index (c / 256) 0 = f ∙ get_or_default t.index (c / 256) first 0 h in
+    w ∙ (get_or_default t.words (first + c / 64 % 4) word 0 (omega (arith, p, place))
+    ∙ ap (λ (n : ℕ). get_or t.words (n + c / 64 % 4) 0) place)
