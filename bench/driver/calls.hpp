@@ -79,6 +79,8 @@ BOTH(rust)
 #undef BOTH
 
 uint64_t ours_frozen_contains(const uint8_t *, size_t, const uint32_t *points, size_t, size_t turns);
+uint64_t ours_frozen_contains_range(const uint8_t *, size_t, const uint32_t *starts, size_t,
+                                    const uint32_t *lasts, size_t, size_t turns);
 uint64_t ours_frozen_text(const uint8_t *, size_t, const uint8_t *text, size_t, size_t turns);
 uint64_t ours_span(const uint8_t *, size_t, const uint8_t *text, size_t, size_t turns);
 uint64_t ours_frozen_span(const uint8_t *, size_t, const uint8_t *text, size_t, size_t turns);

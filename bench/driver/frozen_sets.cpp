@@ -49,6 +49,29 @@ static void contains() {
     }
 }
 
+// The set's own ranges, shuffled, or ranges of up to 64 code points at random.
+static void contains_ranges(const Set &s, bool own) {
+    const size_t turns = 32;
+    vector<uint32_t> starts(16384), lasts(16384);
+    for (size_t i = 0; i < starts.size(); i++) {
+        const size_t k = own ? random_number(uint32_t(s.starts.size())) : 0;
+        starts[i] = own ? s.starts[k] : random_number(0xD000);
+        lasts[i] = own ? s.ends[k] - 1 : starts[i] + random_number(64);
+    }
+    const Call ours = [&] {
+        return ours_frozen_contains_range(PARTS(s.bytes), PARTS(starts), PARTS(lasts), turns);
+    };
+    const Call icu = [&] {
+        uint64_t sum = 0;
+        for (size_t k = 0; k < turns; k++)
+            for (size_t i = 0; i < starts.size(); i++)
+                sum += s.frozen.contains(UChar32(starts[i]), UChar32(lasts[i]));
+        return sum;
+    };
+    row("frozen_contains_range", s.name + (own ? "-own" : "-any"), double(turns) * starts.size(),
+        ours, nullptr, icu);
+}
+
 static void over_texts() {
     const size_t turns = 8;
     for (const Set &s : sets_to_freeze()) {
@@ -108,6 +131,11 @@ static void freezing() {
 
 void frozen_sets() {
     if (wanted("frozen_contains")) contains();
+    if (wanted("frozen_contains_range"))
+        for (const Set &s : sets_to_freeze()) {
+            if (!s.starts.empty()) contains_ranges(s, true);
+            contains_ranges(s, false);
+        }
     if (wanted("frozen_text")) over_texts();
     if (wanted("frozen_span")) spans();
     if (wanted("freeze")) freezing();

@@ -26,6 +26,18 @@ fn add_held_frozen(set: &FrozenCodePointSet, text: &str, sum: u64) -> u64 {
     sum
 }
 
+/// Adds the number of ranges that the set contains to `sum`. Each has a start and a last code point.
+#[inline(never)]
+fn add_held_ranges(set: &FrozenCodePointSet, starts: &[u32], lasts: &[u32], sum: u64) -> u64 {
+    let mut sum = sum;
+    for (start, last) in starts.iter().zip(lasts.iter()) {
+        if let (Some(start), Some(last)) = (char::from_u32(*start), char::from_u32(*last)) {
+            sum = sum.wrapping_add(set.contains_range(start..=last) as u64);
+        }
+    }
+    sum
+}
+
 /// Freezes the set with these boundaries.
 fn frozen_of(alloc: Global, ends: &[u8]) -> Option<FrozenCodePointSet> {
     let set = set_of(alloc, ends)?;
@@ -46,6 +58,25 @@ pub extern "C" fn ours_frozen_contains(
     let mut sum = 0u64;
     for _ in 0..turns {
         sum = held_points_frozen(&set, points, sum);
+    }
+    sum
+}
+
+/// Counts the ranges that the frozen set contains, `turns` times.
+#[unsafe(no_mangle)]
+pub extern "C" fn ours_frozen_contains_range(
+    alloc: Global,
+    ends: &[u8],
+    starts: &[u32],
+    lasts: &[u32],
+    turns: usize,
+) -> u64 {
+    let Some(set) = frozen_of(alloc, ends) else {
+        return u64::MAX;
+    };
+    let mut sum = 0u64;
+    for _ in 0..turns {
+        sum = add_held_ranges(&set, starts, lasts, sum);
     }
     sum
 }
