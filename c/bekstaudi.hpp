@@ -33,7 +33,7 @@ namespace bekstaudi {
 class trie_refused : public std::invalid_argument {
 public:
     explicit trie_refused(bks_status status)
-        : std::invalid_argument("bekstaudi: the bytes are no such trie"), status_(status) {}
+        : std::invalid_argument("bekstaudi: the bytes are not a trie of this width"), status_(status) {}
     bks_status status() const noexcept { return status_; }
 
 private:
@@ -135,7 +135,7 @@ public:
     explicit code_point_set(view<std::uint32_t> ends)
         : ends_(ends.data(), ends.data() + ends.size()) {
         if (!bks_set_test(ends.data(), ends.size()))
-            throw set_refused("bekstaudi: no ends of a set");
+            throw set_refused("bekstaudi: the numbers are not the boundaries of a set");
     }
     code_point_set(std::initializer_list<std::uint32_t> ends)
         : code_point_set(view<std::uint32_t>(ends.begin(), ends.size())) {}
@@ -547,7 +547,10 @@ private:
 class row_refused : public std::invalid_argument {
 public:
     explicit row_refused(bks_refusal refusal)
-        : std::invalid_argument("bekstaudi: no trie of these rows"), refusal_(refusal) {}
+        : std::invalid_argument(refusal == BKS_WIDE_VALUE
+                                    ? "bekstaudi: a value has more bits than the trie's"
+                                    : "bekstaudi: the trie of these rows would be too large"),
+          refusal_(refusal) {}
     // Returns BKS_WIDE_VALUE if a value has more bits than the trie's, or BKS_TOO_LARGE.
     bks_refusal refusal() const noexcept { return refusal_; }
 
