@@ -119,6 +119,9 @@ mod collected;
 #[path = "../../bekstaudi/src/constant.rs"]
 mod constant;
 #[forbid(unsafe_code)]
+#[path = "../../bekstaudi/src/constant_units.rs"]
+mod constant_units;
+#[forbid(unsafe_code)]
 #[path = "../../bekstaudi/src/icu_char16trie/mod.rs"]
 mod icu_char16trie;
 #[forbid(unsafe_code)]

@@ -483,7 +483,8 @@ impl<'trie, T: ConstValue> CodePointTrie<'trie, T> {
 /// ```
 ///
 /// If the values are names, as in the files of the Unicode Character Database, `ucptrie` numbers them
-/// and writes an enum too. `trie_of!` gives the numbers, and the enum has `try_from`:
+/// and writes an enum too. With `--as rust-static` it also writes the static trie of the enum. With
+/// `--as rust`, `trie_of!` gives the numbers, and the enum has `try_from`:
 ///
 /// ```sh
 /// ucptrie build Scripts.txt --values names --width 8 --as rust --name scripts > scripts.rs
@@ -698,8 +699,8 @@ impl<'trie, T: ConstValue> CodePointTrie<'trie, T> {
 
 impl<'data> Char16Trie<'data> {
     /// Returns the trie of these units, which it borrows. Like [`new`](Self::new), it does not
-    /// validate them, also in a constant: look-ups return on all units. A test can call
-    /// `try_is_trie`, which takes too many steps for a constant.
+    /// validate them, also in a constant: look-ups return on all units.
+    /// [`unit_trie!`](crate::unit_trie) also validates them.
     ///
     /// ```
     /// use bekstaudi::{char16trie::Char16Trie, zeroslice};
@@ -707,23 +708,6 @@ impl<'data> Char16Trie<'data> {
     /// // The map of "ab" to 3.
     /// static WORDS: Char16Trie<'static> =
     ///     Char16Trie::from_static(zeroslice!(u16; [0x31, 0x61, 0x62, 0x8003]));
-    /// assert_eq!(WORDS.longest_match_str("abc"), Some((2, 3)));
-    /// ```
-    ///
-    /// The units that `ucptrie words --as rust --name words` writes become a trie like this:
-    ///
-    /// ```
-    /// # use bekstaudi::{char16trie::Char16Trie, zeroslice};
-    /// mod made {
-    /// # /*
-    ///     include!("words.rs");
-    /// # */
-    /// #   pub mod words {
-    /// #     pub static UNITS: [u16; 4] = [0x31, 0x61, 0x62, 0x8003];
-    /// #   }
-    /// }
-    /// static WORDS: Char16Trie<'static> =
-    ///     Char16Trie::from_static(zeroslice!(u16; made::words::UNITS));
     /// assert_eq!(WORDS.longest_match_str("abc"), Some((2, 3)));
     /// ```
     #[must_use]

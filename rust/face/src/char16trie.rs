@@ -28,6 +28,8 @@
 //! # Ok::<(), Box<dyn std::error::Error>>(())
 //! ```
 
+#[doc(hidden)]
+pub use crate::constant_units::is_unit_trie;
 #[cfg(feature = "json")]
 pub use crate::icu_char16trie::char16trie::Char16JsonError;
 pub use crate::icu_char16trie::char16trie::{

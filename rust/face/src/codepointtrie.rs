@@ -4,7 +4,7 @@
 //! [`CodePointTrieBuilder::from_trie`] changes a trie and builds it again. [`binary::from_binary`]
 //! reads in place a trie that ICU wrote. [`CodePointTrie::try_new`] makes a trie of its parts,
 //! which may be borrowed, and [`trie_of!`](crate::trie_of) a static one of what the program `ucptrie`
-//! writes. [`text::values_of`] returns the values in a text.
+//! writes. [`text::values_of`] returns each character of a text with its value.
 //!
 //! ```
 //! use bekstaudi::codepointtrie::{CodePointTrieBuilder, TrieType};

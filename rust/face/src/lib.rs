@@ -62,15 +62,16 @@
 //!
 //! # Static data
 //!
-//! Tries, sets and unit tries can be `static`. The compiler runs the test of
-//! [`try_new`](codepointtrie::CodePointTrie::try_new), so a bad table does not compile:
+//! Tries, sets and unit tries can be `static`. The compiler tests them as
+//! [`try_new`](codepointtrie::CodePointTrie::try_new) does at run time, so a bad table does not compile:
 //! [`CodePointTrie::from_static`](codepointtrie::CodePointTrie::from_static),
 //! [`CodePointInversionList::from_static`](codepointinvlist::CodePointInversionList::from_static),
-//! [`Char16Trie::from_static`](char16trie::Char16Trie::from_static). [`zeroslice!`] packs an array
-//! for them, and [`trie_values!`] declares an enum of values.
+//! [`unit_trie!`]. [`zeroslice!`] packs an array for them, and [`trie_values!`] declares an enum of
+//! values.
 //!
-//! The program `ucptrie` makes the parts of a trie from rows such as `0041..005A;1`. [`trie_of!`]
-//! makes the trie of what it writes.
+//! The program `ucptrie` makes the parts of a trie from rows such as `0041..005A;1`, and [`trie_of!`]
+//! makes the trie of them. `ucptrie build --as rust-static` also writes the `static`, and an enum if
+//! values have names.
 //!
 //! # Features
 //!
@@ -111,6 +112,7 @@ struct Readme;
 #[cfg(feature = "alloc")]
 mod collected;
 mod constant;
+mod constant_units;
 mod plain;
 #[cfg(feature = "serde")]
 mod serde_forms;

@@ -1,7 +1,8 @@
 //! Tables in constants: the tests that the compiler runs give the results of the tests at run time,
-//! for every cell, every length around the limits, every offset and every null value.
+//! for every cell, every length around the limits, every offset and every null value; for unit tries,
+//! for every few units around the limits of the format, and for built ones that are damaged.
 
-use bekstaudi::char16trie::Char16Trie;
+use bekstaudi::char16trie::{Char16Trie, Char16TrieBuilder, is_unit_trie};
 use bekstaudi::codepointinvlist::{
     CodePointInversionList, CodePointInversionListBuilder, InvalidStaticSet,
 };
@@ -10,7 +11,7 @@ use bekstaudi::codepointtrie::{
 };
 use bekstaudi::zerovec::ule::UleError;
 use bekstaudi::zerovec::{ConstCells, PotentialCodePoint, ZeroSlice, ZeroVec};
-use bekstaudi::{trie_values, zeroslice};
+use bekstaudi::{trie_values, unit_trie, zeroslice};
 use std::fmt::Debug;
 
 trie_values! {
@@ -64,6 +65,12 @@ static VOWELS: CodePointInversionList<'static> = CodePointInversionList::from_st
 // The map of "ab" to 3: a linear match of two units, and a final value.
 static WORDS: Char16Trie<'static> =
     Char16Trie::from_static(zeroslice!(u16; [0x31, 0x61, 0x62, 0x8003]));
+// The same, which the compiler checks; and the map of no word.
+static CHECKED: Char16Trie<'static> = unit_trie!([0x31, 0x61, 0x62, 0x8003]);
+const NO_WORDS: Char16Trie<'static> = unit_trie!([]);
+// No node after the linear match, and the units of a branch descending.
+const _: () = assert!(!is_unit_trie(&[0x31, 0x61, 0x62]));
+const _: () = assert!(!is_unit_trie(&[1, 0x62, 0x8001, 0x61, 0x8002]));
 // What databake writes is tested too.
 static BAKED: CodePointTrie<'static, Few> = CodePointTrie::from_parts_unstable_unchecked_v1(
     HEADER,
@@ -95,6 +102,8 @@ fn statics_return_their_values() {
     assert_eq!((&BAKED, EMPTY.size()), (&FEW, 0));
     assert!(VOWELS.contains('e') && !VOWELS.contains('f') && VOWELS.contains32(0x10_FFFF));
     assert_eq!(WORDS.longest_match_str("abc"), Some((2, 3)));
+    assert_eq!((&CHECKED, CHECKED.iter2().collect()), (&WORDS, vec![("ab".to_owned(), 3)]));
+    assert_eq!((NO_WORDS.count_entries(), NO_WORDS.longest_match(&[0x61])), (Some(0), None));
     assert_eq!((ALL.size(), BUILDER.build().size()), (0x11_0000, 0));
     assert_eq!(zeroslice!(i8; [-1, 127, -128]).as_bytes(), [0xFF, 0x7F, 0x80]);
     assert_eq!(zeroslice!(char; ['\u{1F600}']).as_bytes(), [0, 0xF6, 1]);
@@ -286,4 +295,109 @@ fn a_baked_set_is_tested() {
 #[should_panic(expected = "the data are empty")]
 fn a_baked_trie_is_tested() {
     let _ = CodePointTrie::from_parts_unstable_unchecked_v1(HEADER, ZeroVec::new(), ZeroVec::new(), 0u8, 0);
+}
+
+/// Compares both tests for these units. Returns whether they are a trie.
+fn compare_units<const N: usize>(units: &[u16; N]) -> bool {
+    let trie = Char16Trie::new(ZeroVec::alloc_from_slice(units).unwrap());
+    assert_eq!(is_unit_trie(units), trie.is_trie(), "{units:X?}");
+    trie.is_trie()
+}
+
+/// Units around the limits of the format: ends of matches, leads of values, jumps and deltas.
+const LIMITS: [u16; 24] = [
+    0, 1, 2, 4, 5, 6, 0x2F, 0x30, 0x31, 0x3F, 0x40, 0x41, 0x3FFF, 0x4000, 0x4040, 0x4041, 0x7FBF, 0x7FC0,
+    0x7FC1, 0x7FFF, 0x8000, 0xC000, 0xFC00, 0xFFFF,
+];
+
+#[test]
+fn both_tests_of_few_units_agree() {
+    let mut tries = u32::from(compare_units(&[]));
+    for a in 0..=0xFFFF {
+        tries += u32::from(compare_units(&[a]));
+    }
+    for a in LIMITS {
+        for b in LIMITS {
+            tries += u32::from(compare_units(&[a, b])) + u32::from(compare_units(&[a, b, 0x8000]));
+            for c in LIMITS {
+                for d in LIMITS {
+                    let found = [compare_units(&[a, b, c, d]), compare_units(&[a, b, c, d, 0x8000, 0x8000])];
+                    tries += found.iter().map(|&it| u32::from(it)).sum::<u32>();
+                }
+            }
+        }
+    }
+    assert!(tries > 0x4000);
+}
+
+/// Compares both tests for the first units, as many as a number in the list.
+macro_rules! compare_prefixes {
+    ($units:expr; $($length:literal)*) => {
+        [$($units.first_chunk::<$length>().is_some_and(compare_units)),*]
+    };
+}
+
+/// Compares both tests for tries that have these units and no more, or fewer.
+fn compare_lengths(units: &[u16]) -> usize {
+    let found = compare_prefixes!(units; 2 5 11 23 41 79 128 190 240 600);
+    found.iter().filter(|it| **it).count()
+}
+
+/// Returns the units of the trie of these keys, each with the value of its number times `factor`.
+fn units_of(keys: impl Iterator<Item = Vec<u16>>, factor: i32) -> Vec<u16> {
+    let mut builder = Char16TrieBuilder::new();
+    for (number, key) in keys.enumerate() {
+        builder.add(&key, (number as i32).wrapping_mul(factor)).unwrap();
+    }
+    builder.try_build().unwrap().data.iter().collect()
+}
+
+#[test]
+fn both_tests_of_damaged_units_agree() {
+    let words = ["in", "inn", "inner", "inning", "out", "outer", "a", "category", "cat", "世界", "世"];
+    let mut found = 0;
+    for factor in [1, 0x3000, 0x10_0000, -1] {
+        for mut units in [
+            units_of(words.iter().map(|it| it.encode_utf16().collect()), factor),
+            units_of((0..40).map(|it| vec![it * 7, it]), factor),
+            units_of((0..80).map(|it| vec![it * 801]), factor),
+            units_of((0x61..0x7B).map(|it| vec![it]), factor),
+        ] {
+            let length = units.len();
+            // Unused units after the trie are no fault.
+            units.resize(600, 0x30);
+            assert!(compare_lengths(&units) > 0);
+            for i in 0..length {
+                for unit in LIMITS.into_iter().chain([units[i] ^ 1, units[i] ^ 0x8000, units[i].wrapping_add(1)]) {
+                    let kept = std::mem::replace(&mut units[i], unit);
+                    found += compare_lengths(&units);
+                    units[i] = kept;
+                }
+            }
+        }
+    }
+    assert!(found > 1000);
+}
+
+#[test]
+fn deltas_have_one_to_three_units() {
+    // The upper half of a branch of a to f, each with a value, and the lower half.
+    let rows = [0x64, 0x8001, 0x65, 0x8002, 0x66, 0x8003, 0x61, 0x8004, 0x62, 0x8005, 0x63, 0x8006];
+    let deltas: [&[u16]; 3] = [&[6], &[0xFC00, 6], &[0xFFFF, 0, 6]];
+    for delta in deltas {
+        let mut units = [&[5, 0x64], delta, &rows].concat();
+        units.resize(24, 0x30);
+        let words = Char16Trie::new(ZeroVec::alloc_from_slice(&units).unwrap());
+        let found: String = words.iter2().map(|(word, value)| format!("{word}{value}")).collect();
+        assert_eq!(found, "a4b5c6d1e2f3");
+        let mut units: [u16; 24] = units.try_into().unwrap();
+        assert!(compare_units(&units));
+        for i in 0..units.len() {
+            for unit in LIMITS.into_iter().chain([7, 0x62, 0x64, 0x66]) {
+                let kept = std::mem::replace(&mut units[i], unit);
+                compare_units(&units);
+                units[i] = kept;
+            }
+        }
+    }
 }

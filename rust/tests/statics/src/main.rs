@@ -1,11 +1,15 @@
-//! Prints the ranges of a table that `ucptrie --as rust` wrote, read from a constant.
+//! Prints the ranges of a table that `ucptrie --as rust` wrote, read from a constant. Also looks up what
+//! it wrote with `--as rust-static`, and words.
 
+use bekstaudi::char16trie::Char16Trie;
 use bekstaudi::codepointtrie::{CodePointTrie, TrieValue};
-use bekstaudi::{trie_of, trie_values};
+use bekstaudi::{trie_of, trie_values, unit_trie};
 
 include!("categories.rs");
 include!("categories_small.rs");
 include!("upper.rs");
+include!("scripts.rs");
+include!("keywords.rs");
 
 trie_values! {
     /// General categories by the numbers of tests/data, and the error value.
@@ -47,6 +51,7 @@ trie_values! {
 static CATEGORIES: CodePointTrie<'static, Category> = trie_of!(categories as Category);
 static CATEGORIES_SMALL: CodePointTrie<'static, u16> = trie_of!(categories_small);
 static UPPER: CodePointTrie<'static, u32> = trie_of!(crate::upper);
+static KEYWORDS: Char16Trie<'static> = unit_trie!(keywords::UNITS);
 
 /// Prints the ranges, and compares each value with what the module's own look-up returns.
 fn print<T: TrieValue>(trie: &CodePointTrie<'_, T>, get: impl Fn(u32) -> u32) {
@@ -68,4 +73,6 @@ fn main() {
         _ => print(&UPPER, upper::get),
     }
     assert_eq!(CATEGORIES.get('A'), Category::Lu);
+    assert_eq!((SCRIPTS.get('B'), SCRIPTS.get('β')), (Scripts::Latin, Scripts::Greek));
+    assert_eq!(KEYWORDS.longest_match_str("integer"), Some((3, 3)));
 }
