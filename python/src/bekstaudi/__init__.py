@@ -101,8 +101,8 @@ class Trie(_native.Trie):
     `size` says where it ends. It raises TrieRefused if there is none.
 
     `trie[c]` is the value of a code point. It is the trie's error value above 0x10FFFF, and raises
-    ValueError for an int outside 0..=0xFFFFFFFF. `trie[start:stop]` are the values of a range of
-    code points, as `values` returns them.
+    ValueError for an int outside 0..=0xFFFFFFFF. `trie[start:stop]`, of ints, are the values of a
+    range of code points, as `values` returns them.
 
     Every code point has a value, so `in` and iteration raise TypeError: use `ranges`. Two tries are
     equal if their bytes are the same.
