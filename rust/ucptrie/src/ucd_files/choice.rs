@@ -32,16 +32,16 @@ pub struct Choice<'f> {
     pub kind: ValueKind,
 }
 
-/// The kinds of [`Numbering`], as one is asked for before the names are known.
+/// How the texts of values become numbers, without the names: the kinds of [`Numbering`].
 #[derive(Clone, Copy, Debug, PartialEq, Eq)]
 pub enum NumberingKind {
-    /// [`Numbering::Decimal`]
+    /// Each value is a decimal number: [`Numbering::Decimal`].
     Decimal,
-    /// [`Numbering::Hexadecimal`]
+    /// Each value is a hexadecimal number: [`Numbering::Hexadecimal`].
     Hexadecimal,
-    /// [`Numbering::One`]
+    /// Each value is 1, whatever its text is: [`Numbering::One`].
     One,
-    /// [`Numbering::Names`]
+    /// Each value is a name: [`Numbering::Names`].
     Names,
 }
 
