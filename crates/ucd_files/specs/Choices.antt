@@ -1,6 +1,6 @@
 -- What the values of a file are, and how they become numbers. Names of values are pairs of a text
 -- and a number.
-use Rattle.std.specs.Prelude.{ℕ, zero, ◌==◌, ◌&&◌, ◌||◌, not, Bool, true, false, List, [], ◌∷◌, ◌++◌, codes, length, map, Option, Some, if◌then◌else◌, unwrap_or}
+use Rattle.std.specs.Prelude.{ℕ, zero, ◌==◌, ◌&&◌, ◌||◌, nat_le, not, Bool, true, false, List, [], ◌∷◌, ◌++◌, codes, length, map, Option, Some, if◌then◌else◌, unwrap_or}
 use Rattle.std.specs.List.{filter_map, list_all, list_any}
 use Rattle.std.specs.Option.{option_and_then}
 use Rattle.std.specs.Str.Lines.{lines}
@@ -107,17 +107,28 @@ names_of_kind kind columns names = names
 
 -- ---- How texts become numbers
 
--- The kind of numbering that the file shows. The simple case folding maps to code points. The lines
--- of a set have the number 1. True, false and aliases are names. Other texts are decimal numbers,
--- or else code points, if all of them are, and otherwise names.
-unfoldable pub shown_numbering : Columns → ValueKind → List ℕ → NumberingKind
-shown_numbering SimpleFolding kind input = Hexadecimal
-shown_numbering columns Set input = One
-shown_numbering columns Binary input = Names
-shown_numbering columns Aliases input = Names
-shown_numbering columns Own input =
+-- The values are code points: those of the simple case folding, and of the simple case mappings in
+-- fields 12 to 14 of UnicodeData.txt.
+abbrev pub is_mapping : Columns → Bool
+is_mapping SimpleFolding = true
+is_mapping (UnicodeData n) = nat_le 12 n && nat_le n 14
+is_mapping columns = false
+
+-- The kind of numbering that the values of a file show. The lines of a set have the number 1. True,
+-- false and aliases are names. Other texts are decimal numbers, or else code points, if all of them
+-- are, and otherwise names.
+abbrev pub numbering_by_kind : Columns → ValueKind → List ℕ → NumberingKind
+numbering_by_kind columns Set input = One
+numbering_by_kind columns Binary input = Names
+numbering_by_kind columns Aliases input = Names
+numbering_by_kind columns Own input =
     if list_all (has_decimal columns) (lines input) then Decimal
     else (if list_all (has_code_point columns) (lines input) then Hexadecimal else Names)
+
+-- The kind of numbering that the file shows.
+unfoldable pub shown_numbering : Columns → ValueKind → List ℕ → NumberingKind
+shown_numbering columns kind input =
+    if is_mapping columns then Hexadecimal else numbering_by_kind columns kind input
 
 -- The kind of numbering that the user asks for, or else the one that the file shows.
 abbrev pub numbering_kind : Option NumberingKind → Columns → ValueKind → List ℕ → NumberingKind

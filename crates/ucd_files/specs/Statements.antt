@@ -13,6 +13,7 @@ use Rattle.ucd_files.specs.Names.{is_same_name, number_of}
 use Rattle.ucd_files.specs.declared.fault.LineFault.{LineFault}
 use Rattle.ucd_files.specs.declared.fault.LineFault.TheVariants.{Unpaired, NotCodePoints, CodePoint, Reversed, NoValue, UnknownValue}
 use Rattle.ucd_files.specs.declared.names.Numbering.{Numbering}
+use Rattle.ucd_files.specs.declared.names.Numbering.TheVariants.{One}
 use Rattle.ucd_files.specs.declared.statement.Columns.{Columns}
 use Rattle.ucd_files.specs.declared.statement.Columns.TheVariants.{Field, Property, SimpleFolding, UnicodeData, Unihan}
 use Rattle.ucd_files.specs.declared.statement.Statement.{Statement}
@@ -130,12 +131,18 @@ explicit_statement columns numbering previous content =
     statement_at numbering Explicit (points_of columns previous content)
     (value_text columns content)
 
+-- The text of the value in an `@missing` line, if it has a number: only the other lines of a set
+-- name its code points.
+abbrev pub text_of_missing : Columns → Numbering → List ℕ → Option (List ℕ)
+text_of_missing columns One content = None
+text_of_missing columns numbering content = missing_text columns content
+
 -- What an `@missing` line says.
 unfoldable pub missing_statement : Columns → Numbering → List ℕ
     → Result (Option Statement) LineFault
 missing_statement columns numbering content =
     statement_at numbering Missing (checked_points (code_points_of (field 0 content)))
-    (missing_text columns content)
+    (text_of_missing columns numbering content)
 
 -- What a line says by its content, if it is no `@missing` line. Nothing if it has none.
 abbrev pub statement_in : Columns → Numbering → List ℕ → List ℕ → Option (List ℕ)

@@ -256,7 +256,7 @@ fn shown_numbering(input: &[u8], columns: Columns<'_>, kind: ValueKind) -> Numbe
     ensures { result ≡ shown_numbering columns.entry kind input.now }
 {
     match (columns, kind) {
-        (Columns::SimpleFolding, _) => NumberingKind::Hexadecimal,
+        (Columns::SimpleFolding | Columns::UnicodeData(12..=14), _) => NumberingKind::Hexadecimal,
         (_, ValueKind::Set) => NumberingKind::One,
         (_, ValueKind::Binary | ValueKind::Aliases) => NumberingKind::Names,
         _ if are_decimal(input, columns) => NumberingKind::Decimal,

@@ -3,7 +3,7 @@ ghost use Rattle.std.specs.Prelude.{◌≡◌};
 ghost use Rattle.std.specs.Option.{option_and_then, option_map};
 ghost use Rattle.ucd_files.specs.Fields.{after_mark};
 ghost use Rattle.ucptab_table.specs.TableText.{code_points_of, write_at};
-ghost use Rattle.ucd_files.specs.Statements.{checked_points, explicit_statement, field_text, is_paired, is_simple, joined, later_field, missing_statement, missing_text, points_of, some_text, statement_of, untagged, value_text, write_of};
+ghost use Rattle.ucd_files.specs.Statements.{checked_points, explicit_statement, field_text, is_paired, is_simple, joined, later_field, missing_statement, missing_text, points_of, some_text, statement_of, text_of_missing, untagged, value_text, write_of};
 
 use crate::fault::LineFault;
 use crate::fields::{
@@ -252,6 +252,22 @@ fn explicit_statement(
     Ok(Some(Statement::Explicit(write)))
 }
 
+/// Returns the text of the value in an `@missing` line, or `None` if the numbering is that of a set,
+/// since only the other lines of a set name its code points.
+fn text_of_missing<'t>(
+    columns: Columns<'_>,
+    numbering: Numbering<'_>,
+    content: &'t [u8],
+) -> Option<&'t [u8]>
+    ensures { option_map (λ text. text.now) result
+        ≡ text_of_missing columns.entry numbering.entry content.now }
+{
+    match numbering {
+        Numbering::One => None,
+        _ => missing_text(columns, content),
+    }
+}
+
 /// Returns what an `@missing` line says.
 #[tactic(auto, unfolding(crate::specs::Statements::missing_statement))]
 fn missing_statement(
@@ -262,7 +278,7 @@ fn missing_statement(
     ensures { result ≡ missing_statement columns.entry numbering.entry content.now }
 {
     let points = checked_points(code_points_of(field(0, content)))?;
-    let Some(text) = missing_text(columns, content) else {
+    let Some(text) = text_of_missing(columns, numbering, content) else {
         return Ok(None);
     };
     let write = write_of(numbering, points, text)?;
