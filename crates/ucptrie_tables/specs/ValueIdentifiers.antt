@@ -1,23 +1,28 @@
 -- Names of values in source.
 use Rattle.std.specs.Prelude.{◌≡◌, ℕ, zero, suc, ◌+◌, ◌-◌, ◌<◌, ◌==◌, ◌&&◌, ◌||◌, nat_le, nat_lt, not, Bool, true, false, List, [], ◌∷◌, ◌++◌, codes, decimal, length, map, slice_index, string_bytes, if◌then◌else◌}
 use Rattle.std.specs.Char.{is_ascii_alphanumeric, is_ascii_digit, to_ascii_uppercase}
-use Rattle.std.specs.List.{filter, fold, list_any, slice_split, All, FoldsTo, IsDistinct}
+use Rattle.std.specs.List.{filter, fold, list_all, list_any, slice_split, All, FoldsTo, IsDistinct}
 use Rattle.std.specs.Str.{bytes_eq}
 use Rattle.ucd_files.specs.declared.names.Name.{Name}
 use Rattle.ucptrie_tables.specs.declared.value_names.EnumValue.{EnumValue}
 
 -- ---- Names
 
+-- The bytes of a name, or 0 if it is a number: a value is named by its number only if it has no
+-- other name.
+abbrev pub name_length : List ℕ → ℕ
+name_length text = if list_all is_ascii_digit text then 0 else length text
+
 -- One of the names has this number and at least so many bytes.
 abbrev pub has_name : List Name → ℕ → ℕ → Bool
 has_name names number least =
-    list_any (λ name. (name.number == number) && nat_le least (length name.text.now)) names
+    list_any (λ name. (name.number == number) && nat_le least (name_length name.text.now)) names
 
 -- The name is the longest one of its number, and the first such one: none before it is as long, and
 -- none from it on is longer.
 abbrev pub is_longest : List Name → Name → List Name → Bool
-is_longest before name from = not (has_name before name.number (length name.text.now))
-    && not (has_name from name.number (length name.text.now + 1))
+is_longest before name from = not (has_name before name.number (name_length name.text.now))
+    && not (has_name from name.number (name_length name.text.now + 1))
 
 -- The names that an enum has, of those after the names `before`: of each number up to `highest` the
 -- longest one, and of several the first.

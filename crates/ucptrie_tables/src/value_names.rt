@@ -1,13 +1,14 @@
 //! Names of values in source: an enum in C or in Rust.
-ghost use Rattle.std.specs.Prelude.{◌≡◌, ℕ, ◌<◌, ◌++◌, if◌then◌else◌, List, [], ◌∷◌, false, true, length, map, IfOk, OnOk, string_bytes};
+ghost use Rattle.std.specs.Prelude.{◌≡◌, ℕ, ◌<◌, ◌≤◌, ◌++◌, if◌then◌else◌, List, [], ◌∷◌, false, true, length, map, IfOk, OnOk, string_bytes};
 ghost use Rattle.std.specs.Borrow.{Bor};
-ghost use Rattle.std.specs.List.{flat_map, list_any};
+ghost use Rattle.std.specs.Char.{is_ascii_digit};
+ghost use Rattle.std.specs.List.{flat_map, list_all, list_any};
 ghost use Rattle.std.specs.Str.{bytes_eq};
 ghost use Rattle.ucptrie_source.specs.Patterns.{named};
 ghost use Rattle.ucptrie_tables.specs.NamesSource.{c_enum, c_enum_head, has_enum, highest_of, rust_arm, rust_attributes, rust_conversion, rust_conversion_end, rust_enum, rust_enum_head, rust_of, rust_titled, value_line, value_lines, AreRustValues};
 ghost use Rattle.ucptrie_tables.specs.Source.{has_names};
 ghost use Rattle.ucptrie_tables.specs.declared.value_names.EnumValue.{EnumValue};
-ghost use Rattle.ucptrie_tables.specs.ValueIdentifiers.{before_word, c_byte, enum_name, has_name, is_longest, is_reserved, is_taken, last_byte, listed, rust_name, value_name, with_number, with_word, with_words, words, AreIdentifiers, AreValuesOf, IsFirstFree, IsWithValue};
+ghost use Rattle.ucptrie_tables.specs.ValueIdentifiers.{before_word, c_byte, enum_name, has_name, is_longest, is_reserved, is_taken, last_byte, listed, name_length, rust_name, value_name, with_number, with_word, with_words, words, AreIdentifiers, AreValuesOf, IsFirstFree, IsWithValue};
 
 use crate::written::Form;
 use std::alloc::{AllocError, Global};
@@ -18,13 +19,27 @@ use ucptrie_source::pattern::{push_named, push_number, push_pattern};
 /// How many names are written at most. More are no enum that a program would use.
 pub(crate) const MOST: usize = 4096;
 
+/// Returns whether a name is a number: whether it has decimal digits alone.
+fn is_number(name: &[u8]) -> bool
+    ensures { result ≡ list_all is_ascii_digit name.now }
+{
+    name.iter().all(|byte| byte.is_ascii_digit())
+}
+
+/// Returns the bytes of a name, or 0 if it is a number: a value is named by its number only if it
+/// has no other name.
+fn name_length(name: &[u8]) -> usize
+    ensures length { result ≡ name_length name.now }
+    ensures bound { result ≤ length name.now }
+{
+    if is_number(name) { 0 } else { name.len() }
+}
+
 /// Returns whether one of the names has this number and at least so many bytes.
 fn has_name(names: &[Name<'_>], number: usize, least: usize) -> bool
     ensures { result ≡ has_name names.now number least }
 {
-    names
-        .iter()
-        .any(|name| name.number == number && least <= name.text.len())
+    names.iter().any(|name| name.number == number && least <= name_length(name.text))
 }
 
 /// Returns whether a name is the longest one of its number, and the first such one. `from` starts
@@ -32,7 +47,7 @@ fn has_name(names: &[Name<'_>], number: usize, least: usize) -> bool
 fn is_longest(before: &[Name<'_>], name: &Name<'_>, from: &[Name<'_>]) -> bool
     ensures { result ≡ is_longest before.now name.now from.now }
 {
-    let length = name.text.len();
+    let length = name_length(name.text);
     !has_name(before, name.number, length) && !has_name(from, name.number, length + 1)
 }
 
