@@ -2,15 +2,15 @@
 use crate::build::unbuilt;
 use crate::choice::{UnicodeFile, choice_of};
 use crate::compressed::expect_text;
-use crate::fault::{Fault, about};
+use crate::fault::{Fault, about, about_arguments};
 use crate::forms::{is_json, is_toml};
-use crate::missing::{default_of, test_own_names};
+use crate::missing::{default_of, test_numbers, test_own_names};
 use crate::names::name_in;
 use crate::offsets::{has_tries, start_of, starts_trie};
 use crate::streams::say;
 use crate::tables::{number, table_in};
 use crate::unicode_files::{
-    column_option, columns, found_kind, named_file, named_kind, not_of_rows, unread,
+    column_option, columns, found_kind, named_file, named_kind, not_of_rows, say_overlap, unread,
 };
 use clap::ArgMatches;
 use icu_invlist::codepointinvlist::CodePointInversionList;
@@ -153,6 +153,7 @@ fn set_of_lines(
 ) -> Result<CodePointInversionList<'static>, Fault> {
     let (numbering, value) = asked_value(alloc, matches, file, choice)?;
     test_own_names(alloc, file, choice)?;
+    test_numbers(alloc, file, choice)?;
     let default = default_in_set(alloc, matches, file, choice, numbering)?;
     match table_of_file(alloc, file.bytes, file.columns, numbering, options(default)) {
         Ok(table) => set_in_table(alloc, file.name, &table, value),
@@ -169,6 +170,7 @@ fn set_of_unicode_file(
     kind: FileKind,
 ) -> Result<CodePointInversionList<'static>, Fault> {
     let columns = columns(rt.alloc(), matches, kind, name, bytes)?;
+    say_overlap(rt, columns, matches, name, bytes)?;
     let named = named_file(rt, matches)?;
     let aliases = named.as_slice();
     let file = UnicodeFile {
@@ -263,6 +265,18 @@ fn set_of_toml(
     }
 }
 
+/// Returns an option of the arguments for which a file of this kind has no use.
+fn unused_option(matches: &ArgMatches<'_>, source: Source) -> Option<&'static str> {
+    match source {
+        Source::Lines(_) => None,
+        _ if number(matches, "field").is_some() => Some("--field"),
+        _ if matches.get_str("aliases").is_some() => Some("--aliases"),
+        Source::Serialized if matches.get_str("property").is_some() => Some("--property"),
+        Source::Serialized if matches.get_str("value").is_some() => Some("--value"),
+        _ => None,
+    }
+}
+
 /// Returns the set of a file in ICU's serialized form.
 fn set_of_serialized(
     alloc: Global,
@@ -284,6 +298,9 @@ fn asked_set(
     file: &[u8],
 ) -> Result<CodePointInversionList<'static>, Fault> {
     let source = source_of(matches, file);
+    if let Some(option) = unused_option(matches, source) {
+        return Err(about_arguments(rt.alloc(), option, "not for such a file: leave it out"));
+    }
     if matches!(source, Source::Lines(_)) {
         expect_text(rt.alloc(), name, file)?;
     }
