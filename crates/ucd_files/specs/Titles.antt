@@ -20,13 +20,21 @@ unfoldable pub version_of : List ℕ → Option (List ℕ)
 version_of line = if starts_with nat_eq line (codes "icu_version = ")
     || starts_with nat_eq line (codes "unicode_version = ") then Some (trimmed line) else None
 
+-- The version in a line of a file whose title has none, as `# Version: 15.0` or
+-- `# Used with Emoji Version 15.0`: the line from `Version` or `Emoji` on.
+unfoldable pub edition_of : List ℕ → Option (List ℕ)
+edition_of line = if starts_with nat_eq line (codes "# Version: ")
+    then after_prefix (codes "# ") line else after_prefix (codes "# Used with ") line
+
 -- The first of two that is there.
 abbrev pub first_some : Option (List ℕ) → Option (List ℕ) → Option (List ℕ)
 first_some None second = second
 first_some (Some text) second = Some text
 
--- What a line says of its file: the date in a file of the Unicode Character Database; the name, and
--- the versions of ICU and Unicode, in a TOML file of ICU's icuexportdata. None for any other line.
+-- What a line says of its file: the date or the version in a file of the Unicode Character Database;
+-- the name, and the versions of ICU and Unicode, in a TOML file of ICU's icuexportdata. None for any
+-- other line.
 unfoldable pub note_of : List ℕ → Option (List ℕ)
 note_of line = first_some (after_prefix (codes "# Date: ") line)
-    (first_some (after_prefix (codes "# file name: ") line) (version_of line))
+    (first_some (edition_of line)
+    (first_some (after_prefix (codes "# file name: ") line) (version_of line)))

@@ -1,7 +1,7 @@
 //! What a file says of itself: its name, its date, its version.
 ghost use Rattle.std.specs.Prelude.{◌≡◌};
 ghost use Rattle.std.specs.Option.{option_map};
-ghost use Rattle.ucd_files.specs.Titles.{after_prefix, note_of, title_of, version_of};
+ghost use Rattle.ucd_files.specs.Titles.{after_prefix, edition_of, note_of, title_of, version_of};
 
 use ucptab_table::rows::{before, trimmed};
 
@@ -47,8 +47,21 @@ fn version_of(line: &[u8]) -> Option<&[u8]>
     }
 }
 
+/// Returns the version in a line of a file whose title has none, as `emoji-data.txt`: what follows
+/// `# Used with `, or a line `# Version: ..` without `# `. Returns `None` for any other line.
+#[tactic(auto, unfolding(crate::specs::Titles::edition_of))]
+fn edition_of(line: &[u8]) -> Option<&[u8]>
+    ensures { option_map (λ edition. edition.now) result ≡ edition_of line.now }
+{
+    if line.starts_with(b"# Version: ".as_slice()) {
+        return after_prefix(b"# ".as_slice(), line);
+    }
+    after_prefix(b"# Used with ".as_slice(), line)
+}
+
 /// Returns what a line says of its file, without blanks around it. In a file of the Unicode
-/// Character Database it is what follows `# Date: `. In the TOML files that ICU's `icuexportdata`
+/// Character Database it is what follows `# Date: `, and a version as in `# Version: 15.0` or
+/// `# Used with Emoji Version 15.0`. In the TOML files that ICU's `icuexportdata`
 /// writes, it is what follows `# file name: `, and the lines of `icu_version` and
 /// `unicode_version`. Returns `None` for any other line.
 #[tactic(auto, unfolding(crate::specs::Titles::note_of))]
@@ -57,6 +70,9 @@ pub fn note_of(line: &[u8]) -> Option<&[u8]>
 {
     if let Some(date) = after_prefix(b"# Date: ".as_slice(), line) {
         return Some(date);
+    }
+    if let Some(edition) = edition_of(line) {
+        return Some(edition);
     }
     if let Some(name) = after_prefix(b"# file name: ".as_slice(), line) {
         return Some(name);
