@@ -12,6 +12,7 @@ mod SourceTexts
 mod StatedLemmas
 mod TableLemmas
 mod TomlLemmas
+mod TomlNameLemmas
 mod WidthLemmas
 mod WordLemmas
 mod WriteLemmas

@@ -4,14 +4,16 @@ pub mod Differences
 pub mod Files
 pub mod Inside
 pub mod NamesSource
+pub mod OtherToml
 pub mod Properties
 pub mod Rebuilt
-pub mod UnicodeFiles
 pub mod Shown
 pub mod Source
 pub mod Stated
 pub mod TableSource
 pub mod Tables
 pub mod TomlFiles
+pub mod TomlNames
+pub mod UnicodeFiles
 pub mod ValueIdentifiers
 pub mod ValueWidth

@@ -6,6 +6,8 @@
 //!   type
 //! - `read`: the table that a file has in ICU's binary form, in JSON or in TOML
 //! - `properties`: the table of one of the properties in a TOML file
+//! - `toml_names`: the names of the values of such a property; `other_toml`: what a TOML file has
+//!   in place of a trie
 //! - `unicode_file`: the table of a file of the Unicode Character Database
 //! - `written`: a table in one of the forms, as the bytes of a file
 //! - `stated`: the null value and the error value in comments among rows
@@ -42,6 +44,7 @@ pub mod compare;
 pub mod diff;
 pub mod explain;
 pub mod fault;
+pub mod other_toml;
 pub mod properties;
 pub mod read;
 pub mod rebuild;
@@ -52,6 +55,7 @@ pub mod source;
 pub mod stated;
 pub mod static_source;
 pub mod table;
+pub mod toml_names;
 mod toml_text;
 pub mod unicode_file;
 pub mod value_names;

@@ -1,7 +1,8 @@
 //! The properties of a TOML file that have a trie, and the table of one of them.
-ghost use Rattle.std.specs.Prelude.{◌≡◌, true, false, is_some, Err, Result};
+ghost use Rattle.std.specs.Prelude.{◌≡◌, true, false, is_some, Err, IfErr, IfOk, Result};
 ghost use Rattle.ucptrie_tables.specs.Files.{IsTakenForToml};
-ghost use Rattle.ucptrie_tables.specs.Properties.{of_property, IsReadOf};
+ghost use Rattle.ucptrie_tables.specs.Inside.TomlTries.{IsWhyNotToml};
+ghost use Rattle.ucptrie_tables.specs.Properties.{of_property, IsReadOf, IsTomlFileOf};
 ghost use Rattle.ucptrie_tables.specs.declared.fault.ReadFault.{ReadFault};
 ghost use Rattle.ucptrie_tables.specs.declared.properties.PropertyFault.TheVariants.{NotToml};
 ghost use Rattle.ucptrie_tables.specs.declared.table.Table.{Table};
@@ -9,7 +10,12 @@ ghost use Rattle.ucptrie_tables.specs.declared.table.Table.{Table};
 use crate::fault::ReadFault;
 use crate::read::{file_of_toml, read_table, table_of_members, toml_text, trie_of_table, value_at};
 use crate::table::Table;
+use crate::toml_names::{NamesFault, names_of};
 use std::alloc::{AllocError, Global};
+use ucd_files::value_names::ValueNames;
+
+/// A TOML file.
+pub type TomlFile = toml::Table;
 
 /// A property that has a trie.
 #[derive(Clone, Copy, Drop)]
@@ -123,7 +129,7 @@ fn properties_of<'a>(
 }
 
 /// Returns the names of properties, with commas between them.
-fn names_of(alloc: Global, properties: &[Property<'_>]) -> Result<String, AllocError> {
+fn listed(alloc: Global, properties: &[Property<'_>]) -> Result<String, AllocError> {
     let mut names = String::new(alloc);
     for property in properties {
         if !names.is_empty() {
@@ -147,9 +153,41 @@ fn asked_trie<'a>(
         ([], None) => Ok(file),
         ([], Some(_)) => {
             let all = properties_of(alloc, file, None)?;
-            Err(PropertyFault::Missing(names_of(alloc, &all)?))
+            Err(PropertyFault::Missing(listed(alloc, &all)?))
         }
-        (several, _) => Err(PropertyFault::Several(names_of(alloc, several)?)),
+        (several, _) => Err(PropertyFault::Several(listed(alloc, several)?)),
+    }
+}
+
+/// Returns the file if it is taken for TOML, or `None` for any other one.
+///
+/// # Errors
+/// Returns [`ReadFault::Toml`] if the text is not TOML, and [`ReadFault::Memory`] if an allocation
+/// fails.
+pub fn toml_file(alloc: Global, file: &[u8]) -> Result<Option<TomlFile>, ReadFault>
+    ensures ok { IfOk result (IsTomlFileOf file.now) }
+    ensures err { IfErr result (λ e. IsTakenForToml file.now × IsWhyNotToml file.now e) }
+{
+    match toml_text(file) {
+        Some(text) => Ok(Some(file_of_toml(alloc, text)?)),
+        None => Ok(None),
+    }
+}
+
+/// Returns the names of the values of the property whose table [`read_property`] reads from a file,
+/// as [`names_of`] does. Returns none if no property is chosen.
+///
+/// # Errors
+/// Returns those of [`names_of`].
+pub fn property_names<'a>(
+    alloc: Global,
+    file: &'a TomlFile,
+    name: Option<&str>,
+) -> Result<ValueNames<'a>, NamesFault> {
+    let found = properties_of(alloc, file, name)?;
+    match found.as_slice() {
+        [property] => names_of(alloc, property.table),
+        _ => Ok(ValueNames::new(alloc)),
     }
 }
 

@@ -1,5 +1,5 @@
 //! The table that a file has.
-ghost use Rattle.std.specs.Prelude.{◌≡◌, ◌^◌, ◌<◌, ℕ, Some, true, false, option_map, Err, IfErr, IfOk, IfSome, MatchResult};
+ghost use Rattle.std.specs.Prelude.{◌≡◌, ◌^◌, ◌<◌, ℕ, Some, true, false, option_map, Err, IfErr, IfNone, IfOk, IfSome, MatchResult};
 ghost use Rattle.toml.specs.Data.{get_member};
 ghost use Rattle.toml.specs.Parse.{parse_document};
 ghost use Rattle.toml.specs.View.{table_view, view};
@@ -208,7 +208,8 @@ fn table_of_text(alloc: Global, text: &str) -> Result<Table, ReadFault>
 
 /// Returns the text of a file that is taken for TOML, or `None` for any other file.
 pub(crate) fn toml_text(file: &[u8]) -> Option<&str>
-    ensures { IfSome result (λ text. IsTakenForToml file.now × (text.now ≡ file.now)) }
+    ensures some { IfSome result (λ text. IsTakenForToml file.now × (text.now ≡ file.now)) }
+    ensures none { IfNone result (¬ IsTakenForToml file.now) }
 {
     if let [b'3', b'i', b'r', b'T', ..] | [b'T', b'r', b'i', b'3', ..] = file {
         return None;

@@ -37,13 +37,26 @@ fn version_of(line: &[u8]) -> Option<&[u8]> {
     }
 }
 
+/// Returns the version in a line of a file whose title has none, as `emoji-data.txt`: what follows
+/// `# Used with `, or a line `# Version: ..` without `# `. Returns `None` for any other line.
+fn edition_of(line: &[u8]) -> Option<&[u8]> {
+    if line.starts_with(b"# Version: ".as_slice()) {
+        return after_prefix(b"# ".as_slice(), line);
+    }
+    after_prefix(b"# Used with ".as_slice(), line)
+}
+
 /// Returns what a line says of its file, without blanks around it. In a file of the Unicode
-/// Character Database it is what follows `# Date: `. In the TOML files that ICU's `icuexportdata`
+/// Character Database it is what follows `# Date: `, and a version as in `# Version: 15.0` or
+/// `# Used with Emoji Version 15.0`. In the TOML files that ICU's `icuexportdata`
 /// writes, it is what follows `# file name: `, and the lines of `icu_version` and
 /// `unicode_version`. Returns `None` for any other line.
 pub fn note_of(line: &[u8]) -> Option<&[u8]> {
     if let Some(date) = after_prefix(b"# Date: ".as_slice(), line) {
         return Some(date);
+    }
+    if let Some(edition) = edition_of(line) {
+        return Some(edition);
     }
     if let Some(name) = after_prefix(b"# file name: ".as_slice(), line) {
         return Some(name);

@@ -5,11 +5,16 @@ use crate::host::{HostRuntime, Text};
 use crate::support::AllocError;
 #[allow(unused_imports)]
 use crate::support::prelude::*;
+use crate::ucd_files::value_names::ValueNames;
 use crate::ucptrie_tables::fault::ReadFault;
 use crate::ucptrie_tables::read::{
     file_of_toml, read_table, table_of_members, toml_text, trie_of_table, value_at,
 };
 use crate::ucptrie_tables::table::Table;
+use crate::ucptrie_tables::toml_names::{NamesFault, names_of};
+
+/// A TOML file.
+pub type TomlFile = toml::value::Table;
 
 /// A property that has a trie.
 #[derive(Clone, Copy)]
@@ -113,7 +118,7 @@ fn properties_of<'a>(
 }
 
 /// Returns the names of properties, with commas between them.
-fn names_of(properties: &[Property<'_>]) -> Result<String, AllocError> {
+fn listed(properties: &[Property<'_>]) -> Result<String, AllocError> {
     let mut names = String::new();
     for property in properties {
         if !names.is_empty() {
@@ -136,9 +141,37 @@ fn asked_trie<'a>(
         ([], None) => Ok(file),
         ([], Some(_)) => {
             let all = properties_of(file, None)?;
-            Err(PropertyFault::Missing(names_of(&all)?))
+            Err(PropertyFault::Missing(listed(&all)?))
         }
-        (several, _) => Err(PropertyFault::Several(names_of(several)?)),
+        (several, _) => Err(PropertyFault::Several(listed(several)?)),
+    }
+}
+
+/// Returns the file if it is taken for TOML, or `None` for any other one.
+///
+/// # Errors
+/// Returns [`ReadFault::Toml`] if the text is not TOML, and [`ReadFault::Memory`] if an allocation
+/// fails.
+pub fn toml_file(file: &[u8]) -> Result<Option<TomlFile>, ReadFault> {
+    match toml_text(file) {
+        Some(text) => Ok(Some(file_of_toml(text)?)),
+        None => Ok(None),
+    }
+}
+
+/// Returns the names of the values of the property whose table [`read_property`] reads from a file,
+/// as [`names_of`] does. Returns none if no property is chosen.
+///
+/// # Errors
+/// Returns those of [`names_of`].
+pub fn property_names<'a>(
+    file: &'a TomlFile,
+    name: Option<&str>,
+) -> Result<ValueNames<'a>, NamesFault> {
+    let found = properties_of(file, name)?;
+    match found.as_slice() {
+        [property] => names_of(property.table),
+        _ => Ok(ValueNames::new()),
     }
 }
 
