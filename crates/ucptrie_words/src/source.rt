@@ -14,6 +14,9 @@ const C_FRONT: &str = "\
 
 #include <stdint.h>
 
+#if defined(__GNUC__) || defined(__clang__)
+__attribute__((unused)) // No warning in a file that does not use the units.
+#endif
 static const uint16_t @_units[%]={
 ";
 
