@@ -25,8 +25,9 @@ const RUST_FRONT: &str = "\
 // Made by ucptrie: the units of a UCharsTrie. Units: %, % bytes.
 #[allow(dead_code, non_snake_case, clippy::module_inception)]
 pub mod @ {
-    /// The crates `icu_collections` and `bekstaudi` read them:
-    /// `Char16Trie::new(ZeroVec::alloc_from_slice(&UNITS))`.
+    /// In the crate `icu_collections` they are read by
+    /// `Char16Trie::new(ZeroVec::alloc_from_slice(&UNITS))`, and in `bekstaudi` by
+    /// `unit_trie!(@::UNITS)`, also in a constant.
     #[rustfmt::skip]
     pub static UNITS: [u16; %] = [
 ";
