@@ -31,9 +31,9 @@ abbrev pub first_some : Option (List ℕ) → Option (List ℕ) → Option (List
 first_some None second = second
 first_some (Some text) second = Some text
 
--- What a line says of its file: the date or the version in a file of the Unicode Character Database;
--- the name, and the versions of ICU and Unicode, in a TOML file of ICU's icuexportdata. None for any
--- other line.
+-- What a line says of its file: the date or the version in a file of the Unicode Character
+-- Database; the name, and the versions of ICU and Unicode, in a TOML file of ICU's icuexportdata.
+-- None for any other line.
 unfoldable pub note_of : List ℕ → Option (List ℕ)
 note_of line = first_some (after_prefix (codes "# Date: ") line)
     (first_some (edition_of line)

@@ -252,8 +252,8 @@ fn explicit_statement(
     Ok(Some(Statement::Explicit(write)))
 }
 
-/// Returns the text of the value in an `@missing` line, or `None` if the numbering is that of a set,
-/// since only the other lines of a set name its code points.
+/// Returns the text of the value in an `@missing` line, or `None` if the numbering is that of a
+/// set, since only the other lines of a set name its code points.
 fn text_of_missing<'t>(
     columns: Columns<'_>,
     numbering: Numbering<'_>,

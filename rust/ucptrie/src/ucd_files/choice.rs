@@ -198,7 +198,7 @@ pub fn by_names<'n>(choice: &'n Choice<'n>) -> Numbering<'n> {
 /// Returns the kind of numbering that a file shows, whose values are of this kind.
 fn shown_numbering(input: &[u8], columns: Columns<'_>, kind: ValueKind) -> NumberingKind {
     match (columns, kind) {
-        (Columns::SimpleFolding, _) => NumberingKind::Hexadecimal,
+        (Columns::SimpleFolding | Columns::UnicodeData(12..=14), _) => NumberingKind::Hexadecimal,
         (_, ValueKind::Set) => NumberingKind::One,
         (_, ValueKind::Binary | ValueKind::Aliases) => NumberingKind::Names,
         _ if are_decimal(input, columns) => NumberingKind::Decimal,

@@ -213,6 +213,19 @@ fn explicit_statement(
     Ok(Some(Statement::Explicit(write)))
 }
 
+/// Returns the text of the value in an `@missing` line, or `None` if the numbering is that of a
+/// set, since only the other lines of a set name its code points.
+fn text_of_missing<'t>(
+    columns: Columns<'_>,
+    numbering: Numbering<'_>,
+    content: &'t [u8],
+) -> Option<&'t [u8]> {
+    match numbering {
+        Numbering::One => None,
+        _ => missing_text(columns, content),
+    }
+}
+
 /// Returns what an `@missing` line says.
 fn missing_statement(
     columns: Columns<'_>,
@@ -220,7 +233,7 @@ fn missing_statement(
     content: &[u8],
 ) -> Result<Option<Statement>, LineFault> {
     let points = checked_points(code_points_of(field(0, content)))?;
-    let Some(text) = missing_text(columns, content) else {
+    let Some(text) = text_of_missing(columns, numbering, content) else {
         return Ok(None);
     };
     let write = write_of(numbering, points, text)?;

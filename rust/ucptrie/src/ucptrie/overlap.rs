@@ -1,5 +1,5 @@
-//! Whether a file gives two values to a code point, as files of several properties do, and whether
-//! it gives one to each.
+//! Which code point has two values in a file, as in files of several properties, and whether each
+//! code point has one.
 #[allow(unused_imports)]
 use crate::host::{HostRuntime, Text};
 use crate::support::AllocError;
@@ -25,18 +25,18 @@ fn ranges_of(file: &[u8]) -> Result<Vec<(u32, u32)>, AllocError> {
     Ok(ranges)
 }
 
-/// Returns whether two lines give a value to the same code point.
-pub fn has_overlap(file: &[u8]) -> Result<bool, AllocError> {
+/// Returns the first code point that has two lines, or `None` if there is none.
+pub fn overlap(file: &[u8]) -> Result<Option<u32>, AllocError> {
     let mut ranges = ranges_of(file)?;
     ranges.sort_unstable();
     let mut end = None;
     for (start, last) in ranges {
         match end {
-            Some(end) if start <= end => return Ok(true),
+            Some(end) if start <= end => return Ok(Some(start)),
             _ => end = Some(last),
         }
     }
-    Ok(false)
+    Ok(None)
 }
 
 /// Returns the code points of a write.

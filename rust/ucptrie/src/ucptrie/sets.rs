@@ -11,15 +11,15 @@ use crate::ucd_files::value_names::ValueNames;
 use crate::ucptrie::build::unbuilt;
 use crate::ucptrie::choice::{UnicodeFile, choice_of};
 use crate::ucptrie::compressed::expect_text;
-use crate::ucptrie::fault::{Fault, about};
+use crate::ucptrie::fault::{Fault, about, about_arguments};
 use crate::ucptrie::forms::{is_json, is_toml};
-use crate::ucptrie::missing::{default_of, test_own_names};
+use crate::ucptrie::missing::{default_of, test_numbers, test_own_names};
 use crate::ucptrie::names::name_in;
 use crate::ucptrie::offsets::{has_tries, start_of, starts_trie};
 use crate::ucptrie::streams::say;
 use crate::ucptrie::tables::{number, table_in};
 use crate::ucptrie::unicode_files::{
-    column_option, columns, found_kind, named_file, named_kind, not_of_rows, unread,
+    column_option, columns, found_kind, named_file, named_kind, not_of_rows, say_overlap, unread,
 };
 use crate::ucptrie_sets::fault::{SetFileFault, SetWriteFault, ValueSetFault};
 use crate::ucptrie_sets::of_value::set_of_value;
@@ -155,6 +155,7 @@ fn set_of_lines(
 ) -> Result<CodePointInversionList<'static>, Fault> {
     let (numbering, value) = asked_value(matches, file, choice)?;
     test_own_names(file, choice)?;
+    test_numbers(file, choice)?;
     let default = default_in_set(matches, file, choice, numbering)?;
     match table_of_file(file.bytes, file.columns, numbering, options(default)) {
         Ok(table) => set_in_table(file.name, &table, value),
@@ -171,6 +172,7 @@ fn set_of_unicode_file(
     kind: FileKind,
 ) -> Result<CodePointInversionList<'static>, Fault> {
     let columns = columns(matches, kind, name, bytes)?;
+    say_overlap(rt, columns, matches, name, bytes)?;
     let named = named_file(rt, matches)?;
     let aliases = named.as_slice();
     let file = UnicodeFile {
@@ -266,6 +268,38 @@ fn set_of_toml(
     }
 }
 
+/// Returns an option of the arguments for which a file of this kind has no use.
+fn unused_option(matches: &ArgMatches, source: Source) -> Option<&'static str> {
+    match source {
+        Source::Lines(_) => None,
+        _ if number(matches, "field").is_some() => Some("--field"),
+        _ if matches
+            .get_one::<String>("aliases")
+            .map(String::as_str)
+            .is_some() =>
+        {
+            Some("--aliases")
+        }
+        Source::Serialized
+            if matches
+                .get_one::<String>("property")
+                .map(String::as_str)
+                .is_some() =>
+        {
+            Some("--property")
+        }
+        Source::Serialized
+            if matches
+                .get_one::<String>("value")
+                .map(String::as_str)
+                .is_some() =>
+        {
+            Some("--value")
+        }
+        _ => None,
+    }
+}
+
 /// Returns the set of a file in ICU's serialized form.
 fn set_of_serialized(name: &str, file: &[u8]) -> Result<CodePointInversionList<'static>, Fault> {
     match set_of_bytes(file) {
@@ -283,6 +317,9 @@ fn asked_set(
     file: &[u8],
 ) -> Result<CodePointInversionList<'static>, Fault> {
     let source = source_of(matches, file);
+    if let Some(option) = unused_option(matches, source) {
+        return Err(about_arguments(option, "not for such a file: leave it out"));
+    }
     if matches!(source, Source::Lines(_)) {
         expect_text(name, file)?;
     }

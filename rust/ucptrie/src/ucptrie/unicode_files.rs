@@ -1,24 +1,27 @@
 //! Tables of files of the Unicode Character Database.
 #[allow(unused_imports)]
 use crate::host::{HostRuntime, Text};
+use crate::support::AllocError;
 #[allow(unused_imports)]
 use crate::support::prelude::*;
 use crate::ucd_files::choice::{Choice, ValueKind};
 use crate::ucd_files::fault::FileFault;
-use crate::ucd_files::kind::{FileKind, has_property, kind_of};
+use crate::ucd_files::fields::missing_of;
+use crate::ucd_files::kind::{FileKind, has_missing_lines, has_property, kind_of};
 use crate::ucd_files::names::{Name, Numbering, is_same_name};
 use crate::ucd_files::statement::Columns;
 use crate::ucd_files::title::title_of;
-use crate::ucptab_table::input::line_at;
+use crate::ucptab_table::input::{first_line, line_at};
 use crate::ucptab_table::message::line_message;
+use crate::ucptab_table::rows::content_of;
 use crate::ucptrie::build::{options, unbuilt};
 use crate::ucptrie::choice::{UnicodeFile, choice_of, numbering};
 use crate::ucptrie::fault::{Fault, about, about_arguments, said};
-use crate::ucptrie::missing::{default_of, test_own_names};
-use crate::ucptrie::overlap::has_overlap;
+use crate::ucptrie::missing::{default_of, test_numbers, test_own_names};
+use crate::ucptrie::overlap::overlap;
 use crate::ucptrie::properties::{has_unihan_property, missing_property};
 use crate::ucptrie::static_trie::{is_static, with_static};
-use crate::ucptrie::streams::text_at;
+use crate::ucptrie::streams::{say, text_at};
 use crate::ucptrie::tables::{form, number};
 use crate::ucptrie::wide::{line_with, too_wide};
 use crate::ucptrie_tables::fault::{BuildFault, UnicodeFileFault};
@@ -66,13 +69,41 @@ pub fn column_option(matches: &ArgMatches) -> Option<&'static str> {
 /// Returns the fault of an option that only files of the Unicode Character Database need, and that
 /// is given for rows.
 pub fn not_of_rows(option: &str) -> Fault {
-    about_arguments(option, "not for rows: leave it out, or --format rows")
+    about_arguments(
+        option,
+        "not for rows: leave it out, or name another kind of file by --format",
+    )
 }
 
-/// Returns the kind of lines that the file's start shows, but no rows if the lines have properties.
+/// Returns whether a file has an `@missing` line.
+fn has_missing_line(file: &[u8]) -> bool {
+    let mut rest = file;
+    while let Some((line, after)) = first_line(rest) {
+        rest = after;
+        if missing_of(line).is_some() {
+            return true;
+        }
+    }
+    false
+}
+
+/// Returns whether a file has a line that is neither blank nor a comment, or an `@missing` line.
+fn has_values(file: &[u8]) -> bool {
+    let mut rest = file;
+    while let Some((line, after)) = first_line(rest) {
+        rest = after;
+        if missing_of(line).is_some() || !content_of(line).is_empty() {
+            return true;
+        }
+    }
+    false
+}
+
+/// Returns the kind of lines that the file's start shows, but no rows if the lines have properties,
+/// as the options or an `@missing` line say.
 pub fn found_kind(file: &[u8], has_properties: bool) -> FileKind {
     match kind_of(file) {
-        FileKind::Rows if has_properties => FileKind::Properties,
+        FileKind::Rows if has_properties || has_missing_line(file) => FileKind::Properties,
         kind => kind,
     }
 }
@@ -125,10 +156,67 @@ fn is_simple_folding(file: &[u8], property: Option<&str>) -> bool {
     }
 }
 
+/// Returns the line about a code point that has two lines. `how` says what to do.
+fn two_lines(name: &str, code_point: u32, how: &str) -> Result<String, AllocError> {
+    let mut line = String::new();
+    write!(line, "{name}: {code_point:04X} has two lines: {how}")?;
+    Ok(line)
+}
+
+/// Returns field 1, unless a code point has two lines. `name` is what the lines were read from.
+fn only_field(name: &str, file: &[u8]) -> Result<Columns<'static>, Fault> {
+    match overlap(file)? {
+        Some(code_point) => {
+            let how = "name one property by --property";
+            Err(said(two_lines(name, code_point, how)))
+        }
+        None => Ok(Columns::Field(1)),
+    }
+}
+
+/// Says on standard error that a code point has two lines, if the arguments name a field: the last
+/// line counts. `name` is what the lines were read from.
+pub fn say_overlap(
+    rt: &HostRuntime,
+    columns: Columns<'_>,
+    matches: &ArgMatches,
+    name: &str,
+    file: &[u8],
+) -> Result<(), AllocError> {
+    if !matches!(columns, Columns::Field(_)) || number(matches, "field").is_none() {
+        return Ok(());
+    }
+    if let Some(code_point) = overlap(file)? {
+        say(rt, &two_lines(name, code_point, "the last one counts")?);
+    }
+    Ok(())
+}
+
+/// Returns where lines have the values of a property that no line names. It is the property of all
+/// lines if a file of aliases has its values.
+fn columns_of_all(
+    property: &str,
+    has_aliases: bool,
+    name: &str,
+    file: &[u8],
+) -> Result<Columns<'static>, Fault> {
+    let columns = Columns::Field(1);
+    if overlap(file)?.is_some() {
+        return Err(missing_property(columns, property, name, file));
+    }
+    if has_aliases {
+        return Ok(columns);
+    }
+    let why =
+        "no line has this property: leave it out, or name the file of its values by --aliases";
+    Err(about(property, why))
+}
+
 /// Returns where lines with code points in field 0 have their values. `name` is what they were read
 /// from.
 fn columns_of_lines<'a>(
     property: Option<&'a str>,
+    has_aliases: bool,
     name: &str,
     file: &[u8],
 ) -> Result<Columns<'a>, Fault> {
@@ -137,15 +225,8 @@ fn columns_of_lines<'a>(
             Ok(Columns::Property(property.as_bytes()))
         }
         property if is_simple_folding(file, property) => Ok(Columns::SimpleFolding),
-        Some(property) if has_overlap(file)? => {
-            let columns = Columns::Field(1);
-            Err(missing_property(columns, property, name, file))
-        }
-        None if has_overlap(file)? => {
-            let why = "a code point has two values: choose by --property or by --field";
-            Err(about(name, why))
-        }
-        _ => Ok(Columns::Field(1)),
+        Some(property) => columns_of_all(property, has_aliases, name, file),
+        None => only_field(name, file),
     }
 }
 
@@ -165,13 +246,19 @@ pub fn columns<'a>(
     name: &str,
     file: &[u8],
 ) -> Result<Columns<'a>, Fault> {
+    if !has_values(file) {
+        return Err(about(
+            name,
+            "expected values, found only comments and blank lines",
+        ));
+    }
+    let property = matches.get_one::<String>("property").map(String::as_str);
     if let Some(field) = number(matches, "field") {
         return Ok(match kind {
             FileKind::UnicodeData => Columns::UnicodeData(field as usize),
             _ => Columns::Field(field as usize),
         });
     }
-    let property = matches.get_one::<String>("property").map(String::as_str);
     match kind {
         FileKind::CodePoints => Ok(Columns::Field(0)),
         FileKind::UnicodeData => Ok(Columns::UnicodeData(unicode_data_field(name, property)?)),
@@ -182,7 +269,13 @@ pub fn columns<'a>(
                 Err(about(name, why))
             }
         },
-        _ => columns_of_lines(property, name, file),
+        _ => {
+            let has_aliases = matches
+                .get_one::<String>("aliases")
+                .map(String::as_str)
+                .is_some();
+            columns_of_lines(property, has_aliases, name, file)
+        }
     }
 }
 
@@ -262,7 +355,12 @@ fn options_of_file(
     numbering: Numbering<'_>,
 ) -> Result<TableOptions, Fault> {
     let given = options(matches);
-    if matches!(choice.kind, ValueKind::Aliases) && number(matches, "default").is_none() {
+    let needs_default = match choice.kind {
+        ValueKind::Aliases => true,
+        ValueKind::Own => has_missing_lines(file.bytes, file.columns),
+        ValueKind::Set | ValueKind::Binary => false,
+    };
+    if needs_default && number(matches, "default").is_none() {
         let how = "no line says which value the other code points have: give --default NUMBER";
         let default = default_of(matches, file, numbering, given.default, how)?;
         return Ok(TableOptions { default, ..given });
@@ -279,6 +377,13 @@ fn built_of_file(
     let numbering = numbering(matches, file, choice);
     if matches!(numbering, Numbering::Names(_, _)) {
         test_own_names(file, choice)?;
+    }
+    if matches
+        .get_one::<String>("values")
+        .map(String::as_str)
+        .is_none()
+    {
+        test_numbers(file, choice)?;
     }
     let options = options_of_file(matches, file, choice, numbering)?;
     match written_of_file(matches, file, choice, numbering, options) {
@@ -301,6 +406,7 @@ pub fn build_file(
     kind: FileKind,
 ) -> Result<Vec<u8>, Fault> {
     let columns = columns(matches, kind, name, bytes)?;
+    say_overlap(rt, columns, matches, name, bytes)?;
     let named = named_file(rt, matches)?;
     let aliases = named.as_slice();
     let file = UnicodeFile {

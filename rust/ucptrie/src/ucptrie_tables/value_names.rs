@@ -13,17 +13,28 @@ use crate::ucptrie_tables::written::Form;
 /// How many names are written at most. More are no enum that a program would use.
 pub(crate) const MOST: usize = 4096;
 
+/// Returns whether a name is a number: whether it has decimal digits alone.
+fn is_number(name: &[u8]) -> bool {
+    name.iter().all(|byte| byte.is_ascii_digit())
+}
+
+/// Returns the bytes of a name, or 0 if it is a number: a value is named by its number only if it
+/// has no other name.
+fn name_length(name: &[u8]) -> usize {
+    if is_number(name) { 0 } else { name.len() }
+}
+
 /// Returns whether one of the names has this number and at least so many bytes.
 fn has_name(names: &[Name<'_>], number: usize, least: usize) -> bool {
     names
         .iter()
-        .any(|name| name.number == number && least <= name.text.len())
+        .any(|name| name.number == number && least <= name_length(name.text))
 }
 
 /// Returns whether a name is the longest one of its number, and the first such one. `from` starts
 /// with the name.
 fn is_longest(before: &[Name<'_>], name: &Name<'_>, from: &[Name<'_>]) -> bool {
-    let length = name.text.len();
+    let length = name_length(name.text);
     !has_name(before, name.number, length) && !has_name(from, name.number, length + 1)
 }
 
