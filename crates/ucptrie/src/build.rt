@@ -1,5 +1,5 @@
 //! The command `build`: a table of rows, or of a file of the Unicode Character Database.
-use crate::compressed::expect_text;
+use crate::compressed::expect_lines;
 use crate::fault::{Fault, about, said};
 use crate::forms::is_made;
 use crate::static_trie::with_static;
@@ -108,7 +108,7 @@ pub fn build(
     name: &str,
     file: &[u8],
 ) -> Result<Vec<u8>, Fault> {
-    expect_text(rt.alloc(), name, file)?;
+    expect_lines(rt.alloc(), name, file)?;
     match build_lines(rt, matches, name, file) {
         Err(Fault::Said(_)) if named_kind(matches).is_none() && is_made(file) => {
             let why = "expected lines: ucptrie convert reads tables, and ucptrie set reads sets";

@@ -1,7 +1,7 @@
 //! The command `set`: the set of the code points with a value, or of a file of sets, in a form.
 use crate::build::unbuilt;
 use crate::choice::{UnicodeFile, choice_of};
-use crate::compressed::expect_text;
+use crate::compressed::expect_lines;
 use crate::fault::{Fault, about, about_arguments};
 use crate::forms::{is_json, is_toml};
 use crate::missing::{default_of, test_numbers, test_own_names};
@@ -302,7 +302,7 @@ fn asked_set(
         return Err(about_arguments(rt.alloc(), option, "not for such a file: leave it out"));
     }
     if matches!(source, Source::Lines(_)) {
-        expect_text(rt.alloc(), name, file)?;
+        expect_lines(rt.alloc(), name, file)?;
     }
     match source {
         Source::Lines(FileKind::Rows) => set_of_rows(rt.alloc(), matches, name, file),

@@ -1,5 +1,5 @@
 //! Files and streams, and the names by which faults call them.
-use crate::compressed::{expect_text, unpacked};
+use crate::compressed::{expect_lines, unpacked};
 use crate::fault::{Fault, about};
 use std::alloc::Global;
 use std::io::{Read, Write};
@@ -39,7 +39,7 @@ pub fn bytes_at(rt: &HostRuntime, path: &str) -> Result<Vec<u8>, Fault> {
 /// Reads a text from a file, or from standard input if its name is `-`.
 pub fn text_at(rt: &HostRuntime, path: &str) -> Result<Vec<u8>, Fault> {
     let bytes = bytes_at(rt, path)?;
-    expect_text(rt.alloc(), input_name(path), &bytes)?;
+    expect_lines(rt.alloc(), input_name(path), &bytes)?;
     Ok(bytes)
 }
 

@@ -1,5 +1,5 @@
 //! The command `words`: a word list as a unit trie.
-use crate::compressed::expect_text;
+use crate::compressed::{expect_line_feeds, expect_text};
 use crate::fault::{Fault, about, said};
 use crate::names::name_in;
 use clap::ArgMatches;
@@ -53,6 +53,7 @@ fn trie<'f>(
         let why = "found a byte order mark: save the file without it";
         return Err(about(alloc, name, why));
     }
+    expect_line_feeds(alloc, name, file)?;
     match trie_of_words(alloc, file) {
         Ok(trie) => Ok(trie),
         Err(fault) => Err(unbuilt(alloc, name, file, fault)),

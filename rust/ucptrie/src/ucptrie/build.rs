@@ -6,7 +6,7 @@ use crate::support::prelude::*;
 use crate::ucd_files::kind::FileKind;
 use crate::ucptab_table::fault::TableError;
 use crate::ucptab_table::message::row_message;
-use crate::ucptrie::compressed::expect_text;
+use crate::ucptrie::compressed::expect_lines;
 use crate::ucptrie::fault::{Fault, about, said};
 use crate::ucptrie::forms::is_made;
 use crate::ucptrie::static_trie::with_static;
@@ -114,7 +114,7 @@ pub fn build(
     name: &str,
     file: &[u8],
 ) -> Result<Vec<u8>, Fault> {
-    expect_text(name, file)?;
+    expect_lines(name, file)?;
     match build_lines(rt, matches, name, file) {
         Err(Fault::Said(_)) if named_kind(matches).is_none() && is_made(file) => {
             let why = "expected lines: ucptrie convert reads tables, and ucptrie set reads sets";

@@ -1,4 +1,5 @@
-//! Input that is compressed: bzip2 is decompressed, and messages say what to do with other formats.
+//! Input that is compressed: bzip2 is decompressed, and messages say what to do with other formats,
+//! and with line ends of old systems.
 use crate::bzip2_reader::error::Bzip2Error;
 use crate::bzip2_reader::stream::{decompressed, is_bzip2};
 #[allow(unused_imports)]
@@ -51,4 +52,23 @@ pub fn expect_text(name: &str, bytes: &[u8]) -> Result<(), Fault> {
         }
     }
     Ok(())
+}
+
+/// Returns a fault if the lines of a text end in CR alone: it has no LF, but CR before its end.
+/// `name` is what it was read from.
+pub fn expect_line_feeds(name: &str, text: &[u8]) -> Result<(), Fault> {
+    let body = text.strip_suffix(b"\r".as_slice()).unwrap_or(text);
+    if body.contains(&b'\r') && !text.contains(&b'\n') {
+        let why = "a CR has no LF after it: lines end with LF or CR LF";
+        return Err(about(name, why));
+    }
+    Ok(())
+}
+
+/// Returns a fault if bytes that are to be lines start as in another format, or if the lines end in
+/// CR alone, but for an LF at the end of all. `name` is what they were read from.
+pub fn expect_lines(name: &str, bytes: &[u8]) -> Result<(), Fault> {
+    expect_text(name, bytes)?;
+    let text = bytes.strip_suffix(b"\n".as_slice()).unwrap_or(bytes);
+    expect_line_feeds(name, text)
 }

@@ -5,7 +5,7 @@ use crate::host::{HostRuntime, Text};
 use crate::host::{fs, io};
 #[allow(unused_imports)]
 use crate::support::prelude::*;
-use crate::ucptrie::compressed::{expect_text, unpacked};
+use crate::ucptrie::compressed::{expect_lines, unpacked};
 use crate::ucptrie::fault::{Fault, about};
 
 /// The name of standard input in messages.
@@ -42,7 +42,7 @@ pub fn bytes_at(rt: &HostRuntime, path: &str) -> Result<Vec<u8>, Fault> {
 /// Reads a text from a file, or from standard input if its name is `-`.
 pub fn text_at(rt: &HostRuntime, path: &str) -> Result<Vec<u8>, Fault> {
     let bytes = bytes_at(rt, path)?;
-    expect_text(input_name(path), &bytes)?;
+    expect_lines(input_name(path), &bytes)?;
     Ok(bytes)
 }
 
