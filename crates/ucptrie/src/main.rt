@@ -9,6 +9,7 @@ mod compressed;
 mod convert;
 mod fault;
 mod forms;
+mod fractions;
 mod heading;
 mod missing;
 mod names;

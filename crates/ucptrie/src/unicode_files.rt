@@ -2,6 +2,7 @@
 use crate::build::{options, unbuilt};
 use crate::choice::{UnicodeFile, choice_of, numbering};
 use crate::fault::{Fault, about, about_arguments, said};
+use crate::fractions::say_fractions;
 use crate::missing::{default_of, test_numbers, test_own_names};
 use crate::overlap::overlap;
 use crate::properties::{has_unihan_property, missing_property};
@@ -307,7 +308,7 @@ fn push_names(
     form: Form<'_>,
     width: ValueWidth,
     names: &[Name<'_>],
-) -> Result<(), UnicodeFileFault> {
+) -> Result<(), AllocError> {
     let source = names_source(alloc, form, width.bits(), names)?;
     bytes.extend_from_slice(source.as_bytes())?;
     Ok(())
@@ -315,19 +316,19 @@ fn push_names(
 
 /// Returns a table in a form, followed by the source of these names and by the static trie that the
 /// arguments ask for.
-fn with_names(
+pub fn with_names(
     alloc: Global,
     matches: &ArgMatches<'_>,
     bytes: Vec<u8>,
     form: Form<'_>,
     width: ValueWidth,
     names: &[Name<'_>],
-) -> Result<Vec<u8>, UnicodeFileFault> {
+) -> Result<Vec<u8>, AllocError> {
     let mut bytes = bytes;
     if !is_static(matches) {
         push_names(alloc, &mut bytes, form, width, names)?;
     }
-    Ok(with_static(alloc, matches, bytes, width, names)?)
+    with_static(alloc, matches, bytes, width, names)
 }
 
 /// Returns the table of a file in the form that the arguments name.
@@ -345,9 +346,9 @@ fn written_of_file(
     let is_binary = matches!(choice.kind, ValueKind::Binary);
     if matches!(numbering, Numbering::Names(_, _)) && !is_binary {
         let names = choice.names.as_slice();
-        return with_names(alloc, matches, bytes, form, table.width, names);
+        return Ok(with_names(alloc, matches, bytes, form, table.width, names)?);
     }
-    with_names(alloc, matches, bytes, form, table.width, &[])
+    Ok(with_names(alloc, matches, bytes, form, table.width, &[])?)
 }
 
 /// Returns what the table of a file is to be.
@@ -417,5 +418,6 @@ pub fn build_file(
         aliases,
     };
     let choice = choice_of(rt.alloc(), matches, file)?;
+    say_fractions(rt, matches, file, &choice)?;
     built_of_file(rt.alloc(), matches, file, &choice)
 }
