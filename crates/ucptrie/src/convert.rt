@@ -2,17 +2,27 @@
 use crate::build::unbuilt;
 use crate::fault::{Fault, about};
 use crate::offsets::start_of;
-use crate::static_trie::with_static;
 use crate::tables::{form, number, table_in, trie_type, width};
+use crate::unicode_files::with_names;
+use crate::wide::too_wide_in;
 use clap::ArgMatches;
 use std::alloc::Global;
-use ucptrie_tables::fault::BuildFault;
+use ucptrie_tables::fault::{BuildFault, ReadFault};
+use ucptrie_tables::properties::{TomlFile, property_names, toml_file};
 use ucptrie_tables::rebuild::rebuilt;
 use ucptrie_tables::table::Table;
+use ucptrie_tables::toml_names::NamesFault;
+use ucptrie_tables::width::ValueWidth;
 use ucptrie_tables::written::{Form, written};
 
-/// Returns the table as the arguments want it: as it is, or built again of its values.
-fn changed(alloc: Global, matches: &ArgMatches<'_>, table: Table) -> Result<Table, BuildFault> {
+/// Returns the table as the arguments want it: as it is, or built again of its values. `name` is
+/// what it was read from.
+fn changed(
+    alloc: Global,
+    matches: &ArgMatches<'_>,
+    name: &str,
+    table: Table,
+) -> Result<Table, Fault> {
     let (kind, bits) = (trie_type(matches), width(matches));
     let error = number(matches, "error");
     if kind.is_none() && bits.is_none() && error.is_none() {
@@ -22,7 +32,13 @@ fn changed(alloc: Global, matches: &ArgMatches<'_>, table: Table) -> Result<Tabl
     let kind = kind.unwrap_or(header.trie_type);
     let bits = bits.unwrap_or(table.width);
     let error = error.unwrap_or(table.trie.error_value());
-    rebuilt(alloc, &table, kind, bits, error)
+    match rebuilt(alloc, &table, kind, bits, error) {
+        Ok(table) => Ok(table),
+        Err(BuildFault::Width(value, width)) => {
+            Err(too_wide_in(alloc, matches, name, &table, value, width))
+        }
+        Err(fault) => Err(unbuilt(alloc, name, &[], fault)),
+    }
 }
 
 /// Returns a table in a form. `name` is what it was read from.
@@ -40,6 +56,46 @@ fn converted(alloc: Global, name: &str, table: &Table, form: Form<'_>) -> Result
     }
 }
 
+/// Returns a table in a form, followed by the source of the names that a file in TOML has for its
+/// values. `name` is what the file was read from.
+fn with_names_of_toml(
+    alloc: Global,
+    matches: &ArgMatches<'_>,
+    name: &str,
+    file: &TomlFile,
+    bytes: Vec<u8>,
+    width: ValueWidth,
+) -> Result<Vec<u8>, Fault> {
+    match property_names(alloc, file, matches.get_str("property")) {
+        Ok(names) => {
+            let names = names.as_slice();
+            Ok(with_names(alloc, matches, bytes, form(matches), width, names)?)
+        }
+        Err(NamesFault::Memory) => Err(Fault::Memory),
+        Err(fault) => Err(about(alloc, name, fault)),
+    }
+}
+
+/// Returns a table in a form, followed by the source of the names that its file has for its values,
+/// if the form is source and the file is TOML. `name` is what the file was read from.
+fn with_names_of_file(
+    alloc: Global,
+    matches: &ArgMatches<'_>,
+    name: &str,
+    file: &[u8],
+    bytes: Vec<u8>,
+    width: ValueWidth,
+) -> Result<Vec<u8>, Fault> {
+    if !matches!(form(matches), Form::C(_) | Form::Rust(_)) {
+        return Ok(bytes);
+    }
+    match toml_file(alloc, file) {
+        Ok(Some(file)) => with_names_of_toml(alloc, matches, name, &file, bytes, width),
+        Err(ReadFault::Memory) => Err(Fault::Memory),
+        _ => Ok(with_names(alloc, matches, bytes, form(matches), width, &[])?),
+    }
+}
+
 /// Returns the table of a file in the form that the arguments name. `name` is what the file was
 /// read from.
 pub fn convert(
@@ -49,11 +105,7 @@ pub fn convert(
     file: &[u8],
 ) -> Result<Vec<u8>, Fault> {
     let table = table_in(alloc, matches, name, file, start_of(matches))?;
-    match changed(alloc, matches, table) {
-        Ok(table) => {
-            let bytes = converted(alloc, name, &table, form(matches))?;
-            Ok(with_static(alloc, matches, bytes, table.width, &[])?)
-        }
-        Err(fault) => Err(unbuilt(alloc, name, &[], fault)),
-    }
+    let table = changed(alloc, matches, name, table)?;
+    let bytes = converted(alloc, name, &table, form(matches))?;
+    with_names_of_file(alloc, matches, name, file, bytes, table.width)
 }

@@ -11,7 +11,8 @@ use std::str;
 use ucptrie_sets::fault::SetFileFault;
 use ucptrie_sets::toml_file::set_of_file;
 use ucptrie_tables::fault::{ReadFault, TomlFault};
-use ucptrie_tables::properties::{PropertyFault, read_property};
+use ucptrie_tables::other_toml::{OtherToml, other_toml};
+use ucptrie_tables::properties::{PropertyFault, read_property, toml_file};
 use ucptrie_tables::table::Table;
 use ucptrie_tables::width::ValueWidth;
 use ucptrie_tables::written::Form;
@@ -129,6 +130,34 @@ fn has_sets(alloc: Global, file: &[u8]) -> Result<bool, Fault> {
     }
 }
 
+/// Returns what a TOML file has that has no trie, if it is known.
+fn other_in(alloc: Global, file: &[u8]) -> Result<Option<OtherToml>, Fault> {
+    match toml_file(alloc, file) {
+        Ok(Some(file)) => Ok(other_toml(&file)),
+        Err(ReadFault::Memory) => Err(Fault::Memory),
+        _ => Ok(None),
+    }
+}
+
+/// Returns the fault of a TOML file in which the trie is missing, or of the property that is asked
+/// for. `name` is what the file was read from.
+fn without_trie(
+    alloc: Global,
+    name: &str,
+    file: &[u8],
+    property: &str,
+    fault: PropertyFault,
+) -> Result<Fault, Fault> {
+    if has_sets(alloc, file)? {
+        let why = "a set of code points, and no table: use ucptrie set";
+        return Ok(about(alloc, name, why));
+    }
+    match other_in(alloc, file)? {
+        Some(other) => Ok(about(alloc, name, other)),
+        None => Ok(unchosen(alloc, name, property, fault)),
+    }
+}
+
 /// Returns the table of a file with these bytes. In TOML it is that of the property that the
 /// arguments name, and in another file that of the trie at its start.
 /// `name` is what the bytes were read from.
@@ -149,11 +178,13 @@ pub fn table_in(
     let property = matches.get_str("property");
     match read_property(alloc, part, property) {
         Ok(table) => Ok(table),
-        Err(fault) if lacks_trie(&fault) && has_sets(alloc, part)? => {
-            let why = "a set of code points, and no table: use ucptrie set";
-            Err(about(alloc, name, why))
+        Err(fault) => {
+            let property = property.unwrap_or("");
+            if lacks_trie(&fault) {
+                return Err(without_trie(alloc, name, part, property, fault)?);
+            }
+            Err(unchosen(alloc, name, property, fault))
         }
-        Err(fault) => Err(unchosen(alloc, name, property.unwrap_or(""), fault)),
     }
 }
 

@@ -4,11 +4,13 @@ use crate::fault::{Fault, said};
 use crate::tables::number;
 use clap::ArgMatches;
 use icu_trie_builder::writes::Write;
+use icu_zerovec::CODE_POINT_LIMIT;
 use std::alloc::{AllocError, Global};
 use ucd_files::names::Numbering;
 use ucd_files::statement::{Statement, statement_of};
 use ucptab_table::input::first_line;
 use ucptab_table::rows::row_of;
+use ucptrie_tables::table::Table;
 use ucptrie_tables::width::ValueWidth;
 
 /// Returns whether a write gives this value.
@@ -81,6 +83,12 @@ fn giver<'n>(matches: &ArgMatches<'_>, name: &'n str, value: u32) -> &'n str {
     }
 }
 
+/// Appends the widths that a value fits.
+fn push_wider(line: &mut String, value: u32, width: ValueWidth) -> Result<(), AllocError> {
+    write!(line, " has more than {width}: give --width ")?;
+    line.push_str(if value < 0x10000 { "16 or 32" } else { "32" })
+}
+
 /// Returns the line about a value that is too wide. `place` is the line that gives it.
 fn wide_line(
     alloc: Global,
@@ -94,11 +102,8 @@ fn wide_line(
     if let Some(number) = place {
         write!(line, ":{number}")?;
     }
-    write!(
-        line,
-        ": the value {value} has more than {width}: give --width "
-    )?;
-    line.push_str(if value < 0x10000 { "16 or 32" } else { "32" })?;
+    write!(line, ": the value {value}")?;
+    push_wider(&mut line, value, width)?;
     Ok(line)
 }
 
@@ -117,4 +122,40 @@ pub fn too_wide(
         None => giver(matches, name, value),
     };
     said(wide_line(alloc, giver, place, value, width))
+}
+
+/// Returns the first code point with this value.
+fn point_with(table: &Table, value: u32) -> Option<u32> {
+    (0..CODE_POINT_LIMIT).find(|c| table.trie.get32(*c) == value)
+}
+
+/// Returns the line about a value of a code point that is too wide.
+fn wide_point_line(
+    alloc: Global,
+    name: &str,
+    c: u32,
+    value: u32,
+    width: ValueWidth,
+) -> Result<String, AllocError> {
+    let mut line = String::new(alloc);
+    write!(line, "{name}: the value {value} of U+{c:04X}")?;
+    push_wider(&mut line, value, width)?;
+    Ok(line)
+}
+
+/// Returns the fault of a value in a table that has more bits than the asked width. `name` is what
+/// the table was read from. If no code point has the value, it is the error value, which an
+/// argument may give.
+pub fn too_wide_in(
+    alloc: Global,
+    matches: &ArgMatches<'_>,
+    name: &str,
+    table: &Table,
+    value: u32,
+    width: ValueWidth,
+) -> Fault {
+    match point_with(table, value) {
+        Some(c) => said(wide_point_line(alloc, name, c, value, width)),
+        None => too_wide(alloc, matches, name, None, value, width),
+    }
 }

@@ -6,16 +6,21 @@ use crate::support::prelude::*;
 use crate::ucptrie::build::unbuilt;
 use crate::ucptrie::fault::{Fault, about};
 use crate::ucptrie::offsets::start_of;
-use crate::ucptrie::static_trie::with_static;
 use crate::ucptrie::tables::{form, number, table_in, trie_type, width};
-use crate::ucptrie_tables::fault::BuildFault;
+use crate::ucptrie::unicode_files::with_names;
+use crate::ucptrie::wide::too_wide_in;
+use crate::ucptrie_tables::fault::{BuildFault, ReadFault};
+use crate::ucptrie_tables::properties::{TomlFile, property_names, toml_file};
 use crate::ucptrie_tables::rebuild::rebuilt;
 use crate::ucptrie_tables::table::Table;
+use crate::ucptrie_tables::toml_names::NamesFault;
+use crate::ucptrie_tables::width::ValueWidth;
 use crate::ucptrie_tables::written::{Form, written};
 use clap::ArgMatches;
 
-/// Returns the table as the arguments want it: as it is, or built again of its values.
-fn changed(matches: &ArgMatches, table: Table) -> Result<Table, BuildFault> {
+/// Returns the table as the arguments want it: as it is, or built again of its values. `name` is
+/// what it was read from.
+fn changed(matches: &ArgMatches, name: &str, table: Table) -> Result<Table, Fault> {
     let (kind, bits) = (trie_type(matches), width(matches));
     let error = number(matches, "error");
     if kind.is_none() && bits.is_none() && error.is_none() {
@@ -25,7 +30,13 @@ fn changed(matches: &ArgMatches, table: Table) -> Result<Table, BuildFault> {
     let kind = kind.unwrap_or(header.trie_type);
     let bits = bits.unwrap_or(table.width);
     let error = error.unwrap_or(table.trie.error_value());
-    rebuilt(&table, kind, bits, error)
+    match rebuilt(&table, kind, bits, error) {
+        Ok(table) => Ok(table),
+        Err(BuildFault::Width(value, width)) => {
+            Err(too_wide_in(matches, name, &table, value, width))
+        }
+        Err(fault) => Err(unbuilt(name, &[], fault)),
+    }
 }
 
 /// Returns a table in a form. `name` is what it was read from.
@@ -43,15 +54,52 @@ fn converted(name: &str, table: &Table, form: Form<'_>) -> Result<Vec<u8>, Fault
     }
 }
 
+/// Returns a table in a form, followed by the source of the names that a file in TOML has for its
+/// values. `name` is what the file was read from.
+fn with_names_of_toml(
+    matches: &ArgMatches,
+    name: &str,
+    file: &TomlFile,
+    bytes: Vec<u8>,
+    width: ValueWidth,
+) -> Result<Vec<u8>, Fault> {
+    match property_names(
+        file,
+        matches.get_one::<String>("property").map(String::as_str),
+    ) {
+        Ok(names) => {
+            let names = names.as_slice();
+            Ok(with_names(matches, bytes, form(matches), width, names)?)
+        }
+        Err(NamesFault::Memory) => Err(Fault::Memory),
+        Err(fault) => Err(about(name, fault)),
+    }
+}
+
+/// Returns a table in a form, followed by the source of the names that its file has for its values,
+/// if the form is source and the file is TOML. `name` is what the file was read from.
+fn with_names_of_file(
+    matches: &ArgMatches,
+    name: &str,
+    file: &[u8],
+    bytes: Vec<u8>,
+    width: ValueWidth,
+) -> Result<Vec<u8>, Fault> {
+    if !matches!(form(matches), Form::C(_) | Form::Rust(_)) {
+        return Ok(bytes);
+    }
+    match toml_file(file) {
+        Ok(Some(file)) => with_names_of_toml(matches, name, &file, bytes, width),
+        Err(ReadFault::Memory) => Err(Fault::Memory),
+        _ => Ok(with_names(matches, bytes, form(matches), width, &[])?),
+    }
+}
+
 /// Returns the table of a file in the form that the arguments name. `name` is what the file was
 /// read from.
 pub fn convert(matches: &ArgMatches, name: &str, file: &[u8]) -> Result<Vec<u8>, Fault> {
     let table = table_in(matches, name, file, start_of(matches))?;
-    match changed(matches, table) {
-        Ok(table) => {
-            let bytes = converted(name, &table, form(matches))?;
-            Ok(with_static(matches, bytes, table.width, &[])?)
-        }
-        Err(fault) => Err(unbuilt(name, &[], fault)),
-    }
+    let table = changed(matches, name, table)?;
+    let bytes = converted(name, &table, form(matches))?;
+    with_names_of_file(matches, name, file, bytes, table.width)
 }

@@ -12,7 +12,8 @@ use crate::ucptrie::streams::{bytes_at, input_name};
 use crate::ucptrie_sets::fault::SetFileFault;
 use crate::ucptrie_sets::toml_file::set_of_file;
 use crate::ucptrie_tables::fault::{ReadFault, TomlFault};
-use crate::ucptrie_tables::properties::{PropertyFault, read_property};
+use crate::ucptrie_tables::other_toml::{OtherToml, other_toml};
+use crate::ucptrie_tables::properties::{PropertyFault, read_property, toml_file};
 use crate::ucptrie_tables::table::Table;
 use crate::ucptrie_tables::width::ValueWidth;
 use crate::ucptrie_tables::written::Form;
@@ -127,6 +128,33 @@ fn has_sets(file: &[u8]) -> Result<bool, Fault> {
     }
 }
 
+/// Returns what a TOML file has that has no trie, if it is known.
+fn other_in(file: &[u8]) -> Result<Option<OtherToml>, Fault> {
+    match toml_file(file) {
+        Ok(Some(file)) => Ok(other_toml(&file)),
+        Err(ReadFault::Memory) => Err(Fault::Memory),
+        _ => Ok(None),
+    }
+}
+
+/// Returns the fault of a TOML file in which the trie is missing, or of the property that is asked
+/// for. `name` is what the file was read from.
+fn without_trie(
+    name: &str,
+    file: &[u8],
+    property: &str,
+    fault: PropertyFault,
+) -> Result<Fault, Fault> {
+    if has_sets(file)? {
+        let why = "a set of code points, and no table: use ucptrie set";
+        return Ok(about(name, why));
+    }
+    match other_in(file)? {
+        Some(other) => Ok(about(name, other)),
+        None => Ok(unchosen(name, property, fault)),
+    }
+}
+
 /// Returns the table of a file with these bytes. In TOML it is that of the property that the
 /// arguments name, and in another file that of the trie at its start.
 /// `name` is what the bytes were read from.
@@ -146,11 +174,13 @@ pub fn table_in(
     let property = matches.get_one::<String>("property").map(String::as_str);
     match read_property(part, property) {
         Ok(table) => Ok(table),
-        Err(fault) if lacks_trie(&fault) && has_sets(part)? => {
-            let why = "a set of code points, and no table: use ucptrie set";
-            Err(about(name, why))
+        Err(fault) => {
+            let property = property.unwrap_or("");
+            if lacks_trie(&fault) {
+                return Err(without_trie(name, part, property, fault)?);
+            }
+            Err(unchosen(name, property, fault))
         }
-        Err(fault) => Err(unchosen(name, property.unwrap_or(""), fault)),
     }
 }
 

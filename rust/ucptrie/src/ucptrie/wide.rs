@@ -11,8 +11,10 @@ use crate::ucptab_table::rows::row_of;
 use crate::ucptrie::choice::UnicodeFile;
 use crate::ucptrie::fault::{Fault, said};
 use crate::ucptrie::tables::number;
+use crate::ucptrie_tables::table::Table;
 use crate::ucptrie_tables::width::ValueWidth;
 use bekstaudi::codepointtrie::Write;
+use bekstaudi::zerovec::CODE_POINT_LIMIT;
 use clap::ArgMatches;
 
 /// Returns whether a write gives this value.
@@ -85,6 +87,12 @@ fn giver<'n>(matches: &ArgMatches, name: &'n str, value: u32) -> &'n str {
     }
 }
 
+/// Appends the widths that a value fits.
+fn push_wider(line: &mut String, value: u32, width: ValueWidth) -> Result<(), AllocError> {
+    write!(line, " has more than {width}: give --width ")?;
+    line.try_push_str(if value < 0x10000 { "16 or 32" } else { "32" })
+}
+
 /// Returns the line about a value that is too wide. `place` is the line that gives it.
 fn wide_line(
     giver: &str,
@@ -97,11 +105,8 @@ fn wide_line(
     if let Some(number) = place {
         write!(line, ":{number}")?;
     }
-    write!(
-        line,
-        ": the value {value} has more than {width}: give --width "
-    )?;
-    line.try_push_str(if value < 0x10000 { "16 or 32" } else { "32" })?;
+    write!(line, ": the value {value}")?;
+    push_wider(&mut line, value, width)?;
     Ok(line)
 }
 
@@ -119,4 +124,38 @@ pub fn too_wide(
         None => giver(matches, name, value),
     };
     said(wide_line(giver, place, value, width))
+}
+
+/// Returns the first code point with this value.
+fn point_with(table: &Table, value: u32) -> Option<u32> {
+    (0..CODE_POINT_LIMIT).find(|c| table.trie.get32(*c) == value)
+}
+
+/// Returns the line about a value of a code point that is too wide.
+fn wide_point_line(
+    name: &str,
+    c: u32,
+    value: u32,
+    width: ValueWidth,
+) -> Result<String, AllocError> {
+    let mut line = String::new();
+    write!(line, "{name}: the value {value} of U+{c:04X}")?;
+    push_wider(&mut line, value, width)?;
+    Ok(line)
+}
+
+/// Returns the fault of a value in a table that has more bits than the asked width. `name` is what
+/// the table was read from. If no code point has the value, it is the error value, which an
+/// argument may give.
+pub fn too_wide_in(
+    matches: &ArgMatches,
+    name: &str,
+    table: &Table,
+    value: u32,
+    width: ValueWidth,
+) -> Fault {
+    match point_with(table, value) {
+        Some(c) => said(wide_point_line(name, c, value, width)),
+        None => too_wide(matches, name, None, value, width),
+    }
 }
