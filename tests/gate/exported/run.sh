@@ -4,8 +4,9 @@
 # and, if gcc and ICU 72 or newer (libicu-dev) are installed, the tries that ICU4C builds and exports
 # here from each NAME.txt with a NAME.runs.txt in tests/data, and in the folder that the variable
 # TABLES names, if it is set. ucptrie also writes these in ICU's binary form: ICU4C opens it, finds the
-# values of the exported trie, and would write the same bytes. The last line is 'all exported tries as
-# expected', with status 0, or says what failed, with status 1.
+# values of the exported trie, and would write the same bytes. tests/gate/exported/properties compares
+# all files of icuexportdata with ICU. The last line is 'all exported tries as expected', with status 0,
+# or says what failed, with status 1.
 set -eu
 here=$(dirname -- "$(readlink -f -- "$0")")
 root=$here/../../..
@@ -68,4 +69,5 @@ if gcc -O2 -o "$work/export" "$here/export.c" -licuuc 2>/dev/null; then
 else
     echo "exported: no gcc, or no ICU (libicu-dev): ICU4C's own exports were not tried"
 fi
+"$here/properties" || failed="$failed 'files of icuexportdata'"
 [ -z "$failed" ] && echo "all exported tries as expected" || { echo "FAILED:$failed"; exit 1; }
