@@ -1,9 +1,10 @@
 //! Values that are numbers, but no whole ones: a table has them as names.
-use crate::choice::{Choice, UnicodeFile, ValueKind, numbering};
+use crate::choice::{UnicodeFile, numbering};
 use crate::properties::push_text;
 use crate::streams::say;
 use clap::ArgMatches;
 use std::alloc::{AllocError, Global};
+use ucd_files::choice::{Choice, ValueKind};
 use ucd_files::names::{Name, Numbering, short_decimal};
 
 /// Returns whether a text is written as a number that a table can't have, as `1/2`, `0.5` or `-1`:

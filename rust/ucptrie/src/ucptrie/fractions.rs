@@ -4,8 +4,9 @@ use crate::host::{HostRuntime, Text};
 use crate::support::AllocError;
 #[allow(unused_imports)]
 use crate::support::prelude::*;
+use crate::ucd_files::choice::{Choice, ValueKind};
 use crate::ucd_files::names::{Name, Numbering, short_decimal};
-use crate::ucptrie::choice::{Choice, UnicodeFile, ValueKind, numbering};
+use crate::ucptrie::choice::{UnicodeFile, numbering};
 use crate::ucptrie::properties::push_text;
 use crate::ucptrie::streams::say;
 use clap::ArgMatches;

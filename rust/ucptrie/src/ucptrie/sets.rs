@@ -10,7 +10,7 @@ use crate::ucd_files::names::{Matching, Numbering, is_same_name, number_of};
 use crate::ucd_files::value_names::ValueNames;
 use crate::ucptrie::build::unbuilt;
 use crate::ucptrie::choice::{UnicodeFile, choice_of};
-use crate::ucptrie::compressed::expect_text;
+use crate::ucptrie::compressed::expect_lines;
 use crate::ucptrie::fault::{Fault, about, about_arguments};
 use crate::ucptrie::forms::{is_json, is_toml};
 use crate::ucptrie::missing::{default_of, test_numbers, test_own_names};
@@ -321,7 +321,7 @@ fn asked_set(
         return Err(about_arguments(option, "not for such a file: leave it out"));
     }
     if matches!(source, Source::Lines(_)) {
-        expect_text(name, file)?;
+        expect_lines(name, file)?;
     }
     match source {
         Source::Lines(FileKind::Rows) => set_of_rows(matches, name, file),

@@ -17,6 +17,7 @@ use crate::ucptab_table::rows::content_of;
 use crate::ucptrie::build::{options, unbuilt};
 use crate::ucptrie::choice::{UnicodeFile, choice_of, numbering};
 use crate::ucptrie::fault::{Fault, about, about_arguments, said};
+use crate::ucptrie::fractions::say_fractions;
 use crate::ucptrie::missing::{default_of, test_numbers, test_own_names};
 use crate::ucptrie::overlap::overlap;
 use crate::ucptrie::properties::{has_unihan_property, missing_property};
@@ -306,7 +307,7 @@ fn push_names(
     form: Form<'_>,
     width: ValueWidth,
     names: &[Name<'_>],
-) -> Result<(), UnicodeFileFault> {
+) -> Result<(), AllocError> {
     let source = names_source(form, width.bits(), names)?;
     bytes.try_extend_from_slice(source.as_bytes())?;
     Ok(())
@@ -314,18 +315,18 @@ fn push_names(
 
 /// Returns a table in a form, followed by the source of these names and by the static trie that the
 /// arguments ask for.
-fn with_names(
+pub fn with_names(
     matches: &ArgMatches,
     bytes: Vec<u8>,
     form: Form<'_>,
     width: ValueWidth,
     names: &[Name<'_>],
-) -> Result<Vec<u8>, UnicodeFileFault> {
+) -> Result<Vec<u8>, AllocError> {
     let mut bytes = bytes;
     if !is_static(matches) {
         push_names(&mut bytes, form, width, names)?;
     }
-    Ok(with_static(matches, bytes, width, names)?)
+    with_static(matches, bytes, width, names)
 }
 
 /// Returns the table of a file in the form that the arguments name.
@@ -342,9 +343,9 @@ fn written_of_file(
     let is_binary = matches!(choice.kind, ValueKind::Binary);
     if matches!(numbering, Numbering::Names(_, _)) && !is_binary {
         let names = choice.names.as_slice();
-        return with_names(matches, bytes, form, table.width, names);
+        return Ok(with_names(matches, bytes, form, table.width, names)?);
     }
-    with_names(matches, bytes, form, table.width, &[])
+    Ok(with_names(matches, bytes, form, table.width, &[])?)
 }
 
 /// Returns what the table of a file is to be.
@@ -416,5 +417,6 @@ pub fn build_file(
         aliases,
     };
     let choice = choice_of(matches, file)?;
+    say_fractions(rt, matches, file, &choice)?;
     built_of_file(matches, file, &choice)
 }

@@ -6,7 +6,7 @@ use crate::support::AllocError;
 use crate::support::prelude::*;
 use crate::ucptab_table::input::line_at;
 use crate::ucptab_table::message::{line_message, push_quoted};
-use crate::ucptrie::compressed::expect_text;
+use crate::ucptrie::compressed::{expect_line_feeds, expect_text};
 use crate::ucptrie::fault::{Fault, about, said};
 use crate::ucptrie::names::name_in;
 use crate::ucptrie_words::built::{trie_of_units, trie_of_words};
@@ -52,6 +52,7 @@ fn trie<'f>(matches: &ArgMatches, name: &str, file: &'f [u8]) -> Result<Char16Tr
         let why = "found a byte order mark: save the file without it";
         return Err(about(name, why));
     }
+    expect_line_feeds(name, file)?;
     match trie_of_words(file) {
         Ok(trie) => Ok(trie),
         Err(fault) => Err(unbuilt(name, file, fault)),
