@@ -295,11 +295,11 @@ EDITS = {
     "icu_invlist/codepointinvlist/cpinvlist": [
         (r"(\n +)(?=let bytes = pack)", r"\1assert_eq!(ends.len() % 2, 0);\1", 1),
         (
-            r"match ZeroVec::parse_bytes\((&\[[^]]*\])\) \{(?:.*\n){3} +\}",
-            r"CodePointInversionList {\n            ends: ZeroVec::from_packed(\1),\n        }",
+            r"(?s)match ZeroVec::parse_bytes\((&\[[^]]*\])\) \{.*?( +size: \w+),?(?: \}|\n +\}),.*?\n        \}",
+            r"CodePointInversionList {\n            ends: ZeroVec::from_packed(\1),\n           \2,\n        }",
             3,
         ),
-        (r"(?m)^    (?=ends: ZeroVec<'data)", "    pub(crate) ", 1),
+        (r"(?m)^    (?=ends: ZeroVec<'data|size: u32,)", "    pub(crate) ", 2),
         # All boundaries with one check of the vector's capacity.
         (
             r"(?s)let packed = self\.ends\.as_slice\(\);\n( +)let count = packed\.len\(\);\n +ends\.try_room\(count - from\)\?;\n +for i in from\.\.count \{.*?\n\1\}",

@@ -45,8 +45,11 @@ checked_high xs ys rest more next e c r h v =
     let b = w.within (length ys) 0 (omega arith) in
     let q : get_or (ys ++ e ∷ more) (length ys) 0 ≡ e = get_or_at ys e more 0 (length ys) refl in omega arith
 
+pub checked_whole : (xs ys rest : List ℕ) (next : ℕ) → Checked xs ys rest next → rest ≡ [] → ys ≡ xs
+checked_whole xs ys rest next c r = sym (append-nil ys) ∙ (ap (λ (zs : List ℕ). ys ++ zs) (sym r) ∙ c.all)
+
 pub checked_all : (xs ys rest : List ℕ) (next : ℕ) → Checked xs ys rest next → rest ≡ [] → length xs % 2 ≡ 0 → IsValid xs
 checked_all xs ys rest next c r e =
-    let a : ys ≡ xs = sym (append-nil ys) ∙ (ap (λ (zs : List ℕ). ys ++ zs) (sym r) ∙ c.all) in
+    let a = checked_whole xs ys rest next c r in
     subst (λ (zs : List ℕ). IsValid zs) a (valid_from_run ys (run-wider 0 next 0 (suc code_point_limit) ys (omega arith) c.small c.run)
     (ap (λ (zs : List ℕ). length zs % 2) a ∙ e))

@@ -22,3 +22,4 @@ pub mod MemberCounts
 pub mod HeldMembers
 pub mod HeldRanges
 pub mod FirstRefusal
+pub mod SizeLemmas

@@ -146,14 +146,6 @@ holds_whole part whole i b v l = subset_from part whole i v l b.ranges
 pub last_of_pair : (xs : List ℕ) (i : ℕ) → IsValid xs → i % 2 ≡ 0 → i < length xs → i + 1 < length xs
 last_of_pair xs i v e l = let d = v.even in omega arith
 
--- A set with no boundaries has only the empty set as a subset.
-pub no_part_of_none : (part whole : List ℕ) → IsValid part → 0 < length part → length whole ≡ 0 → IsSubset part whole → ⊥
-no_part_of_none part whole v some none sub =
-    let r = all_from_subset part whole 0 v refl (last_of_pair part 0 v refl some) sub in
-    let a = v.ascending 0 (last_of_pair part 0 v refl some) in
-    let p : 0 ≡ ends_below whole (suc (get_or part 0 0)) = (let l = ends_below-le whole (suc (get_or part 0 0)) in omega arith) in
-    not_even whole 0 (get_or part 0 0) (get_or part 1 0) p a r (λ e. omega arith)
-
 -- The first and the last boundary of a subset are within those of the whole set.
 pub first_within : (part whole : List ℕ) → IsValid part → IsValid whole → 0 < length part → IsSubset part whole
     → get_or whole 0 0 ≤ get_or part 0 0

@@ -568,23 +568,36 @@ impl core::fmt::Display for InvalidStaticSet {
 
 impl core::error::Error for InvalidStaticSet {}
 
-/// Returns whether packed boundaries are an inversion list, like
-/// [`is_valid_zv`](crate::codepointinvlist::is_valid_zv).
-const fn is_valid(ends: &[u8]) -> bool {
+/// Returns the number of code points in the set with these packed boundaries, or `None` if they are
+/// not an inversion list, as [`is_valid_zv`](crate::codepointinvlist::is_valid_zv) tests it.
+const fn valid_size(ends: &[u8]) -> Option<u32> {
     if !ends.len().is_multiple_of(6) {
-        return false;
+        return None;
     }
     let mut next = 0;
+    let mut size = 0;
     let mut start = 0;
     while start < ends.len() {
         let end = number_at(ends, start, 3);
         if end < next || end > CODE_POINT_LIMIT {
-            return false;
+            return None;
         }
+        size = end - size;
         next = end + 1;
         start += 3;
     }
-    true
+    Some(size)
+}
+
+/// Returns the number of code points in the set with these packed boundaries.
+///
+/// # Panics
+/// Panics if they are not an inversion list.
+const fn size_or_panic(ends: &[u8]) -> u32 {
+    match valid_size(ends) {
+        Some(size) => size,
+        None => panic!("the boundaries are not an inversion list"),
+    }
 }
 
 /// Sets in constants.
@@ -597,12 +610,12 @@ impl<'data> CodePointInversionList<'data> {
     pub const fn try_from_static(
         ends: ZeroSlice<'data, PotentialCodePoint>,
     ) -> Result<Self, InvalidStaticSet> {
-        if is_valid(ends.as_bytes()) {
-            Ok(CodePointInversionList {
+        match valid_size(ends.as_bytes()) {
+            Some(size) => Ok(CodePointInversionList {
                 ends: ends.as_zerovec(),
-            })
-        } else {
-            Err(InvalidStaticSet)
+                size,
+            }),
+            None => Err(InvalidStaticSet),
         }
     }
 
@@ -655,12 +668,9 @@ impl<'data> CodePointInversionList<'data> {
     /// Panics if the boundaries are not an inversion list.
     #[must_use]
     pub const fn from_static(ends: ZeroSlice<'data, PotentialCodePoint>) -> Self {
-        assert!(
-            is_valid(ends.as_bytes()),
-            "the boundaries are not an inversion list"
-        );
         CodePointInversionList {
             ends: ends.as_zerovec(),
+            size: size_or_panic(ends.as_bytes()),
         }
     }
 }
@@ -670,11 +680,8 @@ impl<'data> CodePointInversionList<'data> {
     #[doc(hidden)]
     #[must_use]
     pub const fn from_parts_unchecked(ends: ZeroVec<'data, PotentialCodePoint>, _: u32) -> Self {
-        assert!(
-            is_valid(ends.as_bytes()),
-            "the boundaries are not an inversion list"
-        );
-        CodePointInversionList { ends }
+        let size = size_or_panic(ends.as_bytes());
+        CodePointInversionList { ends, size }
     }
 }
 

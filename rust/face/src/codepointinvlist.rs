@@ -201,6 +201,7 @@ impl Default for CodePointInversionList<'_> {
     fn default() -> Self {
         CodePointInversionList {
             ends: Default::default(),
+            size: 0,
         }
     }
 }

@@ -119,6 +119,7 @@ impl Clone for CodePointInversionList<'_> {
     fn clone(&self) -> Self {
         CodePointInversionList {
             ends: self.ends.clone(),
+            size: self.size,
         }
     }
 }

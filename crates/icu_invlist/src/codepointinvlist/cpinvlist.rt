@@ -17,7 +17,8 @@ mod subsets;
 
 use crate::codepointinvlist::error::{InvalidSetError, SetError};
 use crate::codepointinvlist::iter::{IterChars, IterRanges, IterRangesComplemented, start_of_gap};
-use crate::codepointinvlist::utils::{RangeOf, is_valid_slice, is_valid_zv};
+use crate::codepointinvlist::sizes::{size_of, valid_size};
+use crate::codepointinvlist::utils::{RangeOf, is_valid_slice};
 use icu_zerovec::ule::AsULE;
 use icu_zerovec::{CODE_POINT_LIMIT, MemoryError, PotentialCodePoint, ZeroSlice, ZeroVec};
 use packing::{cut_to_points, pack, unpacked};
@@ -37,17 +38,20 @@ use std::ops::RangeInclusive;
 #[derive(Debug, Drop)]
 pub struct CodePointInversionList<'data> {
     ends: ZeroVec<'data, PotentialCodePoint>,
+    size: u32,
 }
 
 impl<'data> Model for CodePointInversionList<'data> {
-    ghost use Rattle.std.specs.Prelude.{List, ℕ};
-    ghost use Rattle.icu_invlist.specs.InversionList.{IsValid};
+    ghost use Rattle.std.specs.Prelude.{◌≡◌, List, ℕ};
+    ghost use Rattle.icu_zerovec.specs.CodePoints.{code_point_limit};
+    ghost use Rattle.icu_invlist.specs.InversionList.{IsValid, members_below};
 
     ghost Value = { List ℕ };
 
     ghost view = { λ a. a.ends };
 
-    ghost invariant = { λ a. IsValid a.ends };
+    ghost invariant = { λ a. IsValid a.ends
+        × (a.size ≡ members_below a.ends code_point_limit) };
 }
 
 /// Constructors and copies.
@@ -66,8 +70,8 @@ impl<'data> CodePointInversionList<'data> {
         ensures ok { IfOk result (λ s. (s ≡ ends.entry) × IsValid ends.entry) }
         ensures err { IfErr result (IsRefusedList ends.entry) }
     {
-        if is_valid_zv(&ends) {
-            return Ok(CodePointInversionList { ends });
+        if let Some(size) = valid_size(&ends) {
+            return Ok(CodePointInversionList { ends, size });
         }
         Err(SetError::Invalid(InvalidSetError(unpacked(alloc, &ends)?)))
     }
@@ -104,9 +108,10 @@ impl<'data> CodePointInversionList<'data> {
         requires { IsValid ends.now }
         ensures { IfOk result (λ s. s ≡ ends.now) }
     {
+        let size = size_of(ends);
         let bytes = pack(alloc, ends)?;
         match ZeroVec::parse_owned(bytes) {
-            Ok(ends) => Ok(CodePointInversionList { ends }),
+            Ok(ends) => Ok(CodePointInversionList { ends, size }),
             Err(_) => unreachable!(),
         }
     }
@@ -116,7 +121,7 @@ impl<'data> CodePointInversionList<'data> {
         ensures { result ≡ [] }
     {
         match ZeroVec::parse_bytes(&[]) {
-            Ok(ends) => CodePointInversionList { ends },
+            Ok(ends) => CodePointInversionList { ends, size: 0 },
             Err(_) => unreachable!(),
         }
     }
@@ -127,7 +132,10 @@ impl<'data> CodePointInversionList<'data> {
         ensures { result ≡ 0 ∷ code_point_limit ∷ [] }
     {
         match ZeroVec::parse_bytes(&[0, 0, 0, 0, 0, 0x11]) {
-            Ok(ends) => CodePointInversionList { ends },
+            Ok(ends) => CodePointInversionList {
+                ends,
+                size: CODE_POINT_LIMIT,
+            },
             Err(_) => unreachable!(),
         }
     }
@@ -138,7 +146,10 @@ impl<'data> CodePointInversionList<'data> {
         ensures { result ≡ 0 ∷ 0x10000 ∷ [] }
     {
         match ZeroVec::parse_bytes(&[0, 0, 0, 0, 0, 0x1]) {
-            Ok(ends) => CodePointInversionList { ends },
+            Ok(ends) => CodePointInversionList {
+                ends,
+                size: 0x10000,
+            },
             Err(_) => unreachable!(),
         }
     }
@@ -152,9 +163,10 @@ impl<'data> CodePointInversionList<'data> {
     pub fn into_owned(self, alloc: Global) -> Result<CodePointInversionList<'static>, MemoryError>
         ensures ok { IfOk result (λ s. s ≡ self.entry) }
     {
-        let CodePointInversionList { ends } = self;
+        let CodePointInversionList { ends, size } = self;
         Ok(CodePointInversionList {
             ends: ends.into_owned(alloc)?,
+            size,
         })
     }
 
@@ -167,6 +179,7 @@ impl<'data> CodePointInversionList<'data> {
     {
         Ok(CodePointInversionList {
             ends: self.ends.try_clone(alloc)?,
+            size: self.size,
         })
     }
 }
@@ -273,26 +286,23 @@ impl<'data> CodePointInversionList<'data> {
     }
 
     /// Returns true if `other` is a subset of this set. The empty set is a subset of every set.
+    ///
+    /// If `other` contains more code points than this set, this returns false at once.
+    #[inline]
     pub fn contains_set(&self, other: &CodePointInversionList<'_>) -> bool
         ensures subset { IsTrue result ↔ IsSubset other.now self.now }
         ensures valid { IsValid self.now × IsValid other.now }
     {
-        // Reading the field gives the proof the invariant: the set is valid.
-        let _ = &self.ends;
-        if other.is_empty() {
-            return true;
-        }
-        if !self.spans(other) {
+        if other.size > self.size {
             return false;
         }
-        let count = other.count();
-        if self.ends.as_bytes() == other.ends.as_bytes() {
-            true
-        } else if count < self.count() / 16 {
-            self.holds_each(other)
-        } else {
-            self.holds_in_order(other)
+        if other.size == 0 {
+            return true;
         }
+        if other.size == self.size {
+            return *self == *other;
+        }
+        self.holds_some(other)
     }
 
     /// Returns the index of `c` among the set's code points in ascending order, or `None` if the
@@ -334,19 +344,13 @@ impl<'data> CodePointInversionList<'data> {
         Some(before + (c - self.end_at(i)) as usize)
     }
 
-    /// Returns the number of code points in the set, including surrogates.
+    /// Returns the number of code points in the set, including surrogates. The number is stored, so
+    /// this takes constant time.
     pub fn size(&self) -> usize
         ensures size { result ≡ members_below self.now code_point_limit }
         ensures valid { IsValid self.now }
     {
-        let count = self.count();
-        let mut size = 0;
-        let mut i = 0;
-        while i < count {
-            size += (self.end_at(i + 1) - self.end_at(i)) as usize;
-            i += 2;
-        }
-        size
+        self.size as usize
     }
 
     /// Returns true if the set contains no code points.

@@ -6,6 +6,7 @@ ghost use Rattle.icu_zerovec.specs.CodePoints.{code_point_limit};
 ghost use Rattle.icu_invlist.specs.InversionList.{IsValid};
 ghost use Rattle.icu_invlist.specs.NamedCodePoints.{open_start, open_end, end_of_included, end_of_inclusive, is_used_up, range_of_numbers};
 
+use crate::codepointinvlist::sizes::valid_size;
 use icu_zerovec::{CODE_POINT_LIMIT, PotentialCodePoint, ZeroVec};
 use std::ops::{Range, RangeFrom, RangeFull, RangeInclusive, RangeTo, RangeToInclusive};
 
@@ -166,18 +167,7 @@ impl<X: RangePoint> RangeOf<X> for RangeFull {
 pub fn is_valid_zv(ends: &ZeroVec<'_, PotentialCodePoint>) -> bool
     ensures { IsTrue result ↔ IsValid ends.now }
 {
-    if ends.len() % 2 != 0 {
-        return false;
-    }
-    let mut next = 0;
-    for end in ends.iter() {
-        let end = u32::from(end);
-        if end < next || end > CODE_POINT_LIMIT {
-            return false;
-        }
-        next = end + 1;
-    }
-    true
+    valid_size(ends).is_some()
 }
 
 /// Returns true if `ends` is an inversion list. The same test as `is_valid_zv`, for numbers that

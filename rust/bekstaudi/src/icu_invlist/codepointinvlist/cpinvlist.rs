@@ -9,7 +9,8 @@ use crate::icu_invlist::codepointinvlist::error::{InvalidSetError, SetError};
 use crate::icu_invlist::codepointinvlist::iter::{
     IterChars, IterRanges, IterRangesComplemented, start_of_gap,
 };
-use crate::icu_invlist::codepointinvlist::utils::{RangeOf, is_valid_slice, is_valid_zv};
+use crate::icu_invlist::codepointinvlist::sizes::{size_of, valid_size};
+use crate::icu_invlist::codepointinvlist::utils::{RangeOf, is_valid_slice};
 use crate::icu_zerovec::{CODE_POINT_LIMIT, MemoryError, PotentialCodePoint, ZeroSlice, ZeroVec};
 use core::ops::RangeInclusive;
 use packing::{cut_to_points, pack, unpacked};
@@ -31,6 +32,7 @@ use packing::{cut_to_points, pack, unpacked};
 #[derive(Debug)]
 pub struct CodePointInversionList<'data> {
     pub(crate) ends: ZeroVec<'data, PotentialCodePoint>,
+    pub(crate) size: u32,
 }
 
 /// Constructors and copies.
@@ -46,8 +48,8 @@ impl<'data> CodePointInversionList<'data> {
     pub fn try_from_inversion_list_fallible(
         ends: ZeroVec<'data, PotentialCodePoint>,
     ) -> Result<Self, SetError> {
-        if is_valid_zv(&ends) {
-            return Ok(CodePointInversionList { ends });
+        if let Some(size) = valid_size(&ends) {
+            return Ok(CodePointInversionList { ends, size });
         }
         Err(SetError::Invalid(InvalidSetError(unpacked(&ends)?)))
     }
@@ -79,10 +81,11 @@ impl<'data> CodePointInversionList<'data> {
     pub(crate) fn from_valid_slice(
         ends: &[u32],
     ) -> Result<CodePointInversionList<'static>, MemoryError> {
+        let size = size_of(ends);
         assert_eq!(ends.len() % 2, 0);
         let bytes = pack(ends)?;
         match ZeroVec::parse_owned(bytes) {
-            Ok(ends) => Ok(CodePointInversionList { ends }),
+            Ok(ends) => Ok(CodePointInversionList { ends, size }),
             Err(_) => unreachable!(),
         }
     }
@@ -92,6 +95,7 @@ impl<'data> CodePointInversionList<'data> {
     pub(crate) fn none() -> CodePointInversionList<'static> {
         CodePointInversionList {
             ends: ZeroVec::from_packed(&[]),
+            size: 0,
         }
     }
 
@@ -102,6 +106,7 @@ impl<'data> CodePointInversionList<'data> {
     pub const fn all() -> CodePointInversionList<'static> {
         CodePointInversionList {
             ends: ZeroVec::from_packed(&[0, 0, 0, 0, 0, 0x11]),
+            size: CODE_POINT_LIMIT,
         }
     }
 
@@ -112,6 +117,7 @@ impl<'data> CodePointInversionList<'data> {
     pub const fn bmp() -> CodePointInversionList<'static> {
         CodePointInversionList {
             ends: ZeroVec::from_packed(&[0, 0, 0, 0, 0, 0x1]),
+            size: 0x10000,
         }
     }
 
@@ -123,9 +129,10 @@ impl<'data> CodePointInversionList<'data> {
     /// borrowed are unchanged.
     #[inline]
     pub fn try_into_owned(self) -> Result<CodePointInversionList<'static>, MemoryError> {
-        let CodePointInversionList { ends } = self;
+        let CodePointInversionList { ends, size } = self;
         Ok(CodePointInversionList {
             ends: ends.try_into_owned()?,
+            size,
         })
     }
 
@@ -137,6 +144,7 @@ impl<'data> CodePointInversionList<'data> {
     pub fn try_clone(&self) -> Result<CodePointInversionList<'static>, MemoryError> {
         Ok(CodePointInversionList {
             ends: self.ends.try_clone()?,
+            size: self.size,
         })
     }
 }
@@ -237,22 +245,21 @@ impl<'data> CodePointInversionList<'data> {
     }
 
     /// Returns true if `other` is a subset of this set. The empty set is a subset of every set.
+    ///
+    /// If `other` contains more code points than this set, this returns false at once.
     #[must_use]
+    #[inline]
     pub fn contains_set(&self, other: &CodePointInversionList<'_>) -> bool {
-        if other.is_empty() {
-            return true;
-        }
-        if !self.spans(other) {
+        if other.size > self.size {
             return false;
         }
-        let count = other.count();
-        if self.ends.as_bytes() == other.ends.as_bytes() {
-            true
-        } else if count < self.count() / 16 {
-            self.holds_each(other)
-        } else {
-            self.holds_in_order(other)
+        if other.size == 0 {
+            return true;
         }
+        if other.size == self.size {
+            return *self == *other;
+        }
+        self.holds_some(other)
     }
 
     /// Returns the index of `c` among the set's code points in ascending order, or `None` if the
@@ -287,20 +294,12 @@ impl<'data> CodePointInversionList<'data> {
         Some(before + (c - self.end_at(i)) as usize)
     }
 
-    /// Returns the number of code points in the set, including surrogates.
-    ///
-    /// Takes time linear in the number of ranges, as the number is not stored.
+    /// Returns the number of code points in the set, including surrogates. The number is stored, so
+    /// this takes constant time.
     #[must_use]
     #[inline]
     pub fn size(&self) -> usize {
-        let count = self.count();
-        let mut size = 0;
-        let mut i = 0;
-        while i < count {
-            size += (self.end_at(i + 1) - self.end_at(i)) as usize;
-            i += 2;
-        }
-        size
+        self.size as usize
     }
 
     /// Returns true if the set contains no code points.

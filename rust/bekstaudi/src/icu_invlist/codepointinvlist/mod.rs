@@ -11,6 +11,7 @@ mod error;
 mod iter;
 #[cfg(feature = "json")]
 mod json;
+mod sizes;
 pub mod utils;
 
 pub use builder::CodePointInversionListBuilder;

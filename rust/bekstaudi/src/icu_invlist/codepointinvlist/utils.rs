@@ -1,5 +1,6 @@
 //! The numbers in a range, and the validity of an inversion list.
 
+use crate::icu_invlist::codepointinvlist::sizes::valid_size;
 use crate::icu_zerovec::{CODE_POINT_LIMIT, PotentialCodePoint, ZeroVec};
 use core::ops::RangeInclusive;
 
@@ -66,19 +67,9 @@ pub fn deconstruct_range<X: RangePoint, R: core::ops::RangeBounds<X>>(range: R) 
 ///
 /// `[0x41, 0x5B]` and the empty list are inversion lists, and `[1, 2, 2, 3]` is not.
 #[must_use]
+#[inline]
 pub fn is_valid_zv(ends: &ZeroVec<'_, PotentialCodePoint>) -> bool {
-    if !ends.len().is_multiple_of(2) {
-        return false;
-    }
-    let mut next = 0;
-    for end in ends.iter() {
-        let end = u32::from(end);
-        if end < next || end > CODE_POINT_LIMIT {
-            return false;
-        }
-        next = end + 1;
-    }
-    true
+    valid_size(ends).is_some()
 }
 
 /// Returns true if `ends` is an inversion list. The same test as `is_valid_zv`, for numbers that

@@ -1,7 +1,6 @@
-use Rattle.std.proofs.Common.{◌≡◌, ◌∙◌, sym, ap, subst, Some}
+use Rattle.std.proofs.Common.{◌≡◌, ◌∙◌, ap, Some}
 use Rattle.icu_zerovec.specs.Cells.{values_of}
 use Rattle.icu_zerovec.specs.PackedBytes.{number_of}
-use Rattle.icu_invlist.specs.InversionList.{IsValid}
 use Rattle.icu_invlist.proofs.PackedEnds.{values_packed, no_fault}
 use Rattle.icu_invlist.proofs.codepointinvlist.cpinvlist.CodePointInversionList.from_valid_slice.Goals as goal
 
@@ -9,7 +8,7 @@ pub invariant_of-result : goal.invariant_of-result
 invariant_of-result c =
     let e : c.in-Ok.ends ≡ c.args.ends.now =
     c.in-Ok.ensures.ok.1 ∙ (ap (values_of (λ b. Some (number_of 3 b)) 3) c.in_ok-bytes.ensures ∙ values_packed _ c.requires) in
-    subst IsValid (sym e) c.requires
+    rw e (c.requires, c.size_of-size.ensures)
 
 pub unreachable-requires : goal.unreachable-requires
 unreachable-requires c = no_fault c.args.ends.now c.requires _ (rw c.in_ok-bytes.ensures at c.in-Err.ensures.err)

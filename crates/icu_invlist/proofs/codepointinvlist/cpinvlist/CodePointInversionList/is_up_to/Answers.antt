@@ -15,7 +15,7 @@ returns c =
     let e = (end_in_cell c.as_bytes.result.now c.args.self.now c.args.i c.as_bytes.ensures.packed
     (sym c.self.view_is ∙ c.as_bytes.ensures.values) c.requires.within).1 in
     let p = place_of_end (suc code_point_limit) c.args.self.now c.args.i (suc c.args.c)
-    (run_from_valid c.args.self.now (rw (← c.self.view_is) c.self.invariant)) c.requires.within in
+    (run_from_valid c.args.self.now (rw (← c.self.view_is) c.self.invariant.0)) c.requires.within in
     let w = c.word_of.ensures in
     let s = c.requires.small in (
       λ t. p.0 (let a = ltb-true _ _ t in omega arith),

@@ -19,7 +19,7 @@ from_zero : (c : goal.After-start_of_gap-start)
     → gaps_left c.start_of_gap-start.result c.next-then-contains32.new.self ≡ complement_of c.self.inside.ends
 from_zero c = rw c.start_of_gap-start.ensures
     (gaps_from_zero c.self.inside.ends c.next.new.self c.next-then-contains32.new.self c.next.result c.next-then-contains32.result
-    c.self.invariant
+    c.self.invariant.0
     (rw c.self.view_is (sym c.contains32.ensures.held ∙ c.if-contains32.true))
     (rw c.iter-ends.ensures.items at c.next.ensures.steps) c.next-then-contains32.ensures.steps)
 
@@ -27,58 +27,58 @@ given_from_zero : (c : goal.After-from_gap)
     → gaps_left c.start_of_gap-start.result c.next-then-contains32.new.self ≡ complement_of c.self.inside.ends
 given_from_zero c = rw c.start_of_gap-start.ensures
     (gaps_from_zero c.self.inside.ends c.next.new.self c.next-then-contains32.new.self c.next.result c.next-then-contains32.result
-    c.self.invariant
+    c.self.invariant.0
     (rw c.self.view_is (sym c.contains32.ensures.held ∙ c.if-contains32.true))
     (rw c.iter-ends.ensures.items at c.next.ensures.steps) c.next-then-contains32.ensures.steps)
 
 from_start : (c : goal.Else-contains32) → 0 ∷ toggle_back c.iter-ends.result ≡ complement_of c.self.inside.ends
 from_start c = rw c.iter-ends.ensures.items
-    (gaps_from_start c.self.inside.ends c.self.invariant (rw c.self.view_is (sym c.contains32.ensures.held ∙ c.if-contains32.false)))
+    (gaps_from_start c.self.inside.ends c.self.invariant.0 (rw c.self.view_is (sym c.contains32.ensures.held ∙ c.if-contains32.false)))
 
 given_from_start : (c : goal.After-from_gap-2) → 0 ∷ toggle_back c.iter-ends.result ≡ complement_of c.self.inside.ends
 given_from_start c = rw c.iter-ends.ensures.items
-    (gaps_from_start c.self.inside.ends c.self.invariant (rw c.self.view_is (sym c.contains32.ensures.held ∙ c.if-contains32.false)))
+    (gaps_from_start c.self.inside.ends c.self.invariant.0 (rw c.self.view_is (sym c.contains32.ensures.held ∙ c.if-contains32.false)))
 
 pub from_gap-requires : goal.from_gap-requires
-from_gap-requires c = rw (from_zero c) (complement_valid c.self.inside.ends c.self.invariant)
+from_gap-requires c = rw (from_zero c) (complement_valid c.self.inside.ends c.self.invariant.0)
 
 pub returns-then-contains32-clause-gives : goal.returns-then-contains32-clause-gives
 returns-then-contains32-clause-gives c = c.from_gap.ensures ∙ (given_from_zero c ∙ ap (λ (xs : List ℕ). complement_of xs) c.self.view_is)
 
 pub returns-then-contains32-clause-complement : goal.returns-then-contains32-clause-complement
-returns-then-contains32-clause-complement c = λ n h. rw (← c.self.view_is) (complement-holds c.self.inside.ends n c.self.invariant h)
+returns-then-contains32-clause-complement c = λ n h. rw (← c.self.view_is) (complement-holds c.self.inside.ends n c.self.invariant.0 h)
 
 pub from_gap-requires-2 : goal.from_gap-requires-2
-from_gap-requires-2 c = rw (from_start c) (complement_valid c.self.inside.ends c.self.invariant)
+from_gap-requires-2 c = rw (from_start c) (complement_valid c.self.inside.ends c.self.invariant.0)
 
 pub returns-clause-complement : goal.returns-clause-complement
-returns-clause-complement c = λ n h. rw (← c.self.view_is) (complement-holds c.self.inside.ends n c.self.invariant h)
+returns-clause-complement c = λ n h. rw (← c.self.view_is) (complement-holds c.self.inside.ends n c.self.invariant.0 h)
 
 pub returns-clause-gives : goal.returns-clause-gives
 returns-clause-gives c = c.from_gap-2.ensures ∙ (given_from_start c ∙ ap (λ (xs : List ℕ). complement_of xs) c.self.view_is)
 
 pub returns-then-contains32-clause-valid : goal.returns-then-contains32-clause-valid
-returns-then-contains32-clause-valid c = rw (← c.self.view_is) (complement_valid c.self.inside.ends c.self.invariant)
+returns-then-contains32-clause-valid c = rw (← c.self.view_is) (complement_valid c.self.inside.ends c.self.invariant.0)
 
 pub returns-clause-valid : goal.returns-clause-valid
-returns-clause-valid c = rw (← c.self.view_is) (complement_valid c.self.inside.ends c.self.invariant)
+returns-clause-valid c = rw (← c.self.view_is) (complement_valid c.self.inside.ends c.self.invariant.0)
 
 pub returns-then-contains32-clause-within : goal.returns-then-contains32-clause-within
 returns-then-contains32-clause-within c = rw (← c.self.view_is)
-    (ranges_within (complement_of c.self.inside.ends) (complement_valid c.self.inside.ends c.self.invariant))
+    (ranges_within (complement_of c.self.inside.ends) (complement_valid c.self.inside.ends c.self.invariant.0))
 
 pub returns-clause-within : goal.returns-clause-within
 returns-clause-within c = rw (← c.self.view_is)
-    (ranges_within (complement_of c.self.inside.ends) (complement_valid c.self.inside.ends c.self.invariant))
+    (ranges_within (complement_of c.self.inside.ends) (complement_valid c.self.inside.ends c.self.invariant.0))
 
 pub returns-then-contains32-clause-apart : goal.returns-then-contains32-clause-apart
-returns-then-contains32-clause-apart c = rw (← c.self.view_is) (gaps_apart c.self.inside.ends c.self.invariant)
+returns-then-contains32-clause-apart c = rw (← c.self.view_is) (gaps_apart c.self.inside.ends c.self.invariant.0)
 
 pub returns-clause-apart : goal.returns-clause-apart
-returns-clause-apart c = rw (← c.self.view_is) (gaps_apart c.self.inside.ends c.self.invariant)
+returns-clause-apart c = rw (← c.self.view_is) (gaps_apart c.self.inside.ends c.self.invariant.0)
 
 pub returns-then-contains32-clause-held : goal.returns-then-contains32-clause-held
-returns-then-contains32-clause-held c = λ n h. rw (← c.self.view_is) (gaps_hold c.self.inside.ends n c.self.invariant h)
+returns-then-contains32-clause-held c = λ n h. rw (← c.self.view_is) (gaps_hold c.self.inside.ends n c.self.invariant.0 h)
 
 pub returns-clause-held : goal.returns-clause-held
-returns-clause-held c = λ n h. rw (← c.self.view_is) (gaps_hold c.self.inside.ends n c.self.invariant h)
+returns-clause-held c = λ n h. rw (← c.self.view_is) (gaps_hold c.self.inside.ends n c.self.invariant.0 h)

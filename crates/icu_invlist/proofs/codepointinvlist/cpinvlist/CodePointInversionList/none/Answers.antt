@@ -1,7 +1,8 @@
-use Rattle.std.proofs.Common.{◌≡◌, ◌∙◌, sym, subst, refl, [], Some}
+use Rattle.std.proofs.Common.{◌≡◌, ◌∙◌, refl, [], Some}
 use Rattle.icu_zerovec.specs.Cells.{values_of}
 use Rattle.icu_zerovec.specs.PackedBytes.{number_of}
 use Rattle.icu_invlist.specs.InversionList.{IsValid}
+use Rattle.icu_invlist.proofs.SizeLemmas.{sized}
 use Rattle.icu_invlist.proofs.ValidLists.{valid_from_run}
 use Rattle.icu_invlist.proofs.codepointinvlist.cpinvlist.CodePointInversionList.none.Goals as goal
 
@@ -13,7 +14,7 @@ none_valid : IsValid []
 none_valid = valid_from_run [] tt refl
 
 pub invariant_of-result : goal.invariant_of-result
-invariant_of-result c = subst IsValid (sym (c.in-Ok.ensures.ok.1 ∙ no_ends)) none_valid
+invariant_of-result c = sized [] _ 0 (c.in-Ok.ensures.ok.1 ∙ no_ends) none_valid refl
 
 pub returns : goal.returns
 returns c = c.in-Ok.ensures.ok.1 ∙ no_ends

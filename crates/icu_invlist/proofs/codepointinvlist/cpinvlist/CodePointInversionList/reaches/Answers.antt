@@ -6,7 +6,7 @@ use Rattle.icu_invlist.proofs.codepointinvlist.cpinvlist.CodePointInversionList.
 
 pub returns-then-place-eq1 : goal.returns-then-place-eq1
 returns-then-place-eq1 c = λ start p rises.
-    let v : IsValid c.args.self.now = rw (← c.self.view_is) c.self.invariant in
+    let v : IsValid c.args.self.now = rw (← c.self.view_is) c.self.invariant.0 in
     let l = within-place c.args.self.now c.args.place _ v p c.if-place-eq1.true in (
       λ t. covers_all c.args.self.now c.args.place start c.args.end v p c.if-place-eq1.true l (let e = leb-true _ _ t in
           omega (arith, c.end_at.ensures.end)),

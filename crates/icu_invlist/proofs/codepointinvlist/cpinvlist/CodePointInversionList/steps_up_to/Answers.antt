@@ -5,23 +5,23 @@ use Rattle.icu_invlist.proofs.Searches.{steps_counted}
 use Rattle.icu_invlist.proofs.codepointinvlist.cpinvlist.CodePointInversionList.steps_up_to.Goals as goal
 
 pub overflow_add-low : goal.overflow_add-low
-overflow_add-low c = let l = valid-length c.args.self.now (rw (← c.self.view_is) c.self.invariant) in
+overflow_add-low c = let l = valid-length c.args.self.now (rw (← c.self.view_is) c.self.invariant.0) in
     let w = c.requires.within in omega arith
 
 pub overflow_mul-step : goal.overflow_mul-step
-overflow_mul-step c = let l = valid-length c.args.self.now (rw (← c.self.view_is) c.self.invariant) in
+overflow_mul-step c = let l = valid-length c.args.self.now (rw (← c.self.view_is) c.self.invariant.0) in
     let w = c.requires.within in omega arith
 
 pub overflow_add-low-2 : goal.overflow_add-low-2
-overflow_add-low-2 c = let l = valid-length c.args.self.now (rw (← c.self.view_is) c.self.invariant) in
+overflow_add-low-2 c = let l = valid-length c.args.self.now (rw (← c.self.view_is) c.self.invariant.0) in
     let w = c.requires.within in omega arith
 
 pub overflow_mul-step-2 : goal.overflow_mul-step-2
-overflow_mul-step-2 c = let l = valid-length c.args.self.now (rw (← c.self.view_is) c.self.invariant) in
+overflow_mul-step-2 c = let l = valid-length c.args.self.now (rw (← c.self.view_is) c.self.invariant.0) in
     let w = c.requires.within in omega arith
 
 pub overflow_add-low-3 : goal.overflow_add-low-3
-overflow_add-low-3 c = let l = valid-length c.args.self.now (rw (← c.self.view_is) c.self.invariant) in
+overflow_add-low-3 c = let l = valid-length c.args.self.now (rw (← c.self.view_is) c.self.invariant.0) in
     let w = c.requires.within in omega arith
 
 pub returns : goal.returns

@@ -1,0 +1,47 @@
+//! How many code points a list of boundaries contains.
+ghost use Rattle.std.specs.Prelude.{◌≡◌};
+ghost use Rattle.std.specs.Option.{MatchOption};
+ghost use Rattle.icu_zerovec.specs.CodePoints.{code_point_limit};
+ghost use Rattle.icu_invlist.specs.InversionList.{IsValid, members_below};
+
+use icu_zerovec::{CODE_POINT_LIMIT, PotentialCodePoint, ZeroVec};
+
+/// Returns the number of code points in the set with these boundaries, or `None` if they are not an
+/// inversion list.
+///
+/// In the loop, `size` is the number of code points below the last boundary that are in the set or,
+/// after an odd number of boundaries, of those that are not.
+pub(crate) fn valid_size(ends: &ZeroVec<'_, PotentialCodePoint>) -> Option<u32>
+    ensures { MatchOption result (¬ (IsValid ends.now))
+        (λ size. IsValid ends.now × (size ≡ members_below ends.now code_point_limit)) }
+{
+    if ends.len() % 2 != 0 {
+        return None;
+    }
+    let mut next = 0;
+    let mut size = 0;
+    for end in ends.iter() {
+        let end = u32::from(end);
+        if end < next || end > CODE_POINT_LIMIT {
+            return None;
+        }
+        size = end - size;
+        next = end + 1;
+    }
+    Some(size)
+}
+
+/// Returns the number of code points in the set with these boundaries. LLVM vectorises the sum.
+#[inline(never)]
+pub(crate) fn size_of(ends: &[u32]) -> u32
+    requires { IsValid ends.now }
+    ensures { result ≡ members_below ends.now code_point_limit }
+{
+    let mut size = 0;
+    let mut i = 0;
+    while i + 1 < ends.len() {
+        size += ends[i + 1] - ends[i];
+        i += 2;
+    }
+    size
+}
