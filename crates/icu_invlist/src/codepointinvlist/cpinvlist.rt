@@ -101,6 +101,8 @@ impl<'data> CodePointInversionList<'data> {
     ///
     /// # Errors
     /// Returns `MemoryError` if an allocation fails.
+    // Out of line, so that callers with an empty set inline the rest.
+    #[inline(never)]
     pub fn from_valid_slice(
         alloc: Global,
         ends: &[u32],

@@ -77,7 +77,8 @@ impl<'data> CodePointInversionList<'data> {
     ///
     /// # Errors
     /// Returns `MemoryError` if an allocation fails.
-    #[inline]
+    // Out of line, so that callers with an empty set inline the rest.
+    #[inline(never)]
     pub(crate) fn from_valid_slice(
         ends: &[u32],
     ) -> Result<CodePointInversionList<'static>, MemoryError> {

@@ -25,7 +25,7 @@ pub(crate) fn valid_size(ends: &ZeroVec<'_, PotentialCodePoint>) -> Option<u32> 
 }
 
 /// Returns the number of code points in the set with these boundaries. LLVM vectorises the sum.
-#[inline(never)]
+#[inline]
 pub(crate) fn size_of(ends: &[u32]) -> u32 {
     let mut size = 0;
     let mut i = 0;
