@@ -3,7 +3,7 @@ use Rattle.std.proofs.Common.{◌≡◌, ℕ, ◌<◌, ◌≤◌, List, [], ◌�
 use Rattle.std.specs.Char.{encode_utf8}
 use Rattle.std.specs.Char.Utf16.{lone_unit_char, surrogate_pair_char}
 use Rattle.std.proofs.lemmas.Str.{utf16_chars_lone, utf16_chars_pair, utf16_chars-nil}
-use Rattle.std.proofs.str.Utf16.{IsPair, lone_unit_char_surrogate}
+use Rattle.std.proofs.str.Utf16.{IsPair, lone_unit_char_low, lone_unit_char_surrogate}
 use Rattle.icu_char16trie.specs.LossyText.{key_text}
 use Rattle.icu_char16trie.specs.Pending.{Spells, held_units}
 use Rattle.icu_char16trie.specs.Inside.Opening.{bytes_of, SpellsOn}
@@ -22,6 +22,10 @@ text_pair u v more h = rw (utf16_chars_pair u v more h) refl
 
 pub text_nil : key_text [] ≡ []
 text_nil = rw utf16_chars-nil refl
+
+-- An ASCII unit is its character.
+pub lone_ascii : (u : ℕ) → u < 0x80 → lone u ≡ u
+lone_ascii u h = ap (λ o. unwrap_or o 0xFFFD) (lone_unit_char_low u (omega (arith, h)))
 
 -- Only a lead surrogate is the first unit of a pair.
 pub text_alone : (u : ℕ) (more : List ℕ) → (u < 0xD800) ⊎ (0xDC00 ≤ u) → key_text (u ∷ more) ≡ encode_utf8 (lone u) ++ key_text more

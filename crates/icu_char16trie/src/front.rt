@@ -38,6 +38,7 @@ impl<'a> Pending<'a> {
     ghost use Rattle.icu_char16trie.specs.Inside.Walking.{OpensFront, ReadsNode};
 
     /// Moves to the first node of `front`, and leaves the current node.
+    #[inline(always)]
     pub(crate) fn open_front(&mut self, front: Front) -> Result<(), AllocError>
         requires { IsNearFront front }
         ensures opens { OnOk result (OpensFront self.old front self.new) }

@@ -80,18 +80,17 @@ impl<'a> Pending<'a> {
         let Some(unit) = unit_at(self.units, place) else {
             return Ok(());
         };
-        if count <= 1 {
-            self.spelling.push(unit)?;
-            self.node = Some(place + 1);
-            return Ok(());
+        let mut child = place + 1;
+        if count > 1 {
+            let Some(value) = unit_at(self.units, place + 1) else {
+                return Ok(());
+            };
+            let Some(first) = entry_child(self.units, place + 2, value) else {
+                return Ok(());
+            };
+            self.put_off(short_end(place + 2, value % VALUE_IS_FINAL), count - 1)?;
+            child = first;
         }
-        let Some(value) = unit_at(self.units, place + 1) else {
-            return Ok(());
-        };
-        let Some(child) = entry_child(self.units, place + 2, value) else {
-            return Ok(());
-        };
-        self.put_off(short_end(place + 2, value % VALUE_IS_FINAL), count - 1)?;
         self.spelling.push(unit)?;
         self.node = Some(child);
         Ok(())
@@ -156,6 +155,7 @@ impl<'a> Pending<'a> {
 
     /// Moves to the first node after a match node. `low` is the low six bits of its lead unit, and
     /// `place` is the index after the lead and its value.
+    #[inline(always)]
     pub(crate) fn open_match(&mut self, place: usize, low: u16) -> Result<(), AllocError>
         requires node { self.old.node ≡ None }
         requires place { place < 2 ^ 63 }
@@ -197,6 +197,7 @@ impl<'a> Pending<'a> {
     }
 
     /// Opens the node: returns its item, if it has a value, and moves to the first node after it.
+    #[inline(always)]
     fn open_node(&mut self, alloc: Global) -> Result<Option<(String, i32)>, AllocError>
         ensures { IfOk result (λ item. OpensNode self.old item self.new) }
     {

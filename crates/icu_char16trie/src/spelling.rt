@@ -84,6 +84,10 @@ impl Spelling {
         requires { self.old.held ≡ None }
         ensures { OnOk result (SpellsOn self.old (unit ∷ []) self.new) }
     {
+        if unit < 0x80 {
+            self.text.push(char::from(unit as u8))?;
+            return Ok(());
+        }
         if let Some(lead) = lead_surrogate(unit) {
             self.held = Some(lead);
             return Ok(());
@@ -148,9 +152,7 @@ impl Spelling {
             (SpellsOn self.old (take count (drop place (slice_values units.entry))) self.new) }
     {
         for i in 0..count {
-            if let Some(unit) = units.get(place + i) {
-                self.push(unit)?;
-            }
+            self.push(units.at(place + i))?;
         }
         Ok(())
     }

@@ -61,18 +61,17 @@ impl<'a> Pending<'a> {
         let Some(unit) = unit_at(self.units, place) else {
             return Ok(());
         };
-        if count <= 1 {
-            self.spelling.try_push(unit)?;
-            self.node = Some(place + 1);
-            return Ok(());
+        let mut child = place + 1;
+        if count > 1 {
+            let Some(value) = unit_at(self.units, place + 1) else {
+                return Ok(());
+            };
+            let Some(first) = entry_child(self.units, place + 2, value) else {
+                return Ok(());
+            };
+            self.put_off(short_end(place + 2, value % VALUE_IS_FINAL), count - 1)?;
+            child = first;
         }
-        let Some(value) = unit_at(self.units, place + 1) else {
-            return Ok(());
-        };
-        let Some(child) = entry_child(self.units, place + 2, value) else {
-            return Ok(());
-        };
-        self.put_off(short_end(place + 2, value % VALUE_IS_FINAL), count - 1)?;
         self.spelling.try_push(unit)?;
         self.node = Some(child);
         Ok(())
@@ -124,6 +123,7 @@ impl<'a> Pending<'a> {
     /// Moves to the first node after a match node. `low` is the low six bits of its lead unit, and
     /// `place` is the index after the lead and its value.
     #[inline(always)]
+    #[inline(always)]
     pub(crate) fn open_match(&mut self, place: usize, low: u16) -> Result<(), AllocError> {
         if low >= MIN_LINEAR_MATCH {
             self.pass_run(place, run_len(low))?;
@@ -151,6 +151,7 @@ impl<'a> Pending<'a> {
     }
 
     /// Opens the node: returns its item, if it has a value, and moves to the first node after it.
+    #[inline(always)]
     fn open_node(&mut self) -> Result<Option<(String, i32)>, AllocError> {
         let Some(place) = self.node.take() else {
             return Ok(None);

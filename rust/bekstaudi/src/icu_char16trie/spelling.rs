@@ -64,6 +64,10 @@ impl Spelling {
     /// Appends a unit when no lead surrogate is held.
     #[inline(always)]
     fn push_next(&mut self, unit: u16) -> Result<(), AllocError> {
+        if unit < 0x80 {
+            self.text.try_push(char::from(unit as u8))?;
+            return Ok(());
+        }
         if let Some(lead) = lead_surrogate(unit) {
             self.held = Some(lead);
             return Ok(());
@@ -114,9 +118,7 @@ impl Spelling {
         count: usize,
     ) -> Result<(), AllocError> {
         for i in 0..count {
-            if let Some(unit) = units.get(place + i) {
-                self.try_push(unit)?;
-            }
+            self.try_push(units.at(place + i))?;
         }
         Ok(())
     }

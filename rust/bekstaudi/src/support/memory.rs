@@ -166,18 +166,23 @@ pub(crate) trait TryString: Sized {
     fn try_push_str(&mut self, text: &str) -> Result<(), AllocError>;
 }
 
-/// Reserves capacity for one more character.
+/// Reserves capacity for one more character, and appends it.
 #[cfg(feature = "alloc")]
 #[cold]
 #[inline(never)]
-fn grow(text: &mut String) -> Result<(), AllocError> {
-    text.try_reserve(4).map_err(|_| AllocError)
+fn grow(text: &mut String, c: char) -> Result<(), AllocError> {
+    text.try_reserve(4).map_err(|_| AllocError)?;
+    text.push(c);
+    Ok(())
 }
 
 #[cfg(feature = "alloc")]
 impl TryString for String {
     fn from_str(text: &str) -> Result<Self, AllocError> {
-        let mut made = <String as TryString>::with_room(text.len())?;
+        let mut made = String::new();
+        if made.try_reserve_exact(text.len()).is_err() {
+            return Err(AllocError);
+        }
         made.push_str(text);
         Ok(made)
     }
@@ -192,7 +197,7 @@ impl TryString for String {
     fn try_push(&mut self, c: char) -> Result<(), AllocError> {
         // One test for all characters: `push` then needs no test of its own.
         if self.capacity() - self.len() < 4 {
-            grow(self)?;
+            return grow(self, c);
         }
         self.push(c);
         Ok(())

@@ -1,11 +1,10 @@
 use Rattle.icu_zerovec.specs.Slice.{slice_values}
 use Rattle.std.proofs.Common.{◌≡◌, ℕ, ◌+◌, ◌<◌, ◌++◌, ◌∷◌, [], List, Some, slice_get, take, drop, length, get_or, ap, sym, subst, ◌∙◌, arith, length-drop}
 use Rattle.std.proofs.lemmas.List.{take_more, get_or-drop}
-use Rattle.std.proofs.lemmas.Option.{none-some, slice_get_within, get_or_from_slice_get, slice_get-get_or}
+use Rattle.std.proofs.lemmas.Option.{slice_get_within, get_or_from_slice_get}
 use Rattle.icu_char16trie.specs.Inside.Opening.{SpellsOn}
 use Rattle.icu_char16trie.proofs.SpellingLemmas.{on_nothing, on_then}
 use Rattle.icu_char16trie.proofs.spelling.Spelling.push_run.Goals as goal
-use Rattle.icu_char16trie.proofs.spelling.Spelling.push_run.Goals.{in-Some+in_ok-push, in_default}
 
 -- One more of the units.
 one_more : (units : List ℕ) (p i x : ℕ) → slice_get units (p + i) ≡ Some x → take i (drop p units) ++ x ∷ [] ≡ take (i + 1) (drop p units)
@@ -19,13 +18,6 @@ loop-i-init c = on_nothing c.args.self.now
 
 pub loop-i-preserved : goal.loop-i-preserved
 loop-i-preserved c =
-    let bound : c.args.place + c.loop-i.i < length (slice_values c.args.units) = omega arith in
-    elim c.match-get.branch [
-      | in-Some+in_ok-push w ↦
-          let pushed = on_then c.args.self.now c.loop-i.self w.push.new.self _ _ c.loop-i.invariant w.in_ok-push.ensures in
-          rw w.self-is (subst (λ z. SpellsOn c.args.self.now z w.push.new.self)
-          (one_more (slice_values c.args.units) c.args.place c.loop-i.i w.in-Some.unit (sym c.get.ensures ∙ w.in-Some.is)) pushed)
-      | in_default w ↦
-          absurd (none-some _ (sym w.in_default.is
-          ∙ (c.get.ensures ∙ slice_get-get_or (slice_values c.args.units) (c.args.place + c.loop-i.i) 0 bound)))
-    ]
+    subst (λ z. SpellsOn c.args.self.now z c.push.new.self)
+    (one_more (slice_values c.args.units) c.args.place c.loop-i.i c.at.result c.at.ensures)
+    (on_then c.args.self.now c.loop-i.self c.push.new.self _ _ c.loop-i.invariant c.in_ok-push.ensures)
