@@ -221,15 +221,8 @@ EDITS = {
             1,
         ),
     ],
-    # The steps of a listing of a unit trie. rustc makes calls of them, which take longer than the
-    # steps; LLVM inlines them in the proved build.
-    "icu_char16trie/pending": [
-        (r"(?m)^(?= +fn enter_part)", "    #[inline(always)]\n", 1),
-        (r"(?m)^(?= +pub\(crate\) fn open_match)", "    #[inline(always)]\n", 1),
-    ],
-    "icu_char16trie/front": [
-        (r"(?m)^(?= +pub\(crate\) fn open_front)", "    #[inline(always)]\n", 1),
-    ],
+    # A step of a listing of a unit trie. rustc makes a call of it, which takes longer than the step.
+    "icu_char16trie/pending": [(r"(?m)^(?= +fn enter_part)", "    #[inline(always)]\n", 1)],
     "icu_collections_c/cells": [
         (r"let start = i \* T::WIDTH;\n +", "", 1),
         (r"&bytes\[start\.\.start \+ T::WIDTH\]", "proved_cell(bytes, T::WIDTH, i)", 1),
@@ -348,7 +341,18 @@ EDITS = {
         (r"(?m)^(?=pub fn look_up_whole)", "// Tests call it.\n#[allow(dead_code)]\n", 1),
     ],
     "icu_trie_core/cells": [(r"(\n +)(?=fn index_len\(&self\) -> usize;)", r"\1// Tests call it.\1#[allow(dead_code)]\1", 1)],
-    "icu_char16trie/spelling": [(r"(fn push_apart\(&mut self, )lead\b", r"\1_", 1)],
+    "icu_char16trie/spelling": [
+        (r"(fn push_apart\(&mut self, )lead\b", r"\1_", 1),
+        # Rust inlines `String::push` of a character above ASCII.
+        (r"\x01\d+\x03\n +if unit < 0x800 \{(?:\n[^}]*)\}\n(?= +push_wide)", "", 1),
+        (r"(?s) +\x01\d+\x03\n +#\[inline\(never\)\]\n +fn push_far.*?\n    \}\n\n", "", 1),
+        (r"\x01\d+\x03\n +if unit >= 0x80 \{[^}]*\}\n +", "", 1),
+        (
+            r"\x01\d+\x03\n +let mut bytes = \[0; 4\];\n +text\.try_push_str\(c\.encode_utf8\(&mut bytes\)\)",
+            "text.try_push(c)",
+            1,
+        ),
+    ],
     "icu_trie/lib": [(r"(?m)^(?=pub use icu_trie_core::\{)", "#[allow(unused_imports)] // Tests use them.\n", 1)],
     "icu_trie_text/lib": [(r"(?m)^(?=(?:pub )?mod characters;)", "#[allow(dead_code)] // The C library uses it.\n", 1)],
     "icu_trie_binary/binary": [(r"\(\((high_start) \+ 0xfff\) / (0x1000)\)", r"\1.div_ceil(\2)", 1)],

@@ -1,6 +1,7 @@
 //! The key of an entry as text, while it grows.
 ghost use Rattle.icu_zerovec.specs.Slice.{slice_values};
-ghost use Rattle.std.specs.Prelude.{◌≡◌, ℕ, ◌+◌, ◌^◌, ◌<◌, ◌≤◌, ◌⊎◌, List, [], ◌∷◌, take, drop, length, string_bytes, unwrap_or, MatchOption, IfOk, OnOk, Some, None};
+ghost use Rattle.std.specs.Prelude.{◌≡◌, ℕ, ◌+◌, ◌^◌, ◌<◌, ◌≤◌, ◌⊎◌, ◌++◌, List, [], ◌∷◌, take, drop, length, string_bytes, unwrap_or, MatchOption, IfOk, OnOk, Some, None};
+ghost use Rattle.std.specs.Char.{encode_utf8};
 ghost use Rattle.std.specs.Char.Utf16.{lone_unit_char, surrogate_pair_char};
 ghost use Rattle.std.specs.Str.{IsCharBoundary};
 ghost use Rattle.icu_char16trie.specs.LossyText.{key_text};
@@ -63,6 +64,17 @@ fn pair_char(lead: LeadSurrogate, unit: u16) -> Option<char>
     char::from_u32(0x1_0000 + (u32::from(lead.unit - 0xD800) << 10) + u32::from(unit - 0xDC00))
 }
 
+/// Appends a character that is not ASCII.
+#[inline(always)]
+fn push_wide(text: &mut String, c: char) -> Result<(), AllocError>
+    ensures { OnOk result (string_bytes text.new ≡ string_bytes text.old ++ encode_utf8 c) }
+{
+    // `String::push` would call a function for it.
+    let mut bytes = [0; 4];
+    text.push_str(c.encode_utf8(&mut bytes))?;
+    Ok(())
+}
+
 impl Spelling {
     ghost use Rattle.icu_char16trie.specs.Pending.{Spells};
     ghost use Rattle.icu_char16trie.specs.Inside.Opening.{SpellsOn};
@@ -92,7 +104,12 @@ impl Spelling {
             self.held = Some(lead);
             return Ok(());
         }
-        self.text.push(lone_char(unit))?;
+        // In each of the two calls the number of bytes is known.
+        if unit < 0x800 {
+            push_wide(&mut self.text, lone_char(unit))?;
+            return Ok(());
+        }
+        push_wide(&mut self.text, lone_char(unit))?;
         Ok(())
     }
 
@@ -118,7 +135,7 @@ impl Spelling {
     {
         if let Some(c) = pair_char(lead, unit) {
             self.held = None;
-            self.text.push(c)?;
+            push_wide(&mut self.text, c)?;
             return Ok(());
         }
         self.push_apart(lead, unit)?;
@@ -127,7 +144,7 @@ impl Spelling {
 
     /// Appends a unit.
     #[inline(always)]
-    pub(crate) fn push(&mut self, unit: u16) -> Result<(), AllocError>
+    fn push(&mut self, unit: u16) -> Result<(), AllocError>
         ensures { OnOk result (SpellsOn self.old (unit ∷ []) self.new) }
     {
         let Some(lead) = self.held else {
@@ -135,6 +152,29 @@ impl Spelling {
             return Ok(());
         };
         self.push_after(lead, unit)?;
+        Ok(())
+    }
+
+    /// Appends a unit that is not ASCII.
+    #[inline(never)]
+    fn push_far(&mut self, unit: u16) -> Result<(), AllocError>
+        ensures { OnOk result (SpellsOn self.old (unit ∷ []) self.new) }
+    {
+        self.push(unit)?;
+        Ok(())
+    }
+
+    /// Appends one unit.
+    #[inline(always)]
+    pub(crate) fn push_one(&mut self, unit: u16) -> Result<(), AllocError>
+        ensures { OnOk result (SpellsOn self.old (unit ∷ []) self.new) }
+    {
+        // A call for all but ASCII: so the code around it stays small.
+        if unit >= 0x80 {
+            self.push_far(unit)?;
+            return Ok(());
+        }
+        self.push(unit)?;
         Ok(())
     }
 

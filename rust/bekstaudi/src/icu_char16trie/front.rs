@@ -29,7 +29,6 @@ pub(crate) fn below(place: usize, lead: u16) -> Front {
 impl<'a> Pending<'a> {
     /// Moves to the first node of `front`, and leaves the current node.
     #[inline(always)]
-    #[inline(always)]
     pub(crate) fn open_front(&mut self, front: Front) -> Result<(), AllocError> {
         self.node = None;
         match front {

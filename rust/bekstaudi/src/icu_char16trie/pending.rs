@@ -72,7 +72,7 @@ impl<'a> Pending<'a> {
             self.put_off(short_end(place + 2, value % VALUE_IS_FINAL), count - 1)?;
             child = first;
         }
-        self.spelling.try_push(unit)?;
+        self.spelling.push_one(unit)?;
         self.node = Some(child);
         Ok(())
     }
@@ -122,7 +122,6 @@ impl<'a> Pending<'a> {
 
     /// Moves to the first node after a match node. `low` is the low six bits of its lead unit, and
     /// `place` is the index after the lead and its value.
-    #[inline(always)]
     #[inline(always)]
     pub(crate) fn open_match(&mut self, place: usize, low: u16) -> Result<(), AllocError> {
         if low >= MIN_LINEAR_MATCH {

@@ -51,6 +51,13 @@ fn pair_char(lead: LeadSurrogate, unit: u16) -> Option<char> {
     char::from_u32(0x1_0000 + (u32::from(lead.unit - 0xD800) << 10) + u32::from(unit - 0xDC00))
 }
 
+/// Appends a character that is not ASCII.
+#[inline(always)]
+fn push_wide(text: &mut String, c: char) -> Result<(), AllocError> {
+    text.try_push(c)?;
+    Ok(())
+}
+
 impl Spelling {
     /// Creates the spelling of the empty key.
     #[inline]
@@ -72,7 +79,7 @@ impl Spelling {
             self.held = Some(lead);
             return Ok(());
         }
-        self.text.try_push(lone_char(unit))?;
+        push_wide(&mut self.text, lone_char(unit))?;
         Ok(())
     }
 
@@ -91,7 +98,7 @@ impl Spelling {
     fn push_after(&mut self, lead: LeadSurrogate, unit: u16) -> Result<(), AllocError> {
         if let Some(c) = pair_char(lead, unit) {
             self.held = None;
-            self.text.try_push(c)?;
+            push_wide(&mut self.text, c)?;
             return Ok(());
         }
         self.push_apart(lead, unit)?;
@@ -100,12 +107,19 @@ impl Spelling {
 
     /// Appends a unit.
     #[inline(always)]
-    pub(crate) fn try_push(&mut self, unit: u16) -> Result<(), AllocError> {
+    fn try_push(&mut self, unit: u16) -> Result<(), AllocError> {
         let Some(lead) = self.held else {
             self.push_next(unit)?;
             return Ok(());
         };
         self.push_after(lead, unit)?;
+        Ok(())
+    }
+
+    /// Appends one unit.
+    #[inline(always)]
+    pub(crate) fn push_one(&mut self, unit: u16) -> Result<(), AllocError> {
+        self.try_push(unit)?;
         Ok(())
     }
 
