@@ -47,6 +47,7 @@ INSIDE = (
     " CodePointInversionList::from_valid_slice look_up_far look_up_fast look_up_high"
     " look_up_small look_up_whole NumberMap::set_range NumberMap::repeats NumberMap::copy_block"
     " NumberMap::get NumberMap::find_other CellStore::new CellStore::find CellStore::place build_index"
+    " copy_characters"
 ).split() + ["trait PartValues::ascii", "trait PartValues::near"]
 # Functions whose `requires` need not hold: an iterator without an end runs until an allocation
 # fails, and a closure that does not return does not return here either.
@@ -248,6 +249,11 @@ EDITS = {
         (
             r"for k in 0\.\.8 \{\n( +)values\[j \+ k\] = trie\.ascii\(bytes\[k\] & 0x7F\);",
             r"for (value, byte) in values[j..j + 8].iter_mut().zip(bytes) {\n\1*value = trie.ascii(byte & 0x7F);",
+            1,
+        ),
+        (
+            r"for k in 0\.\.8 \{\n( +)values\[j \+ k\] = trie\.ascii\(\(\(word",
+            r"for (k, value) in values[j..j + 8].iter_mut().enumerate() {\n\1*value = trie.ascii(((word",
             1,
         ),
     ],

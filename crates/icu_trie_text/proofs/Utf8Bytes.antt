@@ -1,5 +1,5 @@
 -- The bytes of a character by its size, for callers that test bytes themselves.
-use Rattle.std.proofs.Common.{◌≡◌, ◌∙◌, ℕ, ◌+◌, ◌-◌, ◌*◌, ◌/◌, ◌%◌, ◌<◌, ◌≤◌, List, ◌++◌, length, get_or, drop, ap, sym, subst, arith, inl, inr, Some, encode_utf8}
+use Rattle.std.proofs.Common.{◌≡◌, ◌∙◌, ℕ, ◌+◌, ◌*◌, ◌/◌, ◌%◌, ◌<◌, ◌≤◌, List, ◌++◌, length, get_or, drop, ap, sym, subst, arith, inl, inr, Some, encode_utf8}
 use Rattle.std.specs.Prelude.{◌⊎◌}
 use Rattle.std.proofs.lemmas.Str.{length-encode}
 use Rattle.icu_trie_text.specs.Utf8.{IsFirstPart}

@@ -1,5 +1,5 @@
 //! The values of the parts of bytes that may be ill-formed UTF-8, written to a buffer.
-ghost use Rattle.std.specs.Prelude.{◌≡◌, ◌⊎◌, ℕ, ◌+◌, ◌*◌, ◌<◌, ◌≤◌, length, slice_get, slice_index, IfSome, Option, Some, None};
+ghost use Rattle.std.specs.Prelude.{◌≡◌, ◌⊎◌, ℕ, ◌+◌, ◌*◌, ◌<◌, ◌≤◌, length, slice_get, slice_index, IfSome, IsTrue, Option, Some, None};
 ghost use Rattle.std.specs.Int.{w64, from_le_bytes};
 ghost use Rattle.std.specs.Option.{MatchOption};
 ghost use Rattle.std.specs.Str.{StartsWithNoChar};
@@ -63,10 +63,10 @@ pub trait PartValues<T> {
 
 /// How many bytes have to be left for a step that writes eight values at once. The values after the
 /// ASCII ones are overwritten later: what is left has at least eight parts.
-const BYTES_AHEAD: usize = 32;
+pub(crate) const BYTES_AHEAD: usize = 32;
 
 /// How much of the buffer has to be left: such a step may write one more value.
-const ROOM_AHEAD: usize = 9;
+pub(crate) const ROOM_AHEAD: usize = 9;
 
 /// The highest bit of each of eight bytes.
 const HIGH_BITS: u64 = 0x8080_8080_8080_8080;
@@ -84,7 +84,7 @@ fn word_of(bytes: &[u8]) -> u64
 
 /// Returns how many of the first eight bytes are ASCII before one that is not.
 #[inline(always)]
-fn ascii_count(bytes: &[u8]) -> usize
+pub(crate) fn ascii_count(bytes: &[u8]) -> usize
     requires { 8 ≤ length bytes.now }
     ensures bound { result ≤ 8 }
     ensures ascii { (k : ℕ) → k < result → slice_index bytes.now k < 0x80 }
@@ -96,9 +96,80 @@ fn ascii_count(bytes: &[u8]) -> usize
     high.trailing_zeros() as usize / 8
 }
 
+/// Returns true if the first sixteen bytes are ASCII.
+#[inline(always)]
+fn are_ascii(bytes: &[u8]) -> bool
+    requires { 16 ≤ length bytes.now }
+    ensures { IsTrue result → (k : ℕ) → k < 16 → slice_index bytes.now k < 0x80 }
+{
+    let first = word_of(bytes) & HIGH_BITS;
+    let second = word_of(&bytes[8..]) & HIGH_BITS;
+    first | second == 0
+}
+
+/// Writes the values of the first eight bytes, which are ASCII, from index `j` on.
+#[inline(always)]
+fn put_ascii<T: Copy, V: PartValues<T>>(trie: &V, bytes: &[u8], values: &mut [T], j: usize)
+    requires end { V.end_of_ascii trie.now ≡ 0x80 }
+    requires bytes { 8 ≤ length bytes.now }
+    requires ascii { (k : ℕ) → k < 8 → slice_index bytes.now k < 0x80 }
+    requires room { j + 8 ≤ length values.old }
+    ensures put { (k : ℕ) → k < 8 → slice_index bytes.now k < 0x80
+        → V.gives trie.now (Some (slice_index bytes.now k)) ≡ slice_get values.new (j + k) }
+    ensures kept { (k : ℕ) → (k < j) ⊎ (j + 8 ≤ k)
+        → slice_get values.new k ≡ slice_get values.old k }
+{
+    let word = word_of(bytes);
+    for k in 0..8 {
+        values[j + k] = trie.ascii(((word >> (8 * k)) % 256) as u8);
+    }
+}
+
+/// Writes more values, as long as sixteen bytes at a time are ASCII and much of the buffer is left.
+/// It is a call, so that it keeps its registers.
+#[inline(never)]
+pub(crate) fn copy_ascii<T: Copy, V: PartValues<T>>(
+    trie: &V,
+    bytes: &[u8],
+    values: &mut [T],
+    front: Copied,
+) -> Copied
+    requires ascii { V.end_of_ascii trie.now ≡ 0x80 }
+    requires bytes { front.bytes ≤ length bytes.now }
+    requires room { front.values ≤ length values.old }
+    ensures more { front.bytes ≤ result.bytes }
+    ensures copied { (old : _) → AreCopiedParts (V.gives trie.now) bytes.now old values.old
+        front.bytes front.values
+        → AreCopiedParts (V.gives trie.now) bytes.now old values.new result.bytes result.values }
+{
+    let mut i = front.bytes;
+    let mut j = front.values;
+    while bytes.len() - i >= BYTES_AHEAD + 8 && values.len() - j >= ROOM_AHEAD + 8 {
+        if !are_ascii(&bytes[i..]) {
+            return Copied {
+                values: j,
+                bytes: i,
+            };
+        }
+        put_ascii(trie, &bytes[i..], values, j);
+        put_ascii(trie, &bytes[i + 8..], values, j + 8);
+        i += 16;
+        j += 16;
+    }
+    Copied {
+        values: j,
+        bytes: i,
+    }
+}
+
 /// Writes eight values from index `j` on: those of the first eight bytes that are ASCII.
 #[inline(always)]
-fn put_eight<T: Copy, V: PartValues<T>>(trie: &V, bytes: &[u8], values: &mut [T], j: usize)
+pub(crate) fn put_eight<T: Copy, V: PartValues<T>>(
+    trie: &V,
+    bytes: &[u8],
+    values: &mut [T],
+    j: usize,
+)
     requires ascii { V.end_of_ascii trie.now ≡ 0x80 }
     requires bytes { 8 ≤ length bytes.now }
     requires room { j + 8 ≤ length values.old }
@@ -258,13 +329,22 @@ fn copy_front<T: Copy, V: PartValues<T>>(trie: &V, bytes: &[u8], values: &mut [T
         if bytes[i] < 0x80 {
             let count = ascii_count(&bytes[i..]);
             put_eight(trie, &bytes[i..], values, j);
-            if count == 8 {
-                i += 8;
-                j += 8;
-                continue;
-            }
             i += count;
             j += count;
+            if count == 8 {
+                let ahead = copy_ascii(
+                    trie,
+                    bytes,
+                    values,
+                    Copied {
+                        values: j,
+                        bytes: i,
+                    },
+                );
+                i = ahead.bytes;
+                j = ahead.values;
+                continue;
+            }
         }
         let (value, size) = near_value(trie, &bytes[i..]);
         values[j] = value;
@@ -279,7 +359,7 @@ fn copy_front<T: Copy, V: PartValues<T>>(trie: &V, bytes: &[u8], values: &mut [T
 
 /// Writes the values of the parts of the bytes that are left to the rest of the buffer.
 #[inline(always)]
-fn copy_rest<T: Copy, V: PartValues<T>>(
+pub(crate) fn copy_rest<T: Copy, V: PartValues<T>>(
     trie: &V,
     bytes: &[u8],
     values: &mut [T],

@@ -7,11 +7,15 @@ use Rattle.icu_trie_text.proofs.copy_parts.copy_front.Goals.{then-bytes-i-lt128+
 
 pub loop-i-preserved-then-count-eq8 : goal.loop-i-preserved-then-count-eq8
 loop-i-preserved-then-count-eq8 g c =
-    copied_eight (g.V.PartValues.gives c.args.trie.now) c.args.bytes.now c.args.values.now c.loop-i.values c.put_eight.new.values
+    let gives = g.V.PartValues.gives c.args.trie.now in
+    let bytes = c.args.bytes.now in
+    let few = c.ascii_count-count.ensures.bound in
+    c.copy_ascii-ahead.ensures.copied c.args.values.now
+    (copied_eight gives bytes c.args.values.now c.loop-i.values c.put_eight.new.values
     c.loop-i.i c.loop-i.j c.loop-i.invariant
-    (rw (take_rest c.args.bytes.now c.loop-i.i) at c.put_eight.ensures.put) c.put_eight.ensures.kept c.put_eight.auto.values
-    (omega arith) (omega arith) 8 (omega arith)
-    (λ k l. rw (take_rest c.args.bytes.now c.loop-i.i) at (c.ascii_count-count.ensures.ascii k (omega (arith, l, c.if-count-eq8.true))))
+    (rw (take_rest bytes c.loop-i.i) at c.put_eight.ensures.put) c.put_eight.ensures.kept c.put_eight.auto.values
+    (omega arith) (omega arith) c.ascii_count-count.result few
+    (λ k l. rw (take_rest bytes c.loop-i.i) at (c.ascii_count-count.ensures.ascii k l)))
 
 pub loop-i-preserved : goal.loop-i-preserved
 loop-i-preserved g c =
