@@ -8,7 +8,7 @@ ghost use Rattle.icu_trie_text.specs.InPlace.{HasAsciiInPlace};
 ghost use Rattle.icu_trie_text.specs.Utf16.{code_points_of};
 ghost use Rattle.icu_collections_c.specs.Answers.{AnswersText};
 ghost use Rattle.icu_collections_c.specs.Buffers.{written};
-ghost use Rattle.icu_collections_c.specs.BytesTrie.{cells_of, parts_in, value_at};
+ghost use Rattle.icu_collections_c.specs.BytesTrie.{cells_of, header_of, parts_in, value_at};
 ghost use Rattle.icu_collections_c.specs.CopiedText.{IsCopiedText, number_of_part};
 ghost use Rattle.icu_collections_c.specs.Inside.TextCells.{parts_from};
 
@@ -17,6 +17,7 @@ use crate::status::Refusal;
 use crate::tries::{Trie, header_of, value_of};
 use crate::well_formed::{count_of_characters, is_utf8};
 use icu_trie_core::header::CodePointTrieHeader;
+use icu_trie_text::copy_characters::copy_characters;
 use icu_trie_text::copy_parts::{Copied, PartValues, copy_parts};
 use icu_trie_text::first_utf16::first_code_point;
 use icu_zerovec::CODE_POINT_LIMIT;
@@ -71,6 +72,20 @@ fn ascii_end<T: UnsignedValue>(index: &[u8], cells: &[u8]) -> u8
     0x80
 }
 
+impl<'a, T: UnsignedValue> TextValues<'a, T> {
+    /// Returns the value of any code point. It is a call, for tries that are not coherent.
+    #[cold]
+    #[inline(never)]
+    fn apart(&self, c: u32) -> T
+        ensures { result ≡ unwrap_or (trie_value
+            (parts_from T.unpack T.WIDTH self.now.header self.now.index.now self.now.cells.now) c)
+            self.now.none }
+    {
+        let found = value_of(&self.header, self.index, self.cells, c);
+        found.unwrap_or(self.none)
+    }
+}
+
 impl<'a, T: UnsignedValue> PartValues<T> for TextValues<'a, T> {
     ghost gives = { λ values part. Some (unwrap_or
         (trie_value (parts_from T.unpack T.WIDTH values.header values.index.now values.cells.now)
@@ -100,7 +115,7 @@ impl<'a, T: UnsignedValue> PartValues<T> for TextValues<'a, T> {
         let offset = value_there::<u16>(self.index, block as usize);
         match value_at(self.cells, offset as usize + place as usize) {
             Some(value) => value,
-            None => self.far(block * 64 + place),
+            None => self.apart(block * 64 + place),
         }
     }
 
@@ -115,6 +130,27 @@ impl<'a, T: UnsignedValue> PartValues<T> for TextValues<'a, T> {
     }
 }
 
+/// Returns what gives the values of a trie for the parts of a text. They are `none` if the trie has
+/// no cell at all.
+#[inline(always)]
+fn text_values<'a, T: UnsignedValue>(trie: &Trie<'a>, none: T) -> TextValues<'a, T>
+    ensures header { result.header ≡ header_of trie.now }
+    ensures index { result.index.now ≡ trie.now.index.now }
+    ensures cells { result.cells.now ≡ trie.now.values.now }
+    ensures none { result.none ≡ none }
+{
+    let header = header_of(trie);
+    let blocks = header.trie_type.fast_index_len();
+    TextValues {
+        header,
+        index: trie.index,
+        cells: trie.values,
+        none,
+        ascii_end: ascii_end::<T>(trie.index, trie.values),
+        blocks: blocks.min(count_of::<u16>(trie.index)) as u32,
+    }
+}
+
 /// Writes the values of the parts of a text to the start of a buffer, as many as fit. The value is
 /// `none` if the trie has no cell at all.
 #[inline(always)]
@@ -123,17 +159,21 @@ fn copy_text<T: UnsignedValue>(trie: &Trie<'_>, text: &[u8], values: &mut [T], n
         (λ c. unwrap_or (trie_value (parts_in T.unpack T.WIDTH trie.now) c) none)
         text.now values.old values.new result.values result.bytes }
 {
-    let header = header_of(trie);
-    let blocks = header.trie_type.fast_index_len();
-    let parts = TextValues {
-        header,
-        index: trie.index,
-        cells: trie.values,
-        none,
-        ascii_end: ascii_end::<T>(trie.index, trie.values),
-        blocks: blocks.min(count_of::<u16>(trie.index)) as u32,
-    };
+    let parts = text_values(trie, none);
     copy_parts(&parts, text, values)
+}
+
+/// Writes the values of the characters of a text to the start of a buffer, as many as fit. The
+/// value is `none` if the trie has no cell at all.
+#[inline(always)]
+fn copy_utf8<T: UnsignedValue>(trie: &Trie<'_>, text: &[u8], values: &mut [T], none: T) -> Copied
+    requires { IsUtf8 text.now }
+    ensures { IsCopiedText
+        (λ c. unwrap_or (trie_value (parts_in T.unpack T.WIDTH trie.now) c) none)
+        text.now values.old values.new result.values result.bytes }
+{
+    let parts = text_values(trie, none);
+    copy_characters(&parts, text, values)
 }
 
 /// Writes the values of the parts of a text to the start of a buffer, as many as fit. Returns how
@@ -167,7 +207,7 @@ fn write_text<T: UnsignedValue>(trie: &Trie<'_>, text: &[u8], values: &mut [T], 
         (map (λ c. unwrap_or (trie_value (parts_in T.unpack T.WIDTH trie.now) c) none)
         (chars text.now)) values.old }
 {
-    let copied = copy_text(trie, text, values, none);
+    let copied = copy_utf8(trie, text, values, none);
     if copied.bytes < text.len() {
         return count_of_characters(text);
     }
