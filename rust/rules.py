@@ -314,6 +314,23 @@ EDITS = {
         (r"let Some\(error_value\) = data", "let Some(_) = data", 1),
         (r"\n +error_value(?:: self\.error_value)?,(?=\n +\})", "", 2),
         (r"self\.error_value(?=\n)", "self.without_answer()", 1),
+        # With each read tested, one test finds out whether a code point is below the fast limit and
+        # whether it has a cell.
+        (
+            r"( +)(?=if c < trie_type\.fast_limit\(\) \{\n)",
+            r'\1#[cfg(not(feature = "proved-reads"))]\n'
+            r"\1if let Some(offset) = cell_below(index.as_bytes(), trie_type.fast_limit(), FAST_TYPE_SHIFT, c) {\n"
+            r"\1    return data.at(offset as usize + (c & FAST_TYPE_DATA_MASK) as usize);\n\1}\n"
+            r'\1#[cfg(feature = "proved-reads")]\n\1',
+            2,
+        ),
+        (
+            r"(?=use icu_trie_core::error)",
+            r'#[cfg(not(feature = "proved-reads"))]\nuse crate::support::cells::cell_below;\n'
+            r'#[cfg(not(feature = "proved-reads"))]\n'
+            r"use icu_trie_core::impl_const::{FAST_TYPE_DATA_MASK, FAST_TYPE_SHIFT};\n",
+            1,
+        ),
     ],
     "icu_trie/convert": [
         # rust/face has one with the error of the Rust crate.

@@ -5,8 +5,12 @@ use crate::icu_trie::packed_cells::{look_up_fast_in, look_up_high_in, look_up_sm
 use crate::icu_trie_core::error::CodePointTrieError;
 use crate::icu_trie_core::header::{CodePointTrieHeader, TrieType};
 use crate::icu_trie_core::impl_const::{CODE_POINT_MAX, FAST_TYPE_DATA_BLOCK_LENGTH};
+#[cfg(not(feature = "proved-reads"))]
+use crate::icu_trie_core::impl_const::{FAST_TYPE_DATA_MASK, FAST_TYPE_SHIFT};
 use crate::icu_trie_core::value::TrieValue;
 use crate::icu_zerovec::{MemoryError, ZeroSlice, ZeroVec};
+#[cfg(not(feature = "proved-reads"))]
+use crate::support::cells::cell_below;
 
 /// Returns true if the fast index names a block of 64 that ends outside data of length `len`. The
 /// index must have all cells of the fast index.
@@ -180,6 +184,13 @@ impl<'trie, T: TrieValue> CodePointTrie<'trie, T> {
     #[inline(always)]
     pub(crate) fn value_by_type(&self, trie_type: TrieType, c: u32) -> T {
         let (index, data) = (self.index.as_slice(), self.data.as_slice());
+        #[cfg(not(feature = "proved-reads"))]
+        if let Some(offset) =
+            cell_below(index.as_bytes(), trie_type.fast_limit(), FAST_TYPE_SHIFT, c)
+        {
+            return data.at(offset as usize + (c & FAST_TYPE_DATA_MASK) as usize);
+        }
+        #[cfg(feature = "proved-reads")]
         if c < trie_type.fast_limit() {
             return look_up_fast_in(&self.header, index, data, c);
         }
@@ -202,6 +213,13 @@ impl<'trie, T: TrieValue> CodePointTrie<'trie, T> {
     pub(crate) fn character_by_type(&self, trie_type: TrieType, c: char) -> T {
         let c = c as u32;
         let (index, data) = (self.index.as_slice(), self.data.as_slice());
+        #[cfg(not(feature = "proved-reads"))]
+        if let Some(offset) =
+            cell_below(index.as_bytes(), trie_type.fast_limit(), FAST_TYPE_SHIFT, c)
+        {
+            return data.at(offset as usize + (c & FAST_TYPE_DATA_MASK) as usize);
+        }
+        #[cfg(feature = "proved-reads")]
         if c < trie_type.fast_limit() {
             return look_up_fast_in(&self.header, index, data, c);
         }

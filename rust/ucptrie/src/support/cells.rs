@@ -19,10 +19,32 @@ pub(crate) fn cell(bytes: &[u8], width: usize, i: usize) -> Option<&[u8]> {
 #[cfg(not(feature = "proved-reads"))]
 #[inline(always)]
 pub(crate) fn proved_cell(bytes: &[u8], width: usize, i: usize) -> &[u8] {
-    match cell(bytes, width, i) {
-        Some(cell) => cell,
-        None => unreachable!(),
+    match width {
+        1 => cell_at(bytes.as_chunks::<1>().0, i),
+        2 => cell_at(bytes.as_chunks::<2>().0, i),
+        3 => cell_at(bytes.as_chunks::<3>().0, i),
+        4 => cell_at(bytes.as_chunks::<4>().0, i),
+        _ => no_cell(),
     }
+}
+
+/// Returns cell `i`. Its test is a jump, while an `Option` of a slice would cost a second one.
+#[cfg(not(feature = "proved-reads"))]
+#[inline(always)]
+fn cell_at<const WIDTH: usize>(cells: &[[u8; WIDTH]], i: usize) -> &[u8] {
+    if i < cells.len() {
+        &cells[i]
+    } else {
+        no_cell()
+    }
+}
+
+/// The panic of a cell that is not there. It has no arguments, so that a loop needs none.
+#[cfg(not(feature = "proved-reads"))]
+#[cold]
+#[inline(never)]
+fn no_cell() -> ! {
+    unreachable!()
 }
 
 /// Returns a cell whose index is proved to be in bounds, without checking it.
@@ -55,3 +77,30 @@ pub(crate) fn proved_cell(bytes: &[u8], width: usize, i: usize) -> &[u8] {
     // is in bounds whatever a user-defined type returns.
     unsafe { bytes.get_unchecked(i * width..(i + 1) * width) }
 }
+
+/// Returns the cell of `c`, two bytes, as a number, or `None` if `c` is `limit` or greater. Below,
+/// each `1 << shift` numbers have a cell.
+///
+/// One test finds out both whether `c` is below the limit and whether there is a cell: that of a
+/// slice that ends at the limit.
+#[cfg(not(feature = "proved-reads"))]
+#[allow(dead_code)] // Only the library uses it.
+#[inline(always)]
+pub(crate) fn cell_below(bytes: &[u8], limit: u32, shift: i32, c: u32) -> Option<u16> {
+    let cells = bytes.as_chunks::<2>().0;
+    let cells = &cells[..cells.len().min((limit >> shift) as usize)];
+    let i = (c >> shift) as usize;
+    if i < cells.len() {
+        Some(u16::from_le_bytes(cells[i]))
+    } else {
+        rare();
+        None
+    }
+}
+
+/// Tells the compiler that the path on which it is called is rare.
+#[cfg(not(feature = "proved-reads"))]
+#[allow(dead_code)]
+#[cold]
+#[inline(always)]
+fn rare() {}
