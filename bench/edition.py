@@ -36,6 +36,8 @@ RULES = [(rf"(?<=use ){path}(?=::)", f"bekstaudi::{name}") for path, name in SHO
 CALL = re.compile(r'(pub extern "C" fn \w+)\(([^)]*)\)( -> \w+ \{\n)')
 SLICE = re.compile(r"(\w+): &(mut )?\[(\w+)\]")
 FLAGS = "--edition 2024 -O -C target-cpu=x86-64-v2 -C panic=abort --cap-lints allow".split()
+# No jump crosses a multiple of 32 bytes, at which loops start: see `Code addresses` in README.md.
+FLAGS += ["-C", "llvm-args=-x86-branches-within-32B-boundaries -align-loops=32"]
 
 
 def called_from_c(found):

@@ -36,8 +36,10 @@ with_loops() {
 }
 if [ -n "${OURS:-}" ]; then
     ours=$OURS rust= libc= c= without=-DWITHOUT_C
+    # As edition.py has rustc do.
+    aligned="-falign-loops=32 -Wa,-mbranches-within-32B-boundaries"
 else
-    c=$root/c/out/libbekstaudi.a without=
+    c=$root/c/out/libbekstaudi.a without= aligned=
     command -v rt >/dev/null || stop "no rt: put the kit's folder bin on PATH"
     libc=$(dirname -- "$(dirname -- "$(readlink -f -- "$(command -v rt)")")")/c/liblibc_c.a
     echo "bench: proves and builds; from a clean clone this takes some minutes" >&2
@@ -52,7 +54,7 @@ for file in "$here"/driver/*.cpp; do
     case $without/$(basename "$file") in
     -*/c_*) continue ;;
     esac
-    g++ -std=c++17 -O3 -march=x86-64-v2 $without -c -o "$work/$(basename "$file" .cpp).o" "$file"
+    g++ -std=c++17 -O3 -march=x86-64-v2 $aligned $without -c -o "$work/$(basename "$file" .cpp).o" "$file"
 done
 if [ -n "${CODE:-}" ]; then
     mkdir -p "$CODE"
