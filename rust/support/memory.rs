@@ -156,9 +156,6 @@ pub(crate) trait TryString: Sized {
     /// Returns a copy of the text.
     fn from_str(text: &str) -> Result<Self, AllocError>;
 
-    /// Returns a string with capacity for so many bytes.
-    fn with_room(bytes: usize) -> Result<Self, AllocError>;
-
     /// Appends a character.
     fn try_push(&mut self, c: char) -> Result<(), AllocError>;
 
@@ -184,12 +181,6 @@ impl TryString for String {
             return Err(AllocError);
         }
         made.push_str(text);
-        Ok(made)
-    }
-
-    fn with_room(bytes: usize) -> Result<Self, AllocError> {
-        let mut made = String::new();
-        made.try_reserve_exact(bytes).map_err(|_| AllocError)?;
         Ok(made)
     }
 

@@ -171,10 +171,6 @@ impl TryString for String {
         allocate(text.len()).map(|()| String)
     }
 
-    fn with_room(bytes: usize) -> Result<Self, AllocError> {
-        allocate(bytes).map(|()| String)
-    }
-
     fn try_push(&mut self, c: char) -> Result<(), AllocError> {
         allocate(c.len_utf8())
     }
