@@ -377,7 +377,7 @@ EDITS = {
         ),
     ],
     "icu_trie/lib": [(r"(?m)^(?=pub use icu_trie_core::\{)", "#[allow(unused_imports)] // Tests use them.\n", 1)],
-    "icu_trie_text/lib": [(r"(?m)^(?=(?:pub )?mod characters;)", "#[allow(dead_code)] // The C library uses it.\n", 1)],
+    "icu_trie_text/lib": [(r"(?m)^(?=(?:pub )?mod (?:copy_)?characters;)", "#[allow(dead_code)] // The C library uses it.\n", 2)],
     "icu_trie_binary/binary": [(r"\(\((high_start) \+ 0xfff\) / (0x1000)\)", r"\1.div_ceil(\2)", 1)],
     "icu_char16trie_builder/sorted": [(r"key: \*key,", "key,", 1)],
     "icu_trie_compaction/blocks": [(r"&(stored\[stored\.len\(\) - common\.\.\]) == &", r"\1 == ", 1)],

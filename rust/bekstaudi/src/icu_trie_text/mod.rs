@@ -22,6 +22,7 @@ mod ascii;
 #[allow(dead_code)] // The C library uses it.
 pub mod characters;
 mod copy;
+#[allow(dead_code)] // The C library uses it.
 pub mod copy_characters;
 pub mod copy_parts;
 mod find;
