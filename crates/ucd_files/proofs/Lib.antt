@@ -1,5 +1,6 @@
 pub mod CallerLemmas
 mod ChoiceLemmas
+mod CoverageLemmas
 mod GroupLemmas
 mod KnownNames
 mod NameLemmas

@@ -1,5 +1,5 @@
 -- Which kind of file some lines are.
-use Rattle.std.specs.Prelude.{ℕ, ◌==◌, ◌&&◌, nat_le, Bool, List, [], ◌∷◌, length, Option, Some, None, is_none, is_some, false, true, if◌then◌else◌}
+use Rattle.std.specs.Prelude.{ℕ, ◌==◌, ◌&&◌, ◌||◌, nat_le, not, Bool, List, [], ◌∷◌, length, Option, Some, None, is_some, false, true, if◌then◌else◌}
 use Rattle.std.specs.Char.{is_ascii_digit}
 use Rattle.std.specs.List.{count_by, list_all, list_any}
 use Rattle.std.specs.Str.Lines.{lines}
@@ -22,15 +22,25 @@ first_content (line ∷ more) =
 unfoldable pub is_of_unihan : List ℕ → Bool
 is_of_unihan content = is_some (after_mark content) && list_any (λ b. b == 9) content
 
+-- A line is an `@missing` line, about whichever property.
+abbrev pub has_missing_line : List ℕ → Bool
+has_missing_line input = list_any (λ line. is_some (missing_of line)) (lines input)
+
+-- A line has content, or is an `@missing` line.
+unfoldable pub has_values : List ℕ → Bool
+has_values input = not (length (first_content (lines input)) == 0) || has_missing_line input
+
 -- The kind of a file, by its first line with content. UnicodeData.txt has 14 semicolons in each
 -- line. Other files of the Unicode Character Database have a title. If their lines have one field,
--- they are lists of code points.
-unfoldable pub kind_of : List ℕ → FileKind
-kind_of input = let content = first_content (lines input) in
+-- they are lists of code points. Lines without a title have properties if `@missing` lines or the
+-- user say so; else they are rows.
+unfoldable pub kind_of : Bool → List ℕ → FileKind
+kind_of has_properties input = let content = first_content (lines input) in
     if count_by (λ b. b == 59) content == 14 then UnicodeData
     else (if is_of_unihan content then Unihan
-    else (if is_none (title_of input) then Rows
-    else (if has_field 1 content then Properties else CodePoints)))
+    else (if is_some (title_of input)
+    then (if has_field 1 content then Properties else CodePoints)
+    else (if has_properties || has_missing_line input then Properties else Rows)))
 
 -- The line has no value, or one of decimal digits alone, however many.
 unfoldable pub has_decimal : Columns → List ℕ → Bool

@@ -5,6 +5,7 @@ pub mod Statements
 pub mod Files
 pub mod ValueNames
 pub mod Choices
+pub mod Coverage
 pub mod MissingValues
 pub mod Titles
 pub mod Messages

@@ -1,17 +1,20 @@
 -- The values of code points without a line.
-use Rattle.std.specs.Prelude.{ℕ, ◌&&◌, nat_le, not, Bool, true, false, List, [], length, Option, Some, None, is_some, if◌then◌else◌}
-use Rattle.std.specs.List.{filter, filter_map, find, list_any}
+use Rattle.std.specs.Prelude.{◌≡◌, ℕ, nat_le, not, Bool, true, false, List, [], length, Option, Some, None, is_some, if◌then◌else◌}
+use Rattle.std.specs.Char.{is_ascii_digit}
+use Rattle.std.specs.List.{filter, filter_map, find, list_all}
 use Rattle.std.specs.Option.{option_and_then, option_map}
 use Rattle.std.specs.Str.Lines.{lines}
 use mathlib.Core.Bool.{beq}
 use Rattle.ucd_files.specs.Fields.{missing_of}
-use Rattle.ucd_files.specs.Kinds.{says_missing}
+use Rattle.ucd_files.specs.Coverage.{CoverAll}
+use Rattle.ucd_files.specs.Files.{AreStatements, writes_of}
 use Rattle.ucd_files.specs.Names.{is_by_names, number_of}
 use Rattle.ucd_files.specs.ValueNames.{is_known, missing_alias, names_after, text_of_line}
 use Rattle.ucd_files.specs.declared.missing_values.MissingValue.{MissingValue}
-use Rattle.ucd_files.specs.declared.missing_values.MissingValue.TheVariants.{InLines, Number, Unsaid}
+use Rattle.ucd_files.specs.declared.missing_values.MissingValue.TheVariants.{InLines, Number, Numbers, Unsaid}
 use Rattle.ucd_files.specs.declared.names.Numbering.{Numbering}
 use Rattle.ucd_files.specs.declared.statement.Columns.{Columns}
+use Rattle.ucd_files.specs.declared.statement.Statement.{Statement}
 
 -- ---- Names in `@missing` lines
 
@@ -32,18 +35,43 @@ unfoldable pub only_missing : Columns → List ℕ → Option (List ℕ)
 only_missing columns input = if nat_le 2 (length (texts_in true columns input))
     then first_other (texts_in true columns input) (texts_in false columns input) else None
 
--- ---- The file of aliases
+-- The first of the texts that does not have decimal digits alone.
+abbrev pub first_name : List (List ℕ × ℕ) → Option (List ℕ)
+first_name names =
+    option_map (λ name. name.0) (find (λ name. not (list_all is_ascii_digit name.0)) names)
 
--- The number that the file of aliases gives, if it gives one.
-abbrev pub number_or_unsaid : Option ℕ → MissingValue
-number_or_unsaid (Some number) = Number number
-number_or_unsaid None = Unsaid
+-- The first text in an `@missing` line that is no number, if the other lines have only numbers, as
+-- DerivedCombiningClass.txt.
+unfoldable pub only_name : Columns → List ℕ → Option (List ℕ)
+only_name columns input = if is_some (first_name (texts_in false columns input)) then None
+    else first_name (texts_in true columns input)
 
--- What says which value code points without a line have, if a file of aliases names the values. If
--- the numbering is by names and the file itself has no `@missing` line, the file of aliases says it
--- by its own one, or nothing does.
-unfoldable pub missing_value : Numbering → Columns → List ℕ → List ℕ → List ℕ → MissingValue
-missing_value numbering columns input property aliases =
-    if is_by_names numbering && not (list_any (says_missing columns) (lines input))
-    then number_or_unsaid (option_and_then (number_of numbering) (missing_alias property aliases))
-    else InLines
+-- ---- What says the value of code points without a line
+
+-- The number of the value that the file of aliases names in its own `@missing` line.
+abbrev pub alias_number : Numbering → List ℕ → List ℕ → Option ℕ
+alias_number numbering property aliases =
+    option_and_then (number_of numbering) (missing_alias property aliases)
+
+module _ (columns : Columns) (numbering : Numbering) (input property aliases : List ℕ) where
+  -- Values have names, and the lines of the file leave a code point without a value.
+  pub record IsIncomplete : Type 0 where
+    pub by_names : is_by_names numbering ≡ true
+    pub statements : List Statement
+    pub said : AreStatements columns numbering input statements
+    pub left_out : ¬ CoverAll (writes_of statements)
+
+  -- Values have names, and the lines of the file give each code point a value.
+  pub record IsComplete : Type 0 where
+    pub by_names : is_by_names numbering ≡ true
+    pub statements : List Statement
+    pub said : AreStatements columns numbering input statements
+    pub covered : CoverAll (writes_of statements)
+
+  -- What says which value code points without a line have: the file itself, or else the file of
+  -- aliases, or nothing. Numbers need nothing.
+  abbrev pub IsMissingValue : MissingValue → Type 0
+  IsMissingValue Numbers = is_by_names numbering ≡ false
+  IsMissingValue InLines = IsComplete
+  IsMissingValue (Number n) = IsIncomplete × (alias_number numbering property aliases ≡ Some n)
+  IsMissingValue Unsaid = IsIncomplete × (alias_number numbering property aliases ≡ None)

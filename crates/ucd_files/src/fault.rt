@@ -3,6 +3,7 @@ ghost use Rattle.std.specs.Prelude.{◌≡◌, ◌++◌, Some, codes};
 ghost use Rattle.ucd_files.specs.Messages.{expected_text, fault_text};
 ghost use Rattle.ucd_files.specs.declared.fault.FileFault.TheVariants.{Memory};
 
+use icu_zerovec::MemoryError;
 use std::alloc::AllocError;
 use std::error::Error;
 use std::fmt;
@@ -81,6 +82,14 @@ impl From<AllocError> for FileFault {
     ghost from_gives = { λ _ e. e ≡ Memory };
 
     fn from(_error: AllocError) -> FileFault {
+        FileFault::Memory
+    }
+}
+
+impl From<MemoryError> for FileFault {
+    ghost from_gives = { λ _ e. e ≡ Memory };
+
+    fn from(_error: MemoryError) -> FileFault {
         FileFault::Memory
     }
 }

@@ -5,7 +5,7 @@ ghost use Rattle.std.specs.List.{list_all, list_any};
 ghost use Rattle.std.specs.Str.Lines.{lines};
 ghost use Rattle.ucptab_table.specs.TableText.{content_of};
 ghost use Rattle.ucd_files.specs.Fields.{field};
-ghost use Rattle.ucd_files.specs.Kinds.{first_content, has_code_point, has_decimal, is_of_unihan, kind_of, says_missing};
+ghost use Rattle.ucd_files.specs.Kinds.{first_content, has_code_point, has_decimal, has_missing_line, has_values, is_of_unihan, kind_of, says_missing};
 ghost use Rattle.ucd_files.specs.Names.{is_same_name};
 
 use crate::fields::{after_mark, field, has_field, missing_of};
@@ -55,12 +55,35 @@ fn is_of_unihan(content: &[u8]) -> bool
     after_mark(content).is_some() && content.contains(&b'\t')
 }
 
+/// Returns whether a file has an `@missing` line, about whichever property.
+fn has_missing_line(input: &[u8]) -> bool
+    ensures { result ≡ has_missing_line input.now }
+{
+    let mut rest = input;
+    while let Some((line, after)) = first_line(rest) {
+        if missing_of(line).is_some() {
+            return true;
+        }
+        rest = after;
+    }
+    false
+}
+
+/// Returns whether a file has a line that is neither blank nor a comment, or an `@missing` line.
+#[tactic(auto, unfolding(crate::specs::Kinds::has_values))]
+pub fn has_values(input: &[u8]) -> bool
+    ensures { result ≡ has_values input.now }
+{
+    !first_content(input).is_empty() || has_missing_line(input)
+}
+
 /// Returns the kind of a file, by its first line with content. `UnicodeData.txt` has 14 semicolons
 /// in it. Other files of the Unicode Character Database start with a title. If their lines have one
-/// field, they are lists of code points. Files without a title are rows.
+/// field, they are lists of code points. Files without a title are rows, unless they have an
+/// `@missing` line, or `has_properties` says that their lines have properties.
 #[tactic(auto, unfolding(crate::specs::Kinds::kind_of))]
-pub fn kind_of(input: &[u8]) -> FileKind
-    ensures { result ≡ kind_of input.now }
+pub fn kind_of(input: &[u8], has_properties: bool) -> FileKind
+    ensures { result ≡ kind_of has_properties input.now }
 {
     let content = first_content(input);
     if content.iter().filter(|byte| **byte == b';').count() == 14 {
@@ -69,13 +92,14 @@ pub fn kind_of(input: &[u8]) -> FileKind
     if is_of_unihan(content) {
         return FileKind::Unihan;
     }
-    if title_of(input).is_none() {
+    let has_title = title_of(input).is_some();
+    if !(has_title || has_properties || has_missing_line(input)) {
         return FileKind::Rows;
     }
-    if has_field(1, content) {
-        FileKind::Properties
-    } else {
+    if has_title && !has_field(1, content) {
         FileKind::CodePoints
+    } else {
+        FileKind::Properties
     }
 }
 
@@ -120,8 +144,8 @@ pub fn has_missing_lines(input: &[u8], columns: Columns<'_>) -> bool
     false
 }
 
-/// Returns whether a text has decimal digits alone.
-fn are_digits(text: &[u8]) -> bool
+/// Returns whether a text has decimal digits alone, however many. The empty text has.
+pub fn are_digits(text: &[u8]) -> bool
     ensures { result ≡ list_all is_ascii_digit text.now }
 {
     text.iter().all(|byte| byte.is_ascii_digit())

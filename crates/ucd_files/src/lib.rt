@@ -9,6 +9,7 @@
 //! - `aliases`: names and numbers from `PropertyValueAliases.txt` or a list
 //! - `order`: names in order of first appearance
 //! - `choice`: what the values of a file are, and how they become numbers
+//! - `coverage`: which code points have a value
 //! - `missing_values`: the values of code points without a line
 //! - `title`: what a file says of itself
 //! - `fault`: what is wrong with a line or a file
@@ -16,6 +17,7 @@
 
 pub mod aliases;
 pub mod choice;
+mod coverage;
 pub mod fault;
 pub mod fields;
 pub mod kind;

@@ -1,13 +1,18 @@
 //! The values of code points without a line.
-ghost use Rattle.std.specs.Prelude.{◌≡◌, IfOk};
+ghost use Rattle.std.specs.Prelude.{◌≡◌, ℕ, IfErr, IfOk};
 ghost use Rattle.std.specs.Option.{option_map};
-ghost use Rattle.ucd_files.specs.MissingValues.{first_other, missing_value, only_missing, texts_in};
+ghost use Rattle.ucd_files.specs.Files.{IsFirstFault, IsUnfinished};
+ghost use Rattle.ucd_files.specs.MissingValues.{alias_number, first_name, first_other, only_missing, only_name, texts_in, IsMissingValue};
 ghost use Rattle.ucd_files.specs.Names.{is_by_names, pairs_of};
 ghost use Rattle.ucd_files.specs.ValueNames.{is_known};
+ghost use Rattle.ucd_files.specs.declared.fault.FileFault.TheVariants.{Line, Unfinished};
+ghost use Rattle.ucd_files.specs.declared.fault.LineFault.{LineFault};
 
 use crate::aliases::missing_alias;
+use crate::coverage::lines_cover_all;
+use crate::fault::FileFault;
 use crate::fields::missing_of;
-use crate::kind::has_missing_lines;
+use crate::kind::are_digits;
 use crate::names::{Matching, Name, Numbering, number_of};
 use crate::order::{push_new, text_of_line};
 use crate::statement::Columns;
@@ -18,7 +23,9 @@ use ucptab_table::input::first_line;
 /// What says which value code points without a line have.
 #[derive(Clone, Copy, Debug, PartialEq, Eq)]
 pub enum MissingValue {
-    /// An `@missing` line of the file itself. Or values are numbers, and nothing has to say it.
+    /// Nothing has to say it: values are numbers.
+    Numbers,
+    /// The file itself: its lines, `@missing` lines included, cover all code points.
     InLines,
     /// An `@missing` line of the file of aliases. This is the number of the value.
     Number(u32),
@@ -93,6 +100,42 @@ pub fn only_missing<'f>(
     Ok(first_other(missing.as_slice(), &others))
 }
 
+/// Returns the first of the names that does not have decimal digits alone.
+fn first_name<'f>(names: &[Name<'f>]) -> Option<&'f [u8]>
+    ensures { option_map (λ text. text.now) result ≡ first_name (pairs_of names.now) }
+{
+    let mut rest = names;
+    while let [name, after @ ..] = rest {
+        if !are_digits(name.text) {
+            return Some(name.text);
+        }
+        rest = after;
+    }
+    None
+}
+
+/// Returns the first value of `@missing` lines that is not a number, if the values of all other
+/// lines are numbers, as in `DerivedCombiningClass.txt`. Numbers have decimal digits alone.
+///
+/// # Errors
+/// Returns [`AllocError`] if an allocation fails.
+#[tactic(auto, unfolding(crate::specs::MissingValues::only_name))]
+pub fn only_name<'f>(
+    alloc: Global,
+    input: &'f [u8],
+    columns: Columns<'_>,
+) -> Result<Option<&'f [u8]>, AllocError>
+    ensures { IfOk result (λ found. option_map (λ text. text.now) found
+        ≡ only_name columns.entry input.now) }
+{
+    let explicit = texts_in(alloc, false, input, columns)?;
+    if first_name(explicit.as_slice()).is_some() {
+        return Ok(None);
+    }
+    let missing = texts_in(alloc, true, input, columns)?;
+    Ok(first_name(missing.as_slice()))
+}
+
 /// Returns whether values have their numbers by names.
 fn is_by_names(numbering: Numbering<'_>) -> bool
     ensures { result ≡ is_by_names numbering.entry }
@@ -100,28 +143,45 @@ fn is_by_names(numbering: Numbering<'_>) -> bool
     matches!(numbering, Numbering::Names(_, _))
 }
 
-/// Returns what says which value code points without a line have, if a file of aliases names the
-/// values of a file: an `@missing` line of the file itself, or else the one of the file of aliases.
-#[tactic(auto, unfolding(crate::specs::MissingValues::missing_value))]
+/// Returns the number of the value that the file of aliases names for code points without a line.
+fn alias_number(numbering: Numbering<'_>, aliases: &[u8], property: &[u8]) -> Option<u32>
+    ensures { result ≡ alias_number numbering.entry property.now aliases.now }
+{
+    match missing_alias(aliases, property) {
+        Some(text) => number_of(numbering, text),
+        None => None,
+    }
+}
+
+/// Returns what says which value code points without a line have, if values are named: the lines of
+/// the file itself, `@missing` lines included, if they cover all code points; or else the file of
+/// aliases.
+///
+/// # Errors
+/// Returns those of [`read_writes`](crate::read::read_writes), unless values are numbers.
 pub fn missing_value(
+    alloc: Global,
     input: &[u8],
     columns: Columns<'_>,
     numbering: Numbering<'_>,
     aliases: &[u8],
     property: &[u8],
-) -> MissingValue
-    ensures { result
-        ≡ missing_value numbering.entry columns.entry input.now property.now aliases.now }
+) -> Result<MissingValue, FileFault>
+    ensures ok { IfOk result (IsMissingValue columns.entry numbering.entry input.now property.now
+        aliases.now) }
+    ensures line { (k : ℕ) (f : LineFault) → IfErr result (λ e. e ≡ Line k f
+        → IsFirstFault columns.entry numbering.entry input.now k f) }
+    ensures unfinished { IfErr result (λ e. e ≡ Unfinished
+        → IsUnfinished columns.entry numbering.entry input.now) }
 {
-    if !is_by_names(numbering) || has_missing_lines(input, columns) {
-        return MissingValue::InLines;
+    if !is_by_names(numbering) {
+        return Ok(MissingValue::Numbers);
     }
-    let number = match missing_alias(aliases, property) {
-        Some(text) => number_of(numbering, text),
-        None => None,
-    };
-    match number {
-        Some(number) => MissingValue::Number(number),
-        None => MissingValue::Unsaid,
+    if lines_cover_all(alloc, input, columns, numbering)? {
+        return Ok(MissingValue::InLines);
+    }
+    match alias_number(numbering, aliases, property) {
+        Some(number) => Ok(MissingValue::Number(number)),
+        None => Ok(MissingValue::Unsaid),
     }
 }

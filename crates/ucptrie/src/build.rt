@@ -4,12 +4,12 @@ use crate::fault::{Fault, about, said};
 use crate::forms::is_made;
 use crate::static_trie::with_static;
 use crate::tables::{form, number, trie_type, width};
-use crate::unicode_files::{build_file, column_option, found_kind, named_kind, not_of_rows};
+use crate::unicode_files::{build_file, column_option, named_kind, not_of_rows};
 use crate::wide::{row_with, too_wide};
 use clap::ArgMatches;
 use icu_trie_core::header::TrieType;
 use std::alloc::Global;
-use ucd_files::kind::FileKind;
+use ucd_files::kind::{FileKind, kind_of};
 use ucptab_table::fault::TableError;
 use ucptab_table::message::row_message;
 use ucptrie_tables::built;
@@ -91,7 +91,7 @@ fn build_lines(
     let option = option_of_files(matches);
     let kind = match named_kind(matches) {
         Some(kind) => kind,
-        None => found_kind(file, option.is_some()),
+        None => kind_of(file, option.is_some()),
     };
     match (kind, option) {
         (FileKind::Rows, None) => build_rows(rt.alloc(), matches, name, file),

@@ -2,13 +2,13 @@
 use crate::build::unbuilt;
 use crate::fault::{Fault, about};
 use crate::offsets::start_of;
-use crate::tables::{form, number, table_in, trie_type, width};
+use crate::tables::{form, number, table_and_toml, trie_type, width};
 use crate::unicode_files::with_names;
 use crate::wide::too_wide_in;
 use clap::ArgMatches;
 use std::alloc::Global;
-use ucptrie_tables::fault::{BuildFault, ReadFault};
-use ucptrie_tables::properties::{TomlFile, property_names, toml_file};
+use ucptrie_tables::fault::BuildFault;
+use ucptrie_tables::properties::{TomlFile, property_names};
 use ucptrie_tables::rebuild::rebuilt;
 use ucptrie_tables::table::Table;
 use ucptrie_tables::toml_names::NamesFault;
@@ -82,17 +82,15 @@ fn with_names_of_file(
     alloc: Global,
     matches: &ArgMatches<'_>,
     name: &str,
-    file: &[u8],
+    toml: Option<&TomlFile>,
     bytes: Vec<u8>,
     width: ValueWidth,
 ) -> Result<Vec<u8>, Fault> {
-    if !matches!(form(matches), Form::C(_) | Form::Rust(_)) {
-        return Ok(bytes);
-    }
-    match toml_file(alloc, file) {
-        Ok(Some(file)) => with_names_of_toml(alloc, matches, name, &file, bytes, width),
-        Err(ReadFault::Memory) => Err(Fault::Memory),
-        _ => Ok(with_names(alloc, matches, bytes, form(matches), width, &[])?),
+    match (form(matches), toml) {
+        (Form::C(_) | Form::Rust(_), Some(toml)) => {
+            with_names_of_toml(alloc, matches, name, toml, bytes, width)
+        }
+        (form, _) => Ok(with_names(alloc, matches, bytes, form, width, &[])?),
     }
 }
 
@@ -104,8 +102,8 @@ pub fn convert(
     name: &str,
     file: &[u8],
 ) -> Result<Vec<u8>, Fault> {
-    let table = table_in(alloc, matches, name, file, start_of(matches))?;
+    let (table, toml) = table_and_toml(alloc, matches, name, file, start_of(matches))?;
     let table = changed(alloc, matches, name, table)?;
     let bytes = converted(alloc, name, &table, form(matches))?;
-    with_names_of_file(alloc, matches, name, file, bytes, table.width)
+    with_names_of_file(alloc, matches, name, toml.as_ref(), bytes, table.width)
 }

@@ -1,18 +1,14 @@
 //! The values of code points without a line.
 use crate::choice::UnicodeFile;
 use crate::fault::{Fault, about, said};
-use crate::overlap::covers_all;
 use crate::properties::push_text;
+use crate::unicode_files::unread;
 use clap::ArgMatches;
 use std::alloc::{AllocError, Global};
 use ucd_files::choice::{Choice, ValueKind};
-use ucd_files::fault::FileFault;
-use ucd_files::fields::missing_of;
-use ucd_files::missing_values::{MissingValue, missing_value, only_missing};
+use ucd_files::missing_values::{MissingValue, missing_value, only_missing, only_name};
 use ucd_files::names::Numbering;
-use ucd_files::order::text_of_line;
-use ucd_files::read::read_writes;
-use ucptab_table::input::first_line;
+use ucptrie_tables::fault::UnicodeFileFault;
 
 /// Returns the line about a value that only an `@missing` line has.
 fn only_missing_line(alloc: Global, name: &str, value: &[u8]) -> Result<String, AllocError> {
@@ -41,28 +37,6 @@ pub fn test_own_names(
     }
 }
 
-/// Returns whether a text has decimal digits alone.
-fn is_number(text: &[u8]) -> bool {
-    text.iter().all(|byte| byte.is_ascii_digit())
-}
-
-/// Returns the value of an `@missing` line that is not a number, if the values of all other lines
-/// are numbers, as in `DerivedCombiningClass.txt`.
-fn only_name<'f>(file: UnicodeFile<'f>) -> Option<&'f [u8]> {
-    let mut found = None;
-    let mut rest = file.bytes;
-    while let Some((line, after)) = first_line(rest) {
-        rest = after;
-        match text_of_line(file.columns, line) {
-            Some(text) if is_number(text) => {}
-            Some(text) if missing_of(line).is_some() => found = Some(text),
-            Some(_) => return None,
-            None => {}
-        }
-    }
-    found
-}
-
 /// Tests whether an `@missing` line has a number if all other values are numbers: a name has none
 /// without the file of aliases.
 pub fn test_numbers(
@@ -73,23 +47,9 @@ pub fn test_numbers(
     if !matches!(choice.kind, ValueKind::Own) {
         return Ok(());
     }
-    match only_name(file) {
+    match only_name(alloc, file.bytes, file.columns)? {
         Some(value) => Err(said(only_missing_line(alloc, file.name, value))),
         None => Ok(()),
-    }
-}
-
-/// Returns whether each code point has a line. If a line has a fault, so that the file makes no
-/// table, it returns true.
-fn is_complete(
-    alloc: Global,
-    file: UnicodeFile<'_>,
-    numbering: Numbering<'_>,
-) -> Result<bool, AllocError> {
-    match read_writes(alloc, file.bytes, file.columns, numbering) {
-        Ok(writes) => covers_all(alloc, &writes),
-        Err(FileFault::Memory) => Err(AllocError),
-        Err(_) => Ok(true),
     }
 }
 
@@ -106,14 +66,17 @@ pub fn default_of(
     how: &str,
 ) -> Result<u32, Fault> {
     let property = matches.get_str("property").unwrap_or("").as_bytes();
-    match missing_value(file.bytes, file.columns, numbering, file.aliases, property) {
-        MissingValue::InLines if !matches!(numbering, Numbering::Names(_, _)) => Ok(other),
-        MissingValue::Number(number) => Ok(number),
-        MissingValue::InLines | MissingValue::Unsaid => {
-            if is_complete(alloc, file, numbering)? {
-                return Ok(other);
-            }
-            Err(about(alloc, file.name, how))
-        }
+    match missing_value(
+        alloc,
+        file.bytes,
+        file.columns,
+        numbering,
+        file.aliases,
+        property,
+    ) {
+        Ok(MissingValue::Numbers | MissingValue::InLines) => Ok(other),
+        Ok(MissingValue::Number(number)) => Ok(number),
+        Ok(MissingValue::Unsaid) => Err(about(alloc, file.name, how)),
+        Err(fault) => Err(unread(alloc, file.name, file.bytes, UnicodeFileFault::File(fault))),
     }
 }

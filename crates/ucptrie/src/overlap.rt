@@ -1,6 +1,4 @@
-//! Which code point has two values in a file, as in files of several properties, and whether each
-//! code point has one.
-use icu_trie_builder::writes::Write;
+//! Which code point has two values in a file, as in files of several properties.
 use std::alloc::{AllocError, Global};
 use ucd_files::fields::field;
 use ucptab_table::input::first_line;
@@ -33,34 +31,4 @@ pub fn overlap(alloc: Global, file: &[u8]) -> Result<Option<u32>, AllocError> {
         }
     }
     Ok(None)
-}
-
-/// Returns the code points of a write.
-fn range_of(write: &Write<u32>) -> (u32, u32) {
-    match write {
-        Write::One(code_point, _) => (*code_point, *code_point),
-        Write::Range(range, _) => (*range.start(), *range.end()),
-    }
-}
-
-/// Returns the code points of writes, in ascending order.
-fn sorted_ranges(alloc: Global, writes: &[Write<u32>]) -> Result<Vec<(u32, u32)>, AllocError> {
-    let mut ranges = Vec::new(alloc);
-    for write in writes {
-        ranges.push(range_of(write))?;
-    }
-    ranges.sort_unstable();
-    Ok(ranges)
-}
-
-/// Returns whether writes give a value to each code point.
-pub fn covers_all(alloc: Global, writes: &[Write<u32>]) -> Result<bool, AllocError> {
-    let mut next = 0;
-    for (start, last) in sorted_ranges(alloc, writes)? {
-        if start > next {
-            return Ok(false);
-        }
-        next = next.max(last.saturating_add(1));
-    }
-    Ok(next > 0x10FFFF)
 }

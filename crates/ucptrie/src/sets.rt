@@ -1,6 +1,6 @@
 //! The command `set`: the set of the code points with a value, or of a file of sets, in a form.
 use crate::build::unbuilt;
-use crate::choice::{UnicodeFile, choice_of};
+use crate::choice::UnicodeFile;
 use crate::compressed::expect_lines;
 use crate::fault::{Fault, about, about_arguments};
 use crate::forms::{is_json, is_toml};
@@ -10,7 +10,7 @@ use crate::offsets::{has_tries, start_of, starts_trie};
 use crate::streams::say;
 use crate::tables::{number, table_in};
 use crate::unicode_files::{
-    column_option, columns, found_kind, named_file, named_kind, not_of_rows, say_overlap, unread,
+    choice_of_file, column_option, columns, named_file, named_kind, not_of_rows, unread,
 };
 use clap::ArgMatches;
 use icu_invlist::codepointinvlist::CodePointInversionList;
@@ -19,7 +19,7 @@ use icu_trie_core::header::TrieType;
 use std::alloc::{AllocError, Global};
 use std::str;
 use ucd_files::choice::{Choice, ValueKind, by_names};
-use ucd_files::kind::FileKind;
+use ucd_files::kind::{FileKind, kind_of};
 use ucd_files::names::{Matching, Numbering, is_same_name, number_of};
 use ucd_files::value_names::ValueNames;
 use ucptrie_sets::fault::{SetFileFault, SetWriteFault, ValueSetFault};
@@ -60,7 +60,7 @@ fn source_of(matches: &ArgMatches<'_>, file: &[u8]) -> Source {
         _ if starts_trie(file) || is_json(file) => Source::Table,
         _ if is_toml(file) => Source::Toml,
         _ if number(matches, "offset").is_some() || has_tries(file) => Source::Table,
-        _ => Source::Lines(found_kind(file, column_option(matches).is_some())),
+        _ => Source::Lines(kind_of(file, column_option(matches).is_some())),
     }
 }
 
@@ -170,7 +170,6 @@ fn set_of_unicode_file(
     kind: FileKind,
 ) -> Result<CodePointInversionList<'static>, Fault> {
     let columns = columns(rt.alloc(), matches, kind, name, bytes)?;
-    say_overlap(rt, columns, matches, name, bytes)?;
     let named = named_file(rt, matches)?;
     let aliases = named.as_slice();
     let file = UnicodeFile {
@@ -179,7 +178,7 @@ fn set_of_unicode_file(
         columns,
         aliases,
     };
-    let choice = choice_of(rt.alloc(), matches, file)?;
+    let choice = choice_of_file(rt, matches, file)?;
     set_of_lines(rt.alloc(), matches, file, &choice)
 }
 

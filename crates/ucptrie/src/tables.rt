@@ -12,7 +12,7 @@ use ucptrie_sets::fault::SetFileFault;
 use ucptrie_sets::toml_file::set_of_file;
 use ucptrie_tables::fault::{ReadFault, TomlFault};
 use ucptrie_tables::other_toml::{OtherToml, other_toml};
-use ucptrie_tables::properties::{PropertyFault, read_property, toml_file};
+use ucptrie_tables::properties::{PropertyFault, TomlFile, read_property, toml_file};
 use ucptrie_tables::table::Table;
 use ucptrie_tables::width::ValueWidth;
 use ucptrie_tables::written::Form;
@@ -131,20 +131,17 @@ fn has_sets(alloc: Global, file: &[u8]) -> Result<bool, Fault> {
 }
 
 /// Returns what a TOML file has that has no trie, if it is known.
-fn other_in(alloc: Global, file: &[u8]) -> Result<Option<OtherToml>, Fault> {
-    match toml_file(alloc, file) {
-        Ok(Some(file)) => Ok(other_toml(&file)),
-        Err(ReadFault::Memory) => Err(Fault::Memory),
-        _ => Ok(None),
-    }
+fn other_in(toml: Option<&TomlFile>) -> Option<OtherToml> {
+    other_toml(toml?)
 }
 
 /// Returns the fault of a TOML file in which the trie is missing, or of the property that is asked
-/// for. `name` is what the file was read from.
+/// for. `name` is what the file was read from, and `toml` the file as TOML.
 fn without_trie(
     alloc: Global,
     name: &str,
     file: &[u8],
+    toml: Option<&TomlFile>,
     property: &str,
     fault: PropertyFault,
 ) -> Result<Fault, Fault> {
@@ -152,22 +149,51 @@ fn without_trie(
         let why = "a set of code points, and no table: use ucptrie set";
         return Ok(about(alloc, name, why));
     }
-    match other_in(alloc, file)? {
+    match other_in(toml) {
         Some(other) => Ok(about(alloc, name, other)),
         None => Ok(unchosen(alloc, name, property, fault)),
     }
 }
 
-/// Returns the table of a file with these bytes. In TOML it is that of the property that the
-/// arguments name, and in another file that of the trie at its start.
+/// Returns a file as TOML if it is taken for that. `name` is what it was read from.
+fn toml_in(alloc: Global, name: &str, file: &[u8]) -> Result<Option<TomlFile>, Fault> {
+    match toml_file(alloc, file) {
+        Ok(toml) => Ok(toml),
+        Err(fault) => Err(unread(alloc, name, fault)),
+    }
+}
+
+/// Returns the table of a file. `name` is what it was read from, and `toml` the file as TOML.
+fn table_of_property(
+    alloc: Global,
+    matches: &ArgMatches<'_>,
+    name: &str,
+    file: &[u8],
+    toml: Option<&TomlFile>,
+) -> Result<Table, Fault> {
+    let property = matches.get_str("property");
+    match read_property(alloc, file, toml, property) {
+        Ok(table) => Ok(table),
+        Err(fault) => {
+            let property = property.unwrap_or("");
+            if lacks_trie(&fault) {
+                return Err(without_trie(alloc, name, file, toml, property, fault)?);
+            }
+            Err(unchosen(alloc, name, property, fault))
+        }
+    }
+}
+
+/// Returns the table of a file with these bytes, and the file if it is TOML. In TOML the table is
+/// that of the property that the arguments name, and in another file that of the trie at its start.
 /// `name` is what the bytes were read from.
-pub fn table_in(
+pub fn table_and_toml(
     alloc: Global,
     matches: &ArgMatches<'_>,
     name: &str,
     bytes: &[u8],
     start: Start,
-) -> Result<Table, Fault> {
+) -> Result<(Table, Option<TomlFile>), Fault> {
     if bytes.is_empty() {
         return Err(about(alloc, name, "the file is empty"));
     }
@@ -175,17 +201,21 @@ pub fn table_in(
     if !matches!(start, Start::At(_)) && !starts_trie(part) {
         expect_text(alloc, name, part)?;
     }
-    let property = matches.get_str("property");
-    match read_property(alloc, part, property) {
-        Ok(table) => Ok(table),
-        Err(fault) => {
-            let property = property.unwrap_or("");
-            if lacks_trie(&fault) {
-                return Err(without_trie(alloc, name, part, property, fault)?);
-            }
-            Err(unchosen(alloc, name, property, fault))
-        }
-    }
+    let toml = toml_in(alloc, name, part)?;
+    let table = table_of_property(alloc, matches, name, part, toml.as_ref())?;
+    Ok((table, toml))
+}
+
+/// Returns the table of a file with these bytes, as [`table_and_toml`] does.
+pub fn table_in(
+    alloc: Global,
+    matches: &ArgMatches<'_>,
+    name: &str,
+    bytes: &[u8],
+    start: Start,
+) -> Result<Table, Fault> {
+    let (table, _) = table_and_toml(alloc, matches, name, bytes, start)?;
+    Ok(table)
 }
 
 /// Reads the table of the file that the argument `id` names, or of standard input if its name is

@@ -14,14 +14,12 @@ use clap::ArgMatches;
 use std::alloc::{AllocError, Global};
 use ucd_files::choice::{Choice, ValueKind};
 use ucd_files::fault::FileFault;
-use ucd_files::fields::missing_of;
-use ucd_files::kind::{FileKind, has_missing_lines, has_property, kind_of};
+use ucd_files::kind::{FileKind, has_missing_lines, has_property, has_values};
 use ucd_files::names::{Name, Numbering, is_same_name};
 use ucd_files::statement::Columns;
 use ucd_files::title::title_of;
-use ucptab_table::input::{first_line, line_at};
+use ucptab_table::input::line_at;
 use ucptab_table::message::line_message;
-use ucptab_table::rows::content_of;
 use ucptrie_tables::fault::{BuildFault, UnicodeFileFault};
 use ucptrie_tables::table::TableOptions;
 use ucptrie_tables::unicode_file::table_of_file;
@@ -63,39 +61,6 @@ pub fn not_of_rows(alloc: Global, option: &str) -> Fault {
         option,
         "not for rows: leave it out, or name another kind of file by --format",
     )
-}
-
-/// Returns whether a file has an `@missing` line.
-fn has_missing_line(file: &[u8]) -> bool {
-    let mut rest = file;
-    while let Some((line, after)) = first_line(rest) {
-        rest = after;
-        if missing_of(line).is_some() {
-            return true;
-        }
-    }
-    false
-}
-
-/// Returns whether a file has a line that is neither blank nor a comment, or an `@missing` line.
-fn has_values(file: &[u8]) -> bool {
-    let mut rest = file;
-    while let Some((line, after)) = first_line(rest) {
-        rest = after;
-        if missing_of(line).is_some() || !content_of(line).is_empty() {
-            return true;
-        }
-    }
-    false
-}
-
-/// Returns the kind of lines that the file's start shows, but no rows if the lines have properties,
-/// as the options or an `@missing` line say.
-pub fn found_kind(file: &[u8], has_properties: bool) -> FileKind {
-    match kind_of(file) {
-        FileKind::Rows if has_properties || has_missing_line(file) => FileKind::Properties,
-        kind => kind,
-    }
 }
 
 /// The properties of `UnicodeData.txt` with one value for each code point: the short and the long
@@ -166,7 +131,7 @@ fn only_field(alloc: Global, name: &str, file: &[u8]) -> Result<Columns<'static>
 
 /// Says on standard error that a code point has two lines, if the arguments name a field: the last
 /// line counts. `name` is what the lines were read from.
-pub fn say_overlap(
+fn say_overlap(
     rt: &HostRuntime,
     columns: Columns<'_>,
     matches: &ArgMatches<'_>,
@@ -398,6 +363,17 @@ fn built_of_file(
     }
 }
 
+/// Returns what the values of a file of the Unicode Character Database are. Says on standard error
+/// if code points have two lines.
+pub fn choice_of_file<'f>(
+    rt: &HostRuntime,
+    matches: &ArgMatches<'_>,
+    file: UnicodeFile<'f>,
+) -> Result<Choice<'f>, Fault> {
+    say_overlap(rt, file.columns, matches, file.name, file.bytes)?;
+    choice_of(rt.alloc(), matches, file)
+}
+
 /// Builds a table of a file of the Unicode Character Database, in the form that the arguments name.
 /// `name` is what it was read from.
 pub fn build_file(
@@ -408,7 +384,6 @@ pub fn build_file(
     kind: FileKind,
 ) -> Result<Vec<u8>, Fault> {
     let columns = columns(rt.alloc(), matches, kind, name, bytes)?;
-    say_overlap(rt, columns, matches, name, bytes)?;
     let named = named_file(rt, matches)?;
     let aliases = named.as_slice();
     let file = UnicodeFile {
@@ -417,7 +392,7 @@ pub fn build_file(
         columns,
         aliases,
     };
-    let choice = choice_of(rt.alloc(), matches, file)?;
+    let choice = choice_of_file(rt, matches, file)?;
     say_fractions(rt, matches, file, &choice)?;
     built_of_file(rt.alloc(), matches, file, &choice)
 }

@@ -134,6 +134,12 @@ IsWhyNoTrieToml table (trie_refusals.Trie why) = (parts : TomlParts) × (toml_of
     × IsRefusedTrie (trie_of (fitting (2 ^ 32)) parts) (trie_refusals.Trie why)
 IsWhyNoTrieToml table trie_refusals.Memory = ⊥
 
+-- Why a text is not read as TOML.
+abbrev pub IsWhyNotToml : List ℕ → ReadFault → Type 0
+IsWhyNotToml text (Toml why) = parse_document text ≡ None
+IsWhyNotToml text Memory = ⊤
+IsWhyNotToml text _ = ⊥
+
 -- Why a text taken for TOML has no table: it is not TOML, or its table is not a trie.
 abbrev pub IsWhyNoToml : List ℕ → ReadFault → Type 0
 IsWhyNoToml text (Toml why) = parse_document text ≡ None

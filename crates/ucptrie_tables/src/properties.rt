@@ -1,7 +1,6 @@
 //! The properties of a TOML file that have a trie, and the table of one of them.
 ghost use Rattle.std.specs.Prelude.{◌≡◌, true, false, is_some, Err, IfErr, IfOk, Result};
-ghost use Rattle.ucptrie_tables.specs.Files.{IsTakenForToml};
-ghost use Rattle.ucptrie_tables.specs.Inside.TomlTries.{IsWhyNotToml};
+ghost use Rattle.ucptrie_tables.specs.Files.{IsTakenForToml, IsWhyNotToml};
 ghost use Rattle.ucptrie_tables.specs.Properties.{of_property, IsReadOf, IsTomlFileOf};
 ghost use Rattle.ucptrie_tables.specs.declared.fault.ReadFault.{ReadFault};
 ghost use Rattle.ucptrie_tables.specs.declared.properties.PropertyFault.TheVariants.{NotToml};
@@ -192,7 +191,8 @@ pub fn property_names<'a>(
 }
 
 /// Reads the table that a file has, as [`read_table`] does, but in TOML only that of the property
-/// with this name, or of the only property with a trie if no name is asked.
+/// with this name, or of the only property with a trie if no name is asked. `toml` is the file as
+/// [`toml_file`] returns it.
 ///
 /// A name is the key of a property in the file, or its `long_name` or `short_name`.
 ///
@@ -200,19 +200,23 @@ pub fn property_names<'a>(
 /// Returns [`PropertyFault::Several`] if several properties have a trie, and the name, if one is
 /// asked, and [`PropertyFault::Missing`] if none has that name. Returns [`PropertyFault::NotToml`]
 /// if a name is asked of a file in another form. Other errors are those of [`read_table`].
-pub fn read_property(alloc: Global, file: &[u8], name: Option<&str>) -> Result<Table, PropertyFault>
-    ensures named { is_some name.entry ≡ true → ¬ IsTakenForToml file.now → result ≡ Err NotToml }
-    ensures other { is_some name.entry ≡ false → ¬ IsTakenForToml file.now
-        → (read : Result Table ReadFault) × (IsReadOf file.now read
-        × (result ≡ of_property read)) }
+pub fn read_property(
+    alloc: Global,
+    file: &[u8],
+    toml: Option<&TomlFile>,
+    name: Option<&str>,
+) -> Result<Table, PropertyFault>
+    ensures named { is_some toml.entry ≡ false → is_some name.entry ≡ true → result ≡ Err NotToml }
+    ensures other { is_some toml.entry ≡ false → is_some name.entry ≡ false
+        → ¬ IsTakenForToml file.now → (read : Result Table ReadFault)
+        × (IsReadOf file.now read × (result ≡ of_property read)) }
 {
-    let Some(text) = toml_text(file) else {
-        if name.is_some() {
-            return Err(PropertyFault::NotToml);
-        }
-        return Ok(read_table(alloc, file)?);
-    };
-    let file = file_of_toml(alloc, text)?;
-    let trie = asked_trie(alloc, &file, name)?;
-    Ok(table_of_members(alloc, trie)?)
+    if let Some(toml) = toml {
+        let trie = asked_trie(alloc, toml, name)?;
+        return Ok(table_of_members(alloc, trie)?);
+    }
+    if name.is_some() {
+        return Err(PropertyFault::NotToml);
+    }
+    Ok(read_table(alloc, file)?)
 }

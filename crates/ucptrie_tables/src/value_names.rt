@@ -12,6 +12,7 @@ ghost use Rattle.ucptrie_tables.specs.ValueIdentifiers.{before_word, c_byte, enu
 
 use crate::written::Form;
 use std::alloc::{AllocError, Global};
+use ucd_files::kind::are_digits;
 use ucd_files::names::Name;
 use ucptrie_source::pattern::Number::Decimal;
 use ucptrie_source::pattern::{push_named, push_number, push_pattern};
@@ -19,20 +20,13 @@ use ucptrie_source::pattern::{push_named, push_number, push_pattern};
 /// How many names are written at most. More are no enum that a program would use.
 pub(crate) const MOST: usize = 4096;
 
-/// Returns whether a name is a number: whether it has decimal digits alone.
-fn is_number(name: &[u8]) -> bool
-    ensures { result ≡ list_all is_ascii_digit name.now }
-{
-    name.iter().all(|byte| byte.is_ascii_digit())
-}
-
-/// Returns the bytes of a name, or 0 if it is a number: a value is named by its number only if it
-/// has no other name.
+/// Returns the bytes of a name, or 0 if it is a number, which has decimal digits alone: a value is
+/// named by its number only if it has no other name.
 fn name_length(name: &[u8]) -> usize
     ensures length { result ≡ name_length name.now }
     ensures bound { result ≤ length name.now }
 {
-    if is_number(name) { 0 } else { name.len() }
+    if are_digits(name) { 0 } else { name.len() }
 }
 
 /// Returns whether one of the names has this number and at least so many bytes.

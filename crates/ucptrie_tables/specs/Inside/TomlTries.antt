@@ -1,13 +1,12 @@
 -- The table of a trie in TOML, and why there is none.
-use Rattle.std.specs.Prelude.{◌≡◌, ℕ, ◌^◌, List, None, Ok, ⊤}
+use Rattle.std.specs.Prelude.{◌≡◌, ◌^◌, Ok, ⊤}
 use Rattle.toml.specs.Data.{Members}
-use Rattle.toml.specs.Parse.{parse_document}
 use Rattle.icu_trie_core.specs.ValueNumbers.{fitting}
 use Rattle.icu_trie_formats.specs.TrieToml.{TomlParts, toml_of, trie_of}
 use Rattle.ucptrie_tables.specs.Files.{IsWhyNoTrieToml}
 use Rattle.ucptrie_tables.specs.TomlFiles.{width_of}
 use Rattle.ucptrie_tables.specs.declared.fault.ReadFault.{ReadFault}
-use Rattle.ucptrie_tables.specs.declared.fault.ReadFault.TheVariants.{Toml, TrieToml, Memory}
+use Rattle.ucptrie_tables.specs.declared.fault.ReadFault.TheVariants.{TrieToml, Memory}
 use Rattle.ucptrie_tables.specs.declared.table.Table.{Table}
 
 -- The members are the table's trie.
@@ -22,9 +21,3 @@ abbrev pub IsWhyNoTomlTrie : Members → ReadFault → Type 0
 IsWhyNoTomlTrie table (TrieToml why) = IsWhyNoTrieToml table why
 IsWhyNoTomlTrie table Memory = ⊤
 IsWhyNoTomlTrie table _ = ⊥
-
--- Why a text is not read as TOML.
-abbrev pub IsWhyNotToml : List ℕ → ReadFault → Type 0
-IsWhyNotToml text (Toml why) = parse_document text ≡ None
-IsWhyNotToml text Memory = ⊤
-IsWhyNotToml text _ = ⊥

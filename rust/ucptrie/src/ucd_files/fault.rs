@@ -3,6 +3,7 @@
 #[allow(unused_imports)]
 use crate::host::{HostRuntime, Text};
 use crate::support::AllocError;
+use bekstaudi::zerovec::MemoryError;
 use core::error::Error;
 use core::fmt;
 
@@ -72,6 +73,12 @@ impl Error for FileFault {}
 
 impl From<AllocError> for FileFault {
     fn from(_error: AllocError) -> FileFault {
+        FileFault::Memory
+    }
+}
+
+impl From<MemoryError> for FileFault {
+    fn from(_error: MemoryError) -> FileFault {
         FileFault::Memory
     }
 }

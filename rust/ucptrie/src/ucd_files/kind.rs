@@ -44,10 +44,28 @@ fn is_of_unihan(content: &[u8]) -> bool {
     after_mark(content).is_some() && content.contains(&b'\t')
 }
 
+/// Returns whether a file has an `@missing` line, about whichever property.
+fn has_missing_line(input: &[u8]) -> bool {
+    let mut rest = input;
+    while let Some((line, after)) = first_line(rest) {
+        if missing_of(line).is_some() {
+            return true;
+        }
+        rest = after;
+    }
+    false
+}
+
+/// Returns whether a file has a line that is neither blank nor a comment, or an `@missing` line.
+pub fn has_values(input: &[u8]) -> bool {
+    !first_content(input).is_empty() || has_missing_line(input)
+}
+
 /// Returns the kind of a file, by its first line with content. `UnicodeData.txt` has 14 semicolons
 /// in it. Other files of the Unicode Character Database start with a title. If their lines have one
-/// field, they are lists of code points. Files without a title are rows.
-pub fn kind_of(input: &[u8]) -> FileKind {
+/// field, they are lists of code points. Files without a title are rows, unless they have an
+/// `@missing` line, or `has_properties` says that their lines have properties.
+pub fn kind_of(input: &[u8], has_properties: bool) -> FileKind {
     let content = first_content(input);
     if content.iter().filter(|byte| **byte == b';').count() == 14 {
         return FileKind::UnicodeData;
@@ -55,13 +73,14 @@ pub fn kind_of(input: &[u8]) -> FileKind {
     if is_of_unihan(content) {
         return FileKind::Unihan;
     }
-    if title_of(input).is_none() {
+    let has_title = title_of(input).is_some();
+    if !(has_title || has_properties || has_missing_line(input)) {
         return FileKind::Rows;
     }
-    if has_field(1, content) {
-        FileKind::Properties
-    } else {
+    if has_title && !has_field(1, content) {
         FileKind::CodePoints
+    } else {
+        FileKind::Properties
     }
 }
 
@@ -98,8 +117,8 @@ pub fn has_missing_lines(input: &[u8], columns: Columns<'_>) -> bool {
     false
 }
 
-/// Returns whether a text has decimal digits alone.
-fn are_digits(text: &[u8]) -> bool {
+/// Returns whether a text has decimal digits alone, however many. The empty text has.
+pub fn are_digits(text: &[u8]) -> bool {
     text.iter().all(|byte| byte.is_ascii_digit())
 }
 

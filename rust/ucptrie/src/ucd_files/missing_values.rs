@@ -4,8 +4,10 @@
 use crate::host::{HostRuntime, Text};
 use crate::support::AllocError;
 use crate::ucd_files::aliases::missing_alias;
+use crate::ucd_files::coverage::lines_cover_all;
+use crate::ucd_files::fault::FileFault;
 use crate::ucd_files::fields::missing_of;
-use crate::ucd_files::kind::has_missing_lines;
+use crate::ucd_files::kind::are_digits;
 use crate::ucd_files::names::{Matching, Name, Numbering, number_of};
 use crate::ucd_files::order::{push_new, text_of_line};
 use crate::ucd_files::statement::Columns;
@@ -15,7 +17,9 @@ use crate::ucptab_table::input::first_line;
 /// What says which value code points without a line have.
 #[derive(Clone, Copy, Debug, PartialEq, Eq)]
 pub enum MissingValue {
-    /// An `@missing` line of the file itself. Or values are numbers, and nothing has to say it.
+    /// Nothing has to say it: values are numbers.
+    Numbers,
+    /// The file itself: its lines, `@missing` lines included, cover all code points.
     InLines,
     /// An `@missing` line of the file of aliases. This is the number of the value.
     Number(u32),
@@ -76,29 +80,69 @@ pub fn only_missing<'f>(
     Ok(first_other(missing.as_slice(), &others))
 }
 
+/// Returns the first of the names that does not have decimal digits alone.
+fn first_name<'f>(names: &[Name<'f>]) -> Option<&'f [u8]> {
+    let mut rest = names;
+    while let [name, after @ ..] = rest {
+        if !are_digits(name.text) {
+            return Some(name.text);
+        }
+        rest = after;
+    }
+    None
+}
+
+/// Returns the first value of `@missing` lines that is not a number, if the values of all other
+/// lines are numbers, as in `DerivedCombiningClass.txt`. Numbers have decimal digits alone.
+///
+/// # Errors
+/// Returns [`AllocError`] if an allocation fails.
+pub fn only_name<'f>(
+    input: &'f [u8],
+    columns: Columns<'_>,
+) -> Result<Option<&'f [u8]>, AllocError> {
+    let explicit = texts_in(false, input, columns)?;
+    if first_name(explicit.as_slice()).is_some() {
+        return Ok(None);
+    }
+    let missing = texts_in(true, input, columns)?;
+    Ok(first_name(missing.as_slice()))
+}
+
 /// Returns whether values have their numbers by names.
 fn is_by_names(numbering: Numbering<'_>) -> bool {
     matches!(numbering, Numbering::Names(_, _))
 }
 
-/// Returns what says which value code points without a line have, if a file of aliases names the
-/// values of a file: an `@missing` line of the file itself, or else the one of the file of aliases.
+/// Returns the number of the value that the file of aliases names for code points without a line.
+fn alias_number(numbering: Numbering<'_>, aliases: &[u8], property: &[u8]) -> Option<u32> {
+    match missing_alias(aliases, property) {
+        Some(text) => number_of(numbering, text),
+        None => None,
+    }
+}
+
+/// Returns what says which value code points without a line have, if values are named: the lines of
+/// the file itself, `@missing` lines included, if they cover all code points; or else the file of
+/// aliases.
+///
+/// # Errors
+/// Returns those of [`read_writes`](crate::ucd_files::read::read_writes), unless values are numbers.
 pub fn missing_value(
     input: &[u8],
     columns: Columns<'_>,
     numbering: Numbering<'_>,
     aliases: &[u8],
     property: &[u8],
-) -> MissingValue {
-    if !is_by_names(numbering) || has_missing_lines(input, columns) {
-        return MissingValue::InLines;
+) -> Result<MissingValue, FileFault> {
+    if !is_by_names(numbering) {
+        return Ok(MissingValue::Numbers);
     }
-    let number = match missing_alias(aliases, property) {
-        Some(text) => number_of(numbering, text),
-        None => None,
-    };
-    match number {
-        Some(number) => MissingValue::Number(number),
-        None => MissingValue::Unsaid,
+    if lines_cover_all(input, columns, numbering)? {
+        return Ok(MissingValue::InLines);
+    }
+    match alias_number(numbering, aliases, property) {
+        Some(number) => Ok(MissingValue::Number(number)),
+        None => Ok(MissingValue::Unsaid),
     }
 }

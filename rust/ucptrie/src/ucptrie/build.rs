@@ -3,7 +3,7 @@
 use crate::host::{HostRuntime, Text};
 #[allow(unused_imports)]
 use crate::support::prelude::*;
-use crate::ucd_files::kind::FileKind;
+use crate::ucd_files::kind::{FileKind, kind_of};
 use crate::ucptab_table::fault::TableError;
 use crate::ucptab_table::message::row_message;
 use crate::ucptrie::compressed::expect_lines;
@@ -11,9 +11,7 @@ use crate::ucptrie::fault::{Fault, about, said};
 use crate::ucptrie::forms::is_made;
 use crate::ucptrie::static_trie::with_static;
 use crate::ucptrie::tables::{form, number, trie_type, width};
-use crate::ucptrie::unicode_files::{
-    build_file, column_option, found_kind, named_kind, not_of_rows,
-};
+use crate::ucptrie::unicode_files::{build_file, column_option, named_kind, not_of_rows};
 use crate::ucptrie::wide::{row_with, too_wide};
 use crate::ucptrie_tables::built;
 use crate::ucptrie_tables::fault::BuildFault;
@@ -97,7 +95,7 @@ fn build_lines(
     let option = option_of_files(matches);
     let kind = match named_kind(matches) {
         Some(kind) => kind,
-        None => found_kind(file, option.is_some()),
+        None => kind_of(file, option.is_some()),
     };
     match (kind, option) {
         (FileKind::Rows, None) => build_rows(matches, name, file),

@@ -6,11 +6,11 @@ use crate::support::prelude::*;
 use crate::ucptrie::build::unbuilt;
 use crate::ucptrie::fault::{Fault, about};
 use crate::ucptrie::offsets::start_of;
-use crate::ucptrie::tables::{form, number, table_in, trie_type, width};
+use crate::ucptrie::tables::{form, number, table_and_toml, trie_type, width};
 use crate::ucptrie::unicode_files::with_names;
 use crate::ucptrie::wide::too_wide_in;
-use crate::ucptrie_tables::fault::{BuildFault, ReadFault};
-use crate::ucptrie_tables::properties::{TomlFile, property_names, toml_file};
+use crate::ucptrie_tables::fault::BuildFault;
+use crate::ucptrie_tables::properties::{TomlFile, property_names};
 use crate::ucptrie_tables::rebuild::rebuilt;
 use crate::ucptrie_tables::table::Table;
 use crate::ucptrie_tables::toml_names::NamesFault;
@@ -81,25 +81,23 @@ fn with_names_of_toml(
 fn with_names_of_file(
     matches: &ArgMatches,
     name: &str,
-    file: &[u8],
+    toml: Option<&TomlFile>,
     bytes: Vec<u8>,
     width: ValueWidth,
 ) -> Result<Vec<u8>, Fault> {
-    if !matches!(form(matches), Form::C(_) | Form::Rust(_)) {
-        return Ok(bytes);
-    }
-    match toml_file(file) {
-        Ok(Some(file)) => with_names_of_toml(matches, name, &file, bytes, width),
-        Err(ReadFault::Memory) => Err(Fault::Memory),
-        _ => Ok(with_names(matches, bytes, form(matches), width, &[])?),
+    match (form(matches), toml) {
+        (Form::C(_) | Form::Rust(_), Some(toml)) => {
+            with_names_of_toml(matches, name, toml, bytes, width)
+        }
+        (form, _) => Ok(with_names(matches, bytes, form, width, &[])?),
     }
 }
 
 /// Returns the table of a file in the form that the arguments name. `name` is what the file was
 /// read from.
 pub fn convert(matches: &ArgMatches, name: &str, file: &[u8]) -> Result<Vec<u8>, Fault> {
-    let table = table_in(matches, name, file, start_of(matches))?;
+    let (table, toml) = table_and_toml(matches, name, file, start_of(matches))?;
     let table = changed(matches, name, table)?;
     let bytes = converted(name, &table, form(matches))?;
-    with_names_of_file(matches, name, file, bytes, table.width)
+    with_names_of_file(matches, name, toml.as_ref(), bytes, table.width)
 }

@@ -5,17 +5,13 @@ use crate::support::AllocError;
 #[allow(unused_imports)]
 use crate::support::prelude::*;
 use crate::ucd_files::choice::{Choice, ValueKind};
-use crate::ucd_files::fault::FileFault;
-use crate::ucd_files::fields::missing_of;
-use crate::ucd_files::missing_values::{MissingValue, missing_value, only_missing};
+use crate::ucd_files::missing_values::{MissingValue, missing_value, only_missing, only_name};
 use crate::ucd_files::names::Numbering;
-use crate::ucd_files::order::text_of_line;
-use crate::ucd_files::read::read_writes;
-use crate::ucptab_table::input::first_line;
 use crate::ucptrie::choice::UnicodeFile;
 use crate::ucptrie::fault::{Fault, about, said};
-use crate::ucptrie::overlap::covers_all;
 use crate::ucptrie::properties::push_text;
+use crate::ucptrie::unicode_files::unread;
+use crate::ucptrie_tables::fault::UnicodeFileFault;
 use clap::ArgMatches;
 
 /// Returns the line about a value that only an `@missing` line has.
@@ -41,47 +37,15 @@ pub fn test_own_names(file: UnicodeFile<'_>, choice: &Choice<'_>) -> Result<(), 
     }
 }
 
-/// Returns whether a text has decimal digits alone.
-fn is_number(text: &[u8]) -> bool {
-    text.iter().all(|byte| byte.is_ascii_digit())
-}
-
-/// Returns the value of an `@missing` line that is not a number, if the values of all other lines
-/// are numbers, as in `DerivedCombiningClass.txt`.
-fn only_name<'f>(file: UnicodeFile<'f>) -> Option<&'f [u8]> {
-    let mut found = None;
-    let mut rest = file.bytes;
-    while let Some((line, after)) = first_line(rest) {
-        rest = after;
-        match text_of_line(file.columns, line) {
-            Some(text) if is_number(text) => {}
-            Some(text) if missing_of(line).is_some() => found = Some(text),
-            Some(_) => return None,
-            None => {}
-        }
-    }
-    found
-}
-
 /// Tests whether an `@missing` line has a number if all other values are numbers: a name has none
 /// without the file of aliases.
 pub fn test_numbers(file: UnicodeFile<'_>, choice: &Choice<'_>) -> Result<(), Fault> {
     if !matches!(choice.kind, ValueKind::Own) {
         return Ok(());
     }
-    match only_name(file) {
+    match only_name(file.bytes, file.columns)? {
         Some(value) => Err(said(only_missing_line(file.name, value))),
         None => Ok(()),
-    }
-}
-
-/// Returns whether each code point has a line. If a line has a fault, so that the file makes no
-/// table, it returns true.
-fn is_complete(file: UnicodeFile<'_>, numbering: Numbering<'_>) -> Result<bool, AllocError> {
-    match read_writes(file.bytes, file.columns, numbering) {
-        Ok(writes) => covers_all(&writes),
-        Err(FileFault::Memory) => Err(AllocError),
-        Err(_) => Ok(true),
     }
 }
 
@@ -102,13 +66,9 @@ pub fn default_of(
         .unwrap_or("")
         .as_bytes();
     match missing_value(file.bytes, file.columns, numbering, file.aliases, property) {
-        MissingValue::InLines if !matches!(numbering, Numbering::Names(_, _)) => Ok(other),
-        MissingValue::Number(number) => Ok(number),
-        MissingValue::InLines | MissingValue::Unsaid => {
-            if is_complete(file, numbering)? {
-                return Ok(other);
-            }
-            Err(about(file.name, how))
-        }
+        Ok(MissingValue::Numbers | MissingValue::InLines) => Ok(other),
+        Ok(MissingValue::Number(number)) => Ok(number),
+        Ok(MissingValue::Unsaid) => Err(about(file.name, how)),
+        Err(fault) => Err(unread(file.name, file.bytes, UnicodeFileFault::File(fault))),
     }
 }

@@ -5,11 +5,11 @@ use crate::support::AllocError;
 #[allow(unused_imports)]
 use crate::support::prelude::*;
 use crate::ucd_files::choice::{Choice, ValueKind, by_names};
-use crate::ucd_files::kind::FileKind;
+use crate::ucd_files::kind::{FileKind, kind_of};
 use crate::ucd_files::names::{Matching, Numbering, is_same_name, number_of};
 use crate::ucd_files::value_names::ValueNames;
 use crate::ucptrie::build::unbuilt;
-use crate::ucptrie::choice::{UnicodeFile, choice_of};
+use crate::ucptrie::choice::UnicodeFile;
 use crate::ucptrie::compressed::expect_lines;
 use crate::ucptrie::fault::{Fault, about, about_arguments};
 use crate::ucptrie::forms::{is_json, is_toml};
@@ -19,7 +19,7 @@ use crate::ucptrie::offsets::{has_tries, start_of, starts_trie};
 use crate::ucptrie::streams::say;
 use crate::ucptrie::tables::{number, table_in};
 use crate::ucptrie::unicode_files::{
-    column_option, columns, found_kind, named_file, named_kind, not_of_rows, say_overlap, unread,
+    choice_of_file, column_option, columns, named_file, named_kind, not_of_rows, unread,
 };
 use crate::ucptrie_sets::fault::{SetFileFault, SetWriteFault, ValueSetFault};
 use crate::ucptrie_sets::of_value::set_of_value;
@@ -63,7 +63,7 @@ fn source_of(matches: &ArgMatches, file: &[u8]) -> Source {
         _ if starts_trie(file) || is_json(file) => Source::Table,
         _ if is_toml(file) => Source::Toml,
         _ if number(matches, "offset").is_some() || has_tries(file) => Source::Table,
-        _ => Source::Lines(found_kind(file, column_option(matches).is_some())),
+        _ => Source::Lines(kind_of(file, column_option(matches).is_some())),
     }
 }
 
@@ -172,7 +172,6 @@ fn set_of_unicode_file(
     kind: FileKind,
 ) -> Result<CodePointInversionList<'static>, Fault> {
     let columns = columns(matches, kind, name, bytes)?;
-    say_overlap(rt, columns, matches, name, bytes)?;
     let named = named_file(rt, matches)?;
     let aliases = named.as_slice();
     let file = UnicodeFile {
@@ -181,7 +180,7 @@ fn set_of_unicode_file(
         columns,
         aliases,
     };
-    let choice = choice_of(matches, file)?;
+    let choice = choice_of_file(rt, matches, file)?;
     set_of_lines(matches, file, &choice)
 }
 

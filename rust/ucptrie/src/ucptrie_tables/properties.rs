@@ -176,7 +176,8 @@ pub fn property_names<'a>(
 }
 
 /// Reads the table that a file has, as [`read_table`] does, but in TOML only that of the property
-/// with this name, or of the only property with a trie if no name is asked.
+/// with this name, or of the only property with a trie if no name is asked. `toml` is the file as
+/// [`toml_file`] returns it.
 ///
 /// A name is the key of a property in the file, or its `long_name` or `short_name`.
 ///
@@ -184,14 +185,17 @@ pub fn property_names<'a>(
 /// Returns [`PropertyFault::Several`] if several properties have a trie, and the name, if one is
 /// asked, and [`PropertyFault::Missing`] if none has that name. Returns [`PropertyFault::NotToml`]
 /// if a name is asked of a file in another form. Other errors are those of [`read_table`].
-pub fn read_property(file: &[u8], name: Option<&str>) -> Result<Table, PropertyFault> {
-    let Some(text) = toml_text(file) else {
-        if name.is_some() {
-            return Err(PropertyFault::NotToml);
-        }
-        return Ok(read_table(file)?);
-    };
-    let file = file_of_toml(text)?;
-    let trie = asked_trie(&file, name)?;
-    Ok(table_of_members(trie)?)
+pub fn read_property(
+    file: &[u8],
+    toml: Option<&TomlFile>,
+    name: Option<&str>,
+) -> Result<Table, PropertyFault> {
+    if let Some(toml) = toml {
+        let trie = asked_trie(toml, name)?;
+        return Ok(table_of_members(trie)?);
+    }
+    if name.is_some() {
+        return Err(PropertyFault::NotToml);
+    }
+    Ok(read_table(file)?)
 }

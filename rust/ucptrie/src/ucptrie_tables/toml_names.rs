@@ -109,19 +109,6 @@ fn push_text<'a>(
     Ok(true)
 }
 
-/// Appends the name of a number at a key, if there is one. Returns whether it is a text.
-fn push_text_at<'a>(
-    names: &mut ValueNames<'a>,
-    number: u32,
-    table: &'a Table,
-    key: &str,
-) -> Result<bool, AllocError> {
-    match value_at(table, key) {
-        Some(value) => push_text(names, number, value),
-        None => Ok(true),
-    }
-}
-
 /// Appends values as names of a number. Returns whether all of them are texts.
 fn push_texts<'a>(
     names: &mut ValueNames<'a>,
@@ -138,17 +125,21 @@ fn push_texts<'a>(
     Ok(true)
 }
 
-/// Appends the texts of the array at a key as names of a number, if there is a value at it. Returns
-/// whether it is an array of texts.
-fn push_texts_at<'a>(
+/// Appends the names of a number at a key, if there is a value at it: a text, or an array of texts
+/// if `is_array`. Returns whether the value is that.
+fn push_names_at<'a>(
     names: &mut ValueNames<'a>,
     number: u32,
     table: &'a Table,
     key: &str,
+    is_array: bool,
 ) -> Result<bool, AllocError> {
     let Some(value) = value_at(table, key) else {
         return Ok(true);
     };
+    if !is_array {
+        return push_text(names, number, value);
+    }
     match items_in(value) {
         Some(items) => push_texts(names, number, items),
         None => Ok(false),
@@ -161,10 +152,10 @@ fn push_value<'a>(
     number: u32,
     table: &'a Table,
 ) -> Result<bool, AllocError> {
-    let are_texts = push_text_at(names, number, table, "long")?
-        && push_text_at(names, number, table, "short")?
-        && push_text_at(names, number, table, "name")?
-        && push_texts_at(names, number, table, "aliases")?;
+    let are_texts = push_names_at(names, number, table, "long", false)?
+        && push_names_at(names, number, table, "short", false)?
+        && push_names_at(names, number, table, "name", false)?
+        && push_names_at(names, number, table, "aliases", true)?;
     Ok(are_texts)
 }
 

@@ -5,6 +5,7 @@ use crate::host::{HostRuntime, Text};
 use crate::support::AllocError;
 #[allow(unused_imports)]
 use crate::support::prelude::*;
+use crate::ucd_files::kind::are_digits;
 use crate::ucd_files::names::Name;
 use crate::ucptrie_source::pattern::Number::Decimal;
 use crate::ucptrie_source::pattern::{push_named, push_number, push_pattern};
@@ -13,15 +14,10 @@ use crate::ucptrie_tables::written::Form;
 /// How many names are written at most. More are no enum that a program would use.
 pub(crate) const MOST: usize = 4096;
 
-/// Returns whether a name is a number: whether it has decimal digits alone.
-fn is_number(name: &[u8]) -> bool {
-    name.iter().all(|byte| byte.is_ascii_digit())
-}
-
-/// Returns the bytes of a name, or 0 if it is a number: a value is named by its number only if it
-/// has no other name.
+/// Returns the bytes of a name, or 0 if it is a number, which has decimal digits alone: a value is
+/// named by its number only if it has no other name.
 fn name_length(name: &[u8]) -> usize {
-    if is_number(name) { 0 } else { name.len() }
+    if are_digits(name) { 0 } else { name.len() }
 }
 
 /// Returns whether one of the names has this number and at least so many bytes.
