@@ -1,9 +1,9 @@
 -- Values of the first parts of bytes, in a buffer that is filled from its start.
-use Rattle.std.proofs.Common.{◌≡◌, ◌∙◌, sym, ap, refl, ℕ, zero, suc, ◌+◌, ◌<◌, ◌≤◌, List, [], ◌∷◌, ◌++◌, length, get_or, slice_get, take, drop, bit_and, Option, Some, None, arith, inl, inr}
+use Rattle.std.proofs.Common.{◌≡◌, ◌∙◌, sym, ap, refl, ℕ, zero, suc, ◌+◌, ◌-◌, ◌<◌, ◌≤◌, List, [], ◌∷◌, ◌++◌, length, get_or, slice_get, take, drop, bit_and, Option, Some, None, arith, inl, inr}
 use Rattle.std.specs.Prelude.{◌⊎◌}
 use Rattle.std.proofs.Math.ListN.{set}
 use Rattle.std.proofs.lemmas.Bool.{cases_lt}
-use Rattle.std.proofs.lemmas.List.{drop_all, drop-drop, get_or-drop, length-append, length-drop, length-set, length-take-le, take_more, take_more_set}
+use Rattle.std.proofs.lemmas.List.{drop_all, drop-drop, get_or-drop, length-append, length-drop, length-set, length-take-le, take_more, take_more_set, take_rest}
 use Rattle.std.proofs.lemmas.Nat.{and_mask}
 use Rattle.std.proofs.lemmas.Option.{get_or_from_slice_get, slice_get_within}
 use Rattle.std.proofs.lemmas.Str.{len_utf8_bounds, length-encode}
@@ -222,3 +222,8 @@ module _ {T : Type 0} (value : Option ℕ → Option T) where
       rest = drop_all count new full ∙ sym (drop_all count old (omega (arith, full, long)));
       stops = inl (omega (arith, full, long, within));
     }
+
+-- What is left of bytes, after n more of them.
+pub rest_after : (bytes rest : List ℕ) (i n : ℕ) → rest ≡ drop i bytes → take (length rest - n) (drop n rest) ≡ drop (i + n) bytes
+rest_after bytes rest i n e =
+    take_rest rest n ∙ ap (drop n) e ∙ drop-drop n i bytes ∙ ap (λ k. drop k bytes) (omega arith)

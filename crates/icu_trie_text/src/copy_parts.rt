@@ -138,6 +138,7 @@ pub(crate) fn copy_ascii<T: Copy, V: PartValues<T>>(
     requires bytes { front.bytes ≤ length bytes.now }
     requires room { front.values ≤ length values.old }
     ensures more { front.bytes ≤ result.bytes }
+    ensures within { result.bytes ≤ length bytes.now }
     ensures copied { (old : _) → AreCopiedParts (V.gives trie.now) bytes.now old values.old
         front.bytes front.values
         → AreCopiedParts (V.gives trie.now) bytes.now old values.new result.bytes result.values }
@@ -323,12 +324,14 @@ fn copy_front<T: Copy, V: PartValues<T>>(trie: &V, bytes: &[u8], values: &mut [T
     ensures { AreCopiedParts (V.gives trie.now) bytes.now values.old values.new
         result.bytes result.values }
 {
+    let mut rest = bytes;
     let mut i = 0;
     let mut j = 0;
-    while bytes.len() - i >= BYTES_AHEAD && values.len() - j >= ROOM_AHEAD {
-        if bytes[i] < 0x80 {
-            let count = ascii_count(&bytes[i..]);
-            put_eight(trie, &bytes[i..], values, j);
+    while rest.len() >= BYTES_AHEAD && values.len() - j >= ROOM_AHEAD {
+        if rest[0] < 0x80 {
+            let count = ascii_count(rest);
+            put_eight(trie, rest, values, j);
+            rest = &rest[count..];
             i += count;
             j += count;
             if count == 8 {
@@ -343,11 +346,13 @@ fn copy_front<T: Copy, V: PartValues<T>>(trie: &V, bytes: &[u8], values: &mut [T
                 );
                 i = ahead.bytes;
                 j = ahead.values;
+                rest = &bytes[i..];
                 continue;
             }
         }
-        let (value, size) = near_value(trie, &bytes[i..]);
+        let (value, size) = near_value(trie, rest);
         values[j] = value;
+        rest = &rest[size..];
         i += size;
         j += 1;
     }
