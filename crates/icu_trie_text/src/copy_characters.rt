@@ -83,14 +83,12 @@ fn copy_text<T: Copy, V: PartValues<T>>(trie: &V, text: &[u8], values: &mut [T])
     ensures { AreCopiedParts (V.gives trie.now) text.now values.old values.new
         result.bytes result.values }
 {
-    let mut rest = text;
     let mut i = 0;
     let mut j = 0;
-    while rest.len() >= BYTES_AHEAD && values.len() - j >= ROOM_AHEAD {
-        if rest[0] < 0x80 {
-            let count = ascii_count(rest);
-            put_eight(trie, rest, values, j);
-            rest = &rest[count..];
+    while text.len() - i >= BYTES_AHEAD && values.len() - j >= ROOM_AHEAD {
+        if text[i] < 0x80 {
+            let count = ascii_count(&text[i..]);
+            put_eight(trie, &text[i..], values, j);
             i += count;
             j += count;
             if count == 8 {
@@ -105,13 +103,11 @@ fn copy_text<T: Copy, V: PartValues<T>>(trie: &V, text: &[u8], values: &mut [T])
                 );
                 i = ahead.bytes;
                 j = ahead.values;
-                rest = &text[i..];
                 continue;
             }
         }
-        let (value, size) = character_value(trie, rest);
+        let (value, size) = character_value(trie, &text[i..]);
         values[j] = value;
-        rest = &rest[size..];
         i += size;
         j += 1;
     }

@@ -138,7 +138,6 @@ pub(crate) fn copy_ascii<T: Copy, V: PartValues<T>>(
     requires bytes { front.bytes ≤ length bytes.now }
     requires room { front.values ≤ length values.old }
     ensures more { front.bytes ≤ result.bytes }
-    ensures within { result.bytes ≤ length bytes.now }
     ensures copied { (old : _) → AreCopiedParts (V.gives trie.now) bytes.now old values.old
         front.bytes front.values
         → AreCopiedParts (V.gives trie.now) bytes.now old values.new result.bytes result.values }
@@ -331,24 +330,15 @@ fn copy_front<T: Copy, V: PartValues<T>>(trie: &V, bytes: &[u8], values: &mut [T
         if rest[0] < 0x80 {
             let count = ascii_count(rest);
             put_eight(trie, rest, values, j);
+            if count == 8 {
+                rest = &rest[8..];
+                i += 8;
+                j += 8;
+                continue;
+            }
             rest = &rest[count..];
             i += count;
             j += count;
-            if count == 8 {
-                let ahead = copy_ascii(
-                    trie,
-                    bytes,
-                    values,
-                    Copied {
-                        values: j,
-                        bytes: i,
-                    },
-                );
-                i = ahead.bytes;
-                j = ahead.values;
-                rest = &bytes[i..];
-                continue;
-            }
         }
         let (value, size) = near_value(trie, rest);
         values[j] = value;

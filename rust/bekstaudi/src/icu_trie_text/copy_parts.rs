@@ -231,31 +231,26 @@ fn near_value<T, V: PartValues<T>>(trie: &V, bytes: &[u8]) -> (T, usize) {
 /// each.
 #[inline(always)]
 fn copy_front<T: Copy, V: PartValues<T>>(trie: &V, bytes: &[u8], values: &mut [T]) -> Copied {
+    let mut rest = bytes;
     let mut i = 0;
     let mut j = 0;
-    while bytes.len() - i >= BYTES_AHEAD && values.len() - j >= ROOM_AHEAD {
-        if bytes[i] < 0x80 {
-            let count = ascii_count(&bytes[i..]);
-            put_eight(trie, &bytes[i..], values, j);
-            i += count;
-            j += count;
+    while rest.len() >= BYTES_AHEAD && values.len() - j >= ROOM_AHEAD {
+        if rest[0] < 0x80 {
+            let count = ascii_count(rest);
+            put_eight(trie, rest, values, j);
             if count == 8 {
-                let ahead = copy_ascii(
-                    trie,
-                    bytes,
-                    values,
-                    Copied {
-                        values: j,
-                        bytes: i,
-                    },
-                );
-                i = ahead.bytes;
-                j = ahead.values;
+                rest = &rest[8..];
+                i += 8;
+                j += 8;
                 continue;
             }
+            rest = &rest[count..];
+            i += count;
+            j += count;
         }
-        let (value, size) = near_value(trie, &bytes[i..]);
+        let (value, size) = near_value(trie, rest);
         values[j] = value;
+        rest = &rest[size..];
         i += size;
         j += 1;
     }
