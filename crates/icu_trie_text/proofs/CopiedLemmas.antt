@@ -1,10 +1,9 @@
 -- Values of the first parts of bytes, in a buffer that is filled from its start.
-use Rattle.std.proofs.Common.{◌≡◌, ◌∙◌, sym, ap, refl, ℕ, zero, suc, ◌+◌, ◌-◌, ◌<◌, ◌≤◌, List, [], ◌∷◌, ◌++◌, length, get_or, slice_get, take, drop, bit_and, Option, Some, None, arith, inl, inr}
+use Rattle.std.proofs.Common.{◌≡◌, ◌∙◌, sym, ap, refl, ℕ, zero, suc, ◌+◌, ◌-◌, ◌<◌, ◌≤◌, List, [], ◌∷◌, ◌++◌, length, get_or, slice_get, take, drop, Option, Some, None, arith, inl, inr}
 use Rattle.std.specs.Prelude.{◌⊎◌}
 use Rattle.std.proofs.Math.ListN.{set}
 use Rattle.std.proofs.lemmas.Bool.{cases_lt}
 use Rattle.std.proofs.lemmas.List.{drop_all, drop-drop, get_or-drop, length-append, length-drop, length-set, length-take-le, take_more, take_more_set, take_rest}
-use Rattle.std.proofs.lemmas.Nat.{and_mask}
 use Rattle.std.proofs.lemmas.Option.{get_or_from_slice_get, slice_get_within}
 use Rattle.std.proofs.lemmas.Str.{len_utf8_bounds, length-encode}
 use Rattle.icu_trie_text.specs.CopiedParts.{AreCopiedParts, HasCopiedParts, HasFirstValue, HaveFirstValues}
@@ -62,23 +61,20 @@ module _ {T : Type 0} where
   set_other (y ∷ ys) (suc n) (suc k) x l = set_other ys n k x (omega arith)
 
   -- One more of eight values is written.
-  module _ (value : ℕ → Option T) (byte : ℕ → ℕ) (old vs : List T) (j k : ℕ) (x : T) (room : j + k < length vs) where
-    pub put_next : ((i : ℕ) → i < k → byte i < 128 → value (byte i) ≡ slice_get vs (j + i))
-        → value (bit_and (byte k) 127) ≡ Some x
-        → (i : ℕ) → i < k + 1 → byte i < 128 → value (byte i) ≡ slice_get (set vs (j + k) x) (j + i)
-    put_next before is i l a = elim (cases_lt i k) [
-      | inl below ↦ before i below a ∙ sym (set_before vs (j + k) (j + i) x (omega (arith, below)))
+  module _ (eight old vs : List T) (j k : ℕ) (x : T) (room : j + k < length vs) where
+    pub put_next : ((i : ℕ) → i < k → slice_get vs (j + i) ≡ slice_get eight i) → slice_get eight k ≡ Some x
+        → (i : ℕ) → i < k + 1 → slice_get (set vs (j + k) x) (j + i) ≡ slice_get eight i
+    put_next before is i l = elim (cases_lt i k) [
+      | inl below ↦ set_before vs (j + k) (j + i) x (omega (arith, below)) ∙ before i below
       | inr from ↦
           let same : i ≡ k = omega (arith, from, l) in
-          let here : byte k < 128 = rw same at a in
-          let low : bit_and (byte k) 127 ≡ byte k = and_mask (byte k) 7 ∙ omega (arith, here) in
-          rw same (rw low at is ∙ sym (set_same vs (j + k) x room))
+          rw same (set_same vs (j + k) x room ∙ sym is)
     ]
 
     pub put_kept : k < 8 → ((i : ℕ) → (i < j) ⊎ (j + 8 ≤ i) → slice_get vs i ≡ slice_get old i)
         → (i : ℕ) → (i < j) ⊎ (j + 8 ≤ i) → slice_get (set vs (j + k) x) i ≡ slice_get old i
-    put_kept eight before i (inl l) = set_before vs (j + k) i x (omega (arith, l)) ∙ before i (inl l)
-    put_kept eight before i (inr h) = set_other vs (j + k) i x (omega (arith, h, eight)) ∙ before i (inr h)
+    put_kept few before i (inl l) = set_before vs (j + k) i x (omega (arith, l)) ∙ before i (inl l)
+    put_kept few before i (inr h) = set_other vs (j + k) i x (omega (arith, h, few)) ∙ before i (inr h)
 
 -- ---- parts
 begun_size : (bytes : List ℕ) → BeginsCharacter bytes → length bytes ≤ 4

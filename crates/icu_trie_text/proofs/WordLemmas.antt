@@ -1,7 +1,6 @@
 -- Eight bytes in a word: the highest bit of each says whether it is ASCII.
-use Rattle.std.proofs.Common.{◌≡◌, ◌∙◌, sym, ap, refl, ℕ, zero, suc, ◌+◌, ◌-◌, ◌*◌, ◌/◌, ◌%◌, ◌^◌, ◌<◌, List, get_or, min, bit_and, Fits, w8, arith}
+use Rattle.std.proofs.Common.{◌≡◌, ◌∙◌, sym, ap, refl, ℕ, zero, suc, ◌+◌, ◌-◌, ◌*◌, ◌/◌, ◌^◌, ◌<◌, List, get_or, min, bit_and, Fits, w8, arith}
 use Rattle.std.specs.Int.{w64, bit_at, from_le_bytes, trailing_zeros}
-use Rattle.std.proofs.lemmas.Nat.{shr-shr, shr_high}
 use Rattle.std.proofs.lemmas.Nat.Bits.{bit_at_and, bit_at_cat_high, bit_at_cat_low, bit_at-trailing_zeros, bit_at-zero}
 
 -- The number of n bytes from byte k on, the first one lowest.
@@ -27,23 +26,6 @@ module _ (f : ℕ → ℕ) (bytes : (k : ℕ) → f k < 256) where
       let same : suc k + i ≡ k + suc i = omega arith in
       top_of_next k n i ∙ top_of n (suc k) i (omega arith) ∙ ap (λ j. bit_at (f j) 7) same
 
-  -- Byte i is what is left of the number after 8 * i bits, modulo 256.
-  digit_at : (n k i : ℕ) → i < n → digits f k n / 2 ^ (8 * i) % 256 ≡ f (k + i)
-  digit_at zero k i l = absurd (omega arith)
-  digit_at (suc n) k zero l =
-      let b = bytes k in
-      let same : k + 0 ≡ k = omega arith in
-      let whole : digits f k (suc n) / 2 ^ (8 * 0) ≡ digits f (suc k) n * 256 + f k = omega arith in
-      rw (whole, same) (omega (arith, b))
-  digit_at (suc n) k (suc i) l =
-      let b : f k < 2 ^ 8 = bytes k in
-      let same : suc k + i ≡ k + suc i = omega arith in
-      let bits : 8 * suc i ≡ 8 + 8 * i = omega arith in
-      ap (λ (j : ℕ). digits f k (suc n) / 2 ^ j % 256) bits
-      ∙ (ap (λ (x : ℕ). x % 256) (sym (shr-shr (digits f k (suc n)) 8 (8 * i))
-      ∙ ap (λ (x : ℕ). x / 2 ^ (8 * i)) (shr_high (digits f (suc k) n) 8 (f k) b))
-      ∙ (digit_at n (suc k) i (omega arith) ∙ ap f same))
-
   ascii_by_top : (n i : ℕ) → i < n → bit_at (digits f 0 n) (8 * i + 7) ≡ 0 → f i < 128
   ascii_by_top n i l z =
       let same : 0 + i ≡ i = omega arith in
@@ -65,12 +47,6 @@ module _ (xs : List ℕ) (fits : (k : ℕ) → Fits w8 (get_or xs k 0)) where
 
   word_digits : from_le_bytes w64 xs ≡ digits (λ k. get_or xs k 0) 0 8
   word_digits = omega arith
-
-  pub byte_at : (word i : ℕ) → word ≡ from_le_bytes w64 xs → i < 8 → word / 2 ^ (8 * i) % 256 ≡ get_or xs i 0
-  byte_at word i e l =
-      let same : 0 + i ≡ i = omega arith in
-      ap (λ (w : ℕ). w / 2 ^ (8 * i) % 256) (e ∙ word_digits)
-      ∙ (digit_at (λ k. get_or xs k 0) bytes 8 0 i l ∙ ap (λ (j : ℕ). get_or xs j 0) same)
 
   -- A byte whose highest bit is not in the masked word is ASCII.
   pub ascii_at : (i : ℕ) → i < 8 → bit_at (bit_and (from_le_bytes w64 xs) 0x8080_8080_8080_8080) (8 * i + 7) ≡ 0 → get_or xs i 0 < 128

@@ -107,22 +107,40 @@ fn are_ascii(bytes: &[u8]) -> bool
     first | second == 0
 }
 
-/// Writes the values of the first eight bytes, which are ASCII, from index `j` on.
+/// Writes eight values from index `j` on.
 #[inline(always)]
-fn put_ascii<T: Copy, V: PartValues<T>>(trie: &V, bytes: &[u8], values: &mut [T], j: usize)
-    requires end { V.end_of_ascii trie.now ≡ 0x80 }
-    requires bytes { 8 ≤ length bytes.now }
-    requires ascii { (k : ℕ) → k < 8 → slice_index bytes.now k < 0x80 }
+fn put_values<T: Copy>(eight: [T; 8], values: &mut [T], j: usize)
+    requires eight { length eight ≡ 8 }
     requires room { j + 8 ≤ length values.old }
-    ensures put { (k : ℕ) → k < 8 → slice_index bytes.now k < 0x80
-        → V.gives trie.now (Some (slice_index bytes.now k)) ≡ slice_get values.new (j + k) }
+    ensures put { (k : ℕ) → k < 8 → slice_get values.new (j + k) ≡ slice_get eight k }
     ensures kept { (k : ℕ) → (k < j) ⊎ (j + 8 ≤ k)
         → slice_get values.new k ≡ slice_get values.old k }
 {
-    let word = word_of(bytes);
     for k in 0..8 {
-        values[j + k] = trie.ascii(((word >> (8 * k)) % 256) as u8);
+        values[j + k] = eight[k];
     }
+}
+
+/// Returns the values of the first eight bytes: those of the bytes that are ASCII. All are read
+/// before one is written, since a write could change the trie for the compiler.
+#[inline(always)]
+fn eight_values<T: Copy, V: PartValues<T>>(trie: &V, bytes: &[u8]) -> [T; 8]
+    requires ascii { V.end_of_ascii trie.now ≡ 0x80 }
+    requires bytes { 8 ≤ length bytes.now }
+    ensures eight { length result ≡ 8 }
+    ensures values { (k : ℕ) → k < 8 → slice_index bytes.now k < 0x80
+        → V.gives trie.now (Some (slice_index bytes.now k)) ≡ slice_get result k }
+{
+    [
+        trie.ascii(bytes[0] & 0x7F),
+        trie.ascii(bytes[1] & 0x7F),
+        trie.ascii(bytes[2] & 0x7F),
+        trie.ascii(bytes[3] & 0x7F),
+        trie.ascii(bytes[4] & 0x7F),
+        trie.ascii(bytes[5] & 0x7F),
+        trie.ascii(bytes[6] & 0x7F),
+        trie.ascii(bytes[7] & 0x7F),
+    ]
 }
 
 /// Writes more values, as long as sixteen bytes at a time are ASCII and much of the buffer is left.
@@ -151,8 +169,8 @@ pub(crate) fn copy_ascii<T: Copy, V: PartValues<T>>(
                 bytes: i,
             };
         }
-        put_ascii(trie, &bytes[i..], values, j);
-        put_ascii(trie, &bytes[i + 8..], values, j + 8);
+        put_eight(trie, &bytes[i..], values, j);
+        put_eight(trie, &bytes[i + 8..], values, j + 8);
         i += 16;
         j += 16;
     }
@@ -178,9 +196,7 @@ pub(crate) fn put_eight<T: Copy, V: PartValues<T>>(
     ensures kept { (k : ℕ) → (k < j) ⊎ (j + 8 ≤ k)
         → slice_get values.new k ≡ slice_get values.old k }
 {
-    for k in 0..8 {
-        values[j + k] = trie.ascii(bytes[k] & 0x7F);
-    }
+    put_values(eight_values(trie, bytes), values, j);
 }
 
 /// Returns the character at the start of the bytes, which are not empty, and its size in bytes.

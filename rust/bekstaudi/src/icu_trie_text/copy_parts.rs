@@ -73,13 +73,26 @@ fn are_ascii(bytes: &[u8]) -> bool {
     first | second == 0
 }
 
-/// Writes the values of the first eight bytes, which are ASCII, from index `j` on.
+/// Writes eight values from index `j` on.
 #[inline(always)]
-fn put_ascii<T: Copy, V: PartValues<T>>(trie: &V, bytes: &[u8], values: &mut [T], j: usize) {
-    let word = word_of(bytes);
-    for (k, value) in values[j..j + 8].iter_mut().enumerate() {
-        *value = trie.ascii(((word >> (8 * k)) % 256) as u8);
-    }
+fn put_values<T: Copy>(eight: [T; 8], values: &mut [T], j: usize) {
+    values[j..j + 8].copy_from_slice(&eight);
+}
+
+/// Returns the values of the first eight bytes: those of the bytes that are ASCII. All are read
+/// before one is written, since a write could change the trie for the compiler.
+#[inline(always)]
+fn eight_values<T: Copy, V: PartValues<T>>(trie: &V, bytes: &[u8]) -> [T; 8] {
+    [
+        trie.ascii(bytes[0] & 0x7F),
+        trie.ascii(bytes[1] & 0x7F),
+        trie.ascii(bytes[2] & 0x7F),
+        trie.ascii(bytes[3] & 0x7F),
+        trie.ascii(bytes[4] & 0x7F),
+        trie.ascii(bytes[5] & 0x7F),
+        trie.ascii(bytes[6] & 0x7F),
+        trie.ascii(bytes[7] & 0x7F),
+    ]
 }
 
 /// Writes more values, as long as sixteen bytes at a time are ASCII and much of the buffer is left.
@@ -100,8 +113,8 @@ pub(crate) fn copy_ascii<T: Copy, V: PartValues<T>>(
                 bytes: i,
             };
         }
-        put_ascii(trie, &bytes[i..], values, j);
-        put_ascii(trie, &bytes[i + 8..], values, j + 8);
+        put_eight(trie, &bytes[i..], values, j);
+        put_eight(trie, &bytes[i + 8..], values, j + 8);
         i += 16;
         j += 16;
     }
@@ -119,9 +132,7 @@ pub(crate) fn put_eight<T: Copy, V: PartValues<T>>(
     values: &mut [T],
     j: usize,
 ) {
-    for (value, byte) in values[j..j + 8].iter_mut().zip(bytes) {
-        *value = trie.ascii(byte & 0x7F);
-    }
+    put_values(eight_values(trie, bytes), values, j);
 }
 
 /// Returns the character at the start of the bytes, which are not empty, and its size in bytes.
