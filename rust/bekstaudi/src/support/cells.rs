@@ -24,7 +24,7 @@ pub(crate) fn proved_cell(bytes: &[u8], width: usize, i: usize) -> &[u8] {
         2 => cell_at(bytes.as_chunks::<2>().0, i),
         3 => cell_at(bytes.as_chunks::<3>().0, i),
         4 => cell_at(bytes.as_chunks::<4>().0, i),
-        _ => no_cell(),
+        _ => cell(bytes, width, i).unwrap_or_else(|| no_cell()),
     }
 }
 
