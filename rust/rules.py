@@ -239,6 +239,60 @@ EDITS = {
     "icu_collections_c/tries": [
         (r"None => last_value\(values\),", "None => {\n            crate::cold();\n            last_value(values)\n        }", 1),
     ],
+    # One test finds out both whether a block is in the fast index and whether it has a cell, and the
+    # same for the value of an ASCII character.
+    "icu_trie_text/ascii": [
+        (
+            r"if block < self\.blocks \{\s*let offset = self\.index\.at\(block as usize\);",
+            "if let Some(offset) = cell_below(self.index.as_bytes(), self.blocks, 0, block) {",
+            1,
+        ),
+        (
+            r"(?s)if c < self\.end \{\s*Some\(self\.values\.at\(c as usize\)\)\s*\} else \{\s*None\s*\}",
+            "T::from_unaligned(cell_of_first(self.values.as_bytes(), T::WIDTH, self.end as usize, c as usize)?)",
+            1,
+        ),
+        (r"(?=use icu_zerovec)", "use crate::support::cells::{cell_below, cell_of_first};\n", 1),
+    ],
+    # The characters that are left: rustc tests whether a slice of a text starts at a character.
+    "icu_trie_text/first": [
+        (
+            r"(?s)(?:\x01\d+\x03\n)+#\[inline\(always\)\]\nfn first_character.*?\n\}\n.*?\n\}\n\n(?:\x01\d+\x03\n)+(?=#\[inline\(always\)\]\npub\(crate\) fn first_value)",
+            "/// Returns the first of these characters with its value, and passes it.\n",
+            1,
+        ),
+        (r"text: &'t str", "text: &mut Chars<'t>", 1),
+        (r"Option<\(\(char, T\), &'t str\)>", "Option<(char, T)>", 1),
+        (
+            r"(?s)    if let Some\(lead\) = text\.as_bytes.*?\n\}\n",
+            "    let first = text.next()?;\n"
+            "    match trie.ascii(u32::from(first)) {\n"
+            "        Some(value) => Some((first, value)),\n"
+            "        None => Some((first, trie.get(first))),\n"
+            "    }\n}\n",
+            1,
+        ),
+        (r"(?=use icu_trie_core)", "use core::str::Chars;\n", 1),
+    ],
+    "icu_trie_text/values": [
+        (r"rest: &'a str,", "rest: core::str::Chars<'a>,", 1),
+        (r"rest: text,", "rest: text.chars(),", 1),
+        (
+            r"let \(item, rest\) = first_value\(&self\.trie, self\.rest\)\?;\n +self\.rest = rest;\n +Some\(item\)",
+            "first_value(&self.trie, &mut self.rest)",
+            1,
+        ),
+    ],
+    "icu_trie_text/indices": [
+        (r"rest: &'a str,", "rest: core::str::Chars<'a>,", 1),
+        (r"rest: text,", "rest: text.chars(),", 1),
+        (r"self\.rest\.len\(\)", "self.rest.as_str().len()", 1),
+        (
+            r"let \(item, rest\) = first_value\(&self\.trie, self\.rest\)\?;\n +self\.rest = rest;\n +Some\(\(offset, item\.0, item\.1\)\)",
+            "let (c, value) = first_value(&self.trie, &mut self.rest)?;\n        Some((offset, c, value))",
+            1,
+        ),
+    ],
     # Eight bytes in one read, and eight values with one check of the buffer.
     "icu_trie_text/copy_parts": [
         (

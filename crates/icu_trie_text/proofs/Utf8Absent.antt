@@ -9,7 +9,7 @@ use Rattle.std.proofs.lemmas.Bool.{cases_lt}
 use Rattle.std.proofs.lemmas.List.{length-append}
 use Rattle.icu_trie_text.specs.Inside.Trails.{IsHighOfFour, IsHighOfThree, IsNoTrail, IsTrail}
 use Rattle.icu_trie_text.specs.Utf8.{IsFirstPart, IsIllFormedPart}
-use Rattle.icu_trie_text.proofs.Utf8Table.{longer_than_three, longer_than_two, scalar_high, scalar_low}
+use Rattle.icu_trie_text.proofs.Utf8Table.{longer_than_three, longer_than_two, scalar_high}
 use Rattle.icu_trie_text.proofs.Utf8Parts.{bad_second_of_four, bad_second_of_three, four_found, not_first, not_fourth, not_second_of_two, not_third_of_four, not_third_of_three, part_of_ascii, three_found, two_found}
 
 -- A character at the start of the bytes.
@@ -62,11 +62,6 @@ four_cases h = elim (cases_lt h 16) [
 
 -- ---- two bytes
 module _ (bytes : List ℕ) (a : ℕ) (lead : get_or bytes 0 0 ≡ 192 + a) (from : 2 ≤ a) (to : a < 32) where
-  pub two_told : (b : ℕ) (r : Option ℕ) → IsTrail bytes 1 b → SomeIff r (IsScalar (a * 64 + b)) (a * 64 + b)
-      → MatchOption r (StartsWithNoChar bytes) (λ c. IsFirstPart bytes (Some c) 2)
-  two_told b None t r = let six = t.six in absurd (r (scalar_low (a * 64 + b) (omega arith)))
-  two_told b (Some c) t r = rw r.1 (two_found bytes a b lead from to t)
-
   pub no_two : StartsWithNoChar bytes → 0 < length bytes → IsIllFormedPart bytes 1
   no_two none some = not_second_of_two bytes (omega arith) (omega arith)
       (trail_cases bytes 1 (λ b t. begins bytes (a * 64 + b) 2 (two_found bytes a b lead from to t) none)) some
@@ -78,27 +73,6 @@ module _ (bytes : List ℕ) (a b : ℕ) (lead : get_or bytes 0 0 ≡ 224 + a) (t
     | inl high ↦ (not_third_of_three bytes a b lead to s high bad).no_character
     | inr low ↦ (bad_second_of_three bytes a b lead to s low).no_character
   ]
-
-  pub short_three : (d : ℕ) → (a * 64 + b) * 64 + d < 0x800 → StartsWithNoChar bytes
-  short_three d h = (bad_second_of_three bytes a b lead to s (λ g. omega (arith, h, g.0))).no_character
-
-  high_of_scalar : (d : ℕ) → d < 64 → 0x800 ≤ (a * 64 + b) * 64 + d → IsScalar ((a * 64 + b) * 64 + d) → IsHighOfThree (a * 64 + b)
-  high_of_scalar d six l scalar = elim (scalar_cases ((a * 64 + b) * 64 + d) scalar) [
-    | inl low ↦ (omega arith, inl (omega arith))
-    | inr far ↦ (omega arith, inr (omega (arith, far.0)))
-  ]
-
-  scalar_of_high : (d : ℕ) → d < 64 → IsHighOfThree (a * 64 + b) → IsScalar ((a * 64 + b) * 64 + d)
-  scalar_of_high d six high = let own = s.six in elim high.1 [
-    | inl low ↦ scalar_low ((a * 64 + b) * 64 + d) (omega arith)
-    | inr far ↦ scalar_high ((a * 64 + b) * 64 + d) (omega arith) (omega arith)
-  ]
-
-  pub three_told : (d : ℕ) (r : Option ℕ) → IsTrail bytes 2 d → 0x800 ≤ (a * 64 + b) * 64 + d
-      → SomeIff r (IsScalar ((a * 64 + b) * 64 + d)) ((a * 64 + b) * 64 + d)
-      → MatchOption r (StartsWithNoChar bytes) (λ c. IsFirstPart bytes (Some c) 3)
-  three_told d None t l r = (bad_second_of_three bytes a b lead to s (λ g. r (scalar_of_high d t.six g))).no_character
-  three_told d (Some c) t l r = rw r.1 (three_found bytes a b d lead to s (high_of_scalar d t.six l r.0) t)
 
   pub no_three : StartsWithNoChar bytes → IsHighOfThree (a * 64 + b) → IsIllFormedPart bytes 2
   no_three none high = not_third_of_three bytes a b lead to s high

@@ -2,6 +2,8 @@
 use Rattle.std.proofs.Common.{◌≡◌, ◌∙◌, ℕ, ◌+◌, ◌*◌, ◌<◌, ◌≤◌, List, [], ◌∷◌, ◌++◌, length, get_or, take, drop, ap, sym, arith, inl, inr, Option, Some, None, encode_utf8}
 use Rattle.std.specs.Prelude.{◌⊎◌}
 use Rattle.std.specs.Char.{IsScalar, len_utf8}
+use Rattle.std.specs.Option.{MatchOption, SomeIff}
+use Rattle.std.specs.Str.{StartsWithNoChar}
 use Rattle.std.proofs.lemmas.List.{append-nil, get_or-take, length-append, length-drop, length-take-le}
 use Rattle.std.proofs.Math.Seq.{take-append_seam}
 use Rattle.std.proofs.lemmas.Str.{len_utf8_bounds, length-encode}
@@ -18,6 +20,12 @@ found c own rest h = (
   sym (length-encode c) ∙ ap (λ (bs : List ℕ). length bs) h.encoded,
   ap (λ (bs : List ℕ). bs ++ rest) (sym h.encoded),
 )
+
+-- The number of the character at the start of the bytes is made a character.
+pub made_character : (bytes : List ℕ) (made : Option ℕ) (c size : ℕ) → SomeIff made (IsScalar c) c → IsFirstPart bytes (Some c) size
+    → MatchOption made (StartsWithNoChar bytes) (λ d. IsFirstPart bytes (Some d) size)
+made_character bytes None c size m p = absurd (m p.0)
+made_character bytes (Some d) c size m p = rw m.1 p
 
 pub part_of_ascii : (bytes : List ℕ) → 0 < length bytes → get_or bytes 0 0 < 128 → IsFirstPart bytes (Some (get_or bytes 0 0)) 1
 part_of_ascii [] n h = absurd (omega arith)

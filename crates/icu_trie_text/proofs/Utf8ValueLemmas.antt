@@ -1,6 +1,7 @@
 -- The items of an iterator over bytes that may be ill-formed UTF-8.
 use Rattle.std.proofs.Common.{◌≡◌, ◌∙◌, sym, ap, subst, ℕ, ◌<◌, List, [], ◌∷◌, drop, get_or, length, true, Option, Some, None, arith}
-use Rattle.std.specs.Option.{unwrap_or}
+use Rattle.std.specs.Char.{IsScalar}
+use Rattle.std.specs.Option.{SomeIff, unwrap_or}
 use Rattle.std.specs.Iterator.{Drains, Yields}
 use Rattle.std.specs.Str.{IsUtf8, StartsWithNoChar, all_scalars, chars, encode_utf8_all}
 use Rattle.std.proofs.lemmas.Bool.{and_parts}
@@ -11,6 +12,11 @@ use Rattle.icu_trie_text.specs.Utf8.{IsFirstPart}
 use Rattle.icu_trie_text.specs.Utf8Values.{AreValuesOfBytes, BytesToValue, GivesPart, IsFirstItem, part_value}
 use Rattle.icu_trie_text.specs.Values.{AreValuesOf}
 use Rattle.icu_trie_text.proofs.Utf8Parts.{part_of_ascii}
+
+-- A number that is a character is made one.
+pub character_is : (made : Option ℕ) (c : ℕ) → SomeIff made (IsScalar c) c → IsScalar c → unwrap_or made 0xFFFD ≡ c
+character_is None c m s = absurd (m s)
+character_is (Some d) c m s = m.1
 
 -- A text that is not empty starts with a character.
 pub some_begins : (bytes cs : List ℕ) → all_scalars cs ≡ true → encode_utf8_all cs ≡ bytes → 0 < length bytes → StartsWithNoChar bytes → ⊥

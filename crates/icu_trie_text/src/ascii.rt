@@ -1,8 +1,9 @@
 //! Tries whose data start with the values of ASCII.
-ghost use Rattle.std.specs.Prelude.{◌≡◌, ◌<◌, ◌≤◌, Some, None, IfSome, length, slice_get};
+ghost use Rattle.std.specs.Prelude.{◌≡◌, ◌+◌, ◌*◌, ◌<◌, ◌≤◌, Some, None, IfSome, length, slice_get};
 ghost use Rattle.icu_zerovec.specs.Slice.{slice_values};
 ghost use Rattle.icu_trie.specs.Parts.{Parts, last_cell, trie_value};
 ghost use Rattle.icu_trie_text.specs.Inside.Ascii.{HasAsciiInPlace};
+ghost use Rattle.icu_trie_text.specs.Inside.NearBlocks.{HasNearBlocks};
 
 use icu_trie::cptrie::CodePointTrie;
 use icu_trie_core::value::TrieValue;
@@ -14,26 +15,34 @@ const ASCII_END: u32 = 0x80;
 
 /// A trie for looking up many values. If its data start with the values of ASCII, as ICU's builder
 /// and this library's builder write them, such a value takes a single read.
+///
+/// It has the trie's slices itself: a loop keeps them in registers, since no call can change them.
 #[derive(Debug, Drop)]
 pub(crate) struct AsciiInPlace<'a, T: TrieValue> {
     trie: &'a CodePointTrie<'a, T>,
+    /// The index of the trie.
+    index: ZeroSlice<'a, u16>,
     /// The data of the trie.
     values: ZeroSlice<'a, T>,
     /// The code points below this number have their values at their own index in the data. It is
     /// 0x80 or 0.
     end: u32,
+    /// The number of blocks of 64 code points in the fast index.
+    blocks: u32,
 }
 
 impl<'a, T: TrieValue> Model for AsciiInPlace<'a, T> {
     ghost use Rattle.icu_zerovec.specs.Slice.{slice_values};
     ghost use Rattle.icu_trie.specs.Parts.{Parts};
     ghost use Rattle.icu_trie_text.specs.Inside.Ascii.{HasAsciiInPlace};
+    ghost use Rattle.icu_trie_text.specs.Inside.NearBlocks.{HasNearBlocks};
 
     ghost Value = { Parts T };
 
     ghost view = { λ a. a.trie.now };
 
-    ghost invariant = { λ a. HasAsciiInPlace a.trie.now (slice_values a.values) a.end };
+    ghost invariant = { λ a. HasAsciiInPlace a.trie.now (slice_values a.values) a.end
+        × HasNearBlocks a.trie.now (slice_values a.index) (slice_values a.values) a.blocks };
 }
 
 /// Returns 0x80 if the first two blocks of the trie are the first two blocks of the data, and
@@ -62,11 +71,13 @@ impl<'a, T: TrieValue> AsciiInPlace<'a, T> {
     pub(crate) fn new(trie: &'a CodePointTrie<'_, T>) -> AsciiInPlace<'a, T>
         ensures { result ≡ trie.now }
     {
-        let (_, index, values) = trie.parts();
+        let (header, index, values) = trie.parts();
         AsciiInPlace {
             trie,
+            index,
             values,
             end: ascii_end(index, values),
+            blocks: header.trie_type.fast_index_len() as u32,
         }
     }
 
@@ -83,9 +94,32 @@ impl<'a, T: TrieValue> AsciiInPlace<'a, T> {
         }
     }
 
+    /// Returns the value of the code point at index `place` in a block of 64.
+    #[inline(always)]
+    pub(crate) fn at(&self, block: u32, place: u32) -> T
+        requires place { place < 64 }
+        requires within { block * 64 + place < 0x110000 }
+        ensures { Some result ≡ trie_value self.now (block * 64 + place) }
+    {
+        if block < self.blocks {
+            let offset = self.index.at(block as usize);
+            return self.values.at(offset as usize + place as usize);
+        }
+        self.trie.get32(block * 64 + place)
+    }
+
     /// Returns the value of a character.
     #[inline(always)]
     pub(crate) fn get(&self, c: char) -> T
+        ensures { Some result ≡ trie_value self.now c }
+    {
+        let c = u32::from(c);
+        self.at(c / 64, c % 64)
+    }
+
+    /// Returns the value of a character, for those of four bytes: no fast index has their blocks.
+    #[inline(always)]
+    pub(crate) fn far(&self, c: char) -> T
         ensures { Some result ≡ trie_value self.now c }
     {
         self.trie.get(c)

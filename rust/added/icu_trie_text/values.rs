@@ -1,9 +1,7 @@
 impl<T: TrieValue> DoubleEndedIterator for ValuesOf<'_, T> {
     #[inline]
     fn next_back(&mut self) -> Option<(char, T)> {
-        let mut characters = self.rest.chars();
-        let last = characters.next_back()?;
-        self.rest = characters.as_str();
+        let last = self.rest.next_back()?;
         Some((last, self.trie.get(last)))
     }
 }
@@ -11,5 +9,5 @@ impl<T: TrieValue> DoubleEndedIterator for ValuesOf<'_, T> {
 //# ValuesOf
     #[inline]
     fn size_hint(&self) -> (usize, Option<usize>) {
-        self.rest.chars().size_hint()
+        self.rest.size_hint()
     }

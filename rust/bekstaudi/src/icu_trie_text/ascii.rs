@@ -3,20 +3,27 @@
 use crate::icu_trie::cptrie::CodePointTrie;
 use crate::icu_trie_core::value::TrieValue;
 use crate::icu_zerovec::ZeroSlice;
+use crate::support::cells::{cell_below, cell_of_first};
 
 /// The number of ASCII code points.
 const ASCII_END: u32 = 0x80;
 
 /// A trie for looking up many values. If its data start with the values of ASCII, as ICU's builder
 /// and this library's builder write them, such a value takes a single read.
+///
+/// It has the trie's slices itself: a loop keeps them in registers, since no call can change them.
 #[derive(Debug, Clone)]
 pub(crate) struct AsciiInPlace<'a, T: TrieValue> {
     trie: &'a CodePointTrie<'a, T>,
+    /// The index of the trie.
+    index: ZeroSlice<'a, u16>,
     /// The data of the trie.
     values: ZeroSlice<'a, T>,
     /// The code points below this number have their values at their own index in the data. It is
     /// 0x80 or 0.
     end: u32,
+    /// The number of blocks of 64 code points in the fast index.
+    blocks: u32,
 }
 
 /// Returns 0x80 if the first two blocks of the trie are the first two blocks of the data, and
@@ -39,27 +46,46 @@ impl<'a, T: TrieValue> AsciiInPlace<'a, T> {
     /// Borrows the trie.
     #[inline]
     pub(crate) fn new(trie: &'a CodePointTrie<'_, T>) -> AsciiInPlace<'a, T> {
-        let (_, index, values) = trie.parts();
+        let (header, index, values) = trie.parts();
         AsciiInPlace {
             trie,
+            index,
             values,
             end: ascii_end(index, values),
+            blocks: header.trie_type.fast_index_len() as u32,
         }
     }
 
     /// Returns the value of an ASCII code point if it is known to be at its own index in the data.
     #[inline(always)]
     pub(crate) fn ascii(&self, c: u32) -> Option<T> {
-        if c < self.end {
-            Some(self.values.at(c as usize))
-        } else {
-            None
+        T::from_unaligned(cell_of_first(
+            self.values.as_bytes(),
+            T::WIDTH,
+            self.end as usize,
+            c as usize,
+        )?)
+    }
+
+    /// Returns the value of the code point at index `place` in a block of 64.
+    #[inline(always)]
+    pub(crate) fn at(&self, block: u32, place: u32) -> T {
+        if let Some(offset) = cell_below(self.index.as_bytes(), self.blocks, 0, block) {
+            return self.values.at(offset as usize + place as usize);
         }
+        self.trie.get32(block * 64 + place)
     }
 
     /// Returns the value of a character.
     #[inline(always)]
     pub(crate) fn get(&self, c: char) -> T {
+        let c = u32::from(c);
+        self.at(c / 64, c % 64)
+    }
+
+    /// Returns the value of a character, for those of four bytes: no fast index has their blocks.
+    #[inline(always)]
+    pub(crate) fn far(&self, c: char) -> T {
         self.trie.get(c)
     }
 

@@ -13,31 +13,47 @@ fn trail_bits(bytes: &[u8], place: usize) -> Option<u32> {
     Some(byte - 0x80)
 }
 
+/// Returns the block of 64 code points and the index in it of the character at the start of the
+/// bytes, or `None` if there is none. The first byte is the lead byte of two.
+#[inline(always)]
+pub(crate) fn place_of_two(bytes: &[u8]) -> Option<(u32, u32)> {
+    let first = u32::from(bytes[0]) - 0xC0;
+    let second = trail_bits(bytes, 1)?;
+    Some((first, second))
+}
+
 /// Returns the character at the start of the bytes, or `None` if there is none. The first byte is
 /// the lead byte of two.
 #[inline(always)]
 pub(crate) fn of_two(bytes: &[u8]) -> Option<char> {
-    let first = u32::from(bytes[0]) - 0xC0;
-    let second = trail_bits(bytes, 1)?;
-    char::from_u32(first * 64 + second)
+    let (block, place) = place_of_two(bytes)?;
+    char::from_u32(block * 64 + place)
 }
 
-/// Returns the character at the start of the bytes, or `None` if there is none. The first byte is
-/// the lead byte of three. Overlong sequences and surrogates are not characters. The length is
-/// checked once, for all reads.
+/// Returns the block of 64 code points and the index in it of the character at the start of the
+/// bytes, or `None` if there is none. The first byte is the lead byte of three. Overlong sequences
+/// and surrogates are not characters. The length is checked once, for all reads.
 #[inline(always)]
-pub(crate) fn of_three(bytes: &[u8]) -> Option<char> {
+pub(crate) fn place_of_three(bytes: &[u8]) -> Option<(u32, u32)> {
     if bytes.len() < 3 {
         return None;
     }
     let first = u32::from(bytes[0]) - 0xE0;
     let second = trail_bits(bytes, 1)?;
     let third = trail_bits(bytes, 2)?;
-    let code_point = (first * 64 + second) * 64 + third;
-    if code_point < 0x800 {
+    let block = first * 64 + second;
+    if !is_high_of_three(block) {
         return None;
     }
-    char::from_u32(code_point)
+    Some((block, third))
+}
+
+/// Returns the character at the start of the bytes, or `None` if there is none. The first byte is
+/// the lead byte of three.
+#[inline(always)]
+pub(crate) fn of_three(bytes: &[u8]) -> Option<char> {
+    let (block, place) = place_of_three(bytes)?;
+    char::from_u32(block * 64 + place)
 }
 
 /// Returns the character at the start of the bytes, or `None` if there is none. The first byte is

@@ -12,7 +12,7 @@ use crate::icu_trie_text::first::first_value;
 #[must_use = "iterators are lazy and do nothing unless consumed"]
 pub struct ValueIndicesOf<'a, T: TrieValue> {
     trie: AsciiInPlace<'a, T>,
-    rest: &'a str,
+    rest: core::str::Chars<'a>,
     /// The length of the whole text in bytes.
     end: usize,
 }
@@ -40,7 +40,7 @@ pub fn value_indices_of<'a, T: TrieValue>(
 ) -> ValueIndicesOf<'a, T> {
     ValueIndicesOf {
         trie: AsciiInPlace::new(trie),
-        rest: text,
+        rest: text.chars(),
         end: text.len(),
     }
 }
@@ -50,24 +50,21 @@ impl<'a, T: TrieValue> Iterator for ValueIndicesOf<'a, T> {
 
     #[inline]
     fn next(&mut self) -> Option<(usize, char, T)> {
-        let offset = self.end - self.rest.len();
-        let (item, rest) = first_value(&self.trie, self.rest)?;
-        self.rest = rest;
-        Some((offset, item.0, item.1))
+        let offset = self.end - self.rest.as_str().len();
+        let (c, value) = first_value(&self.trie, &mut self.rest)?;
+        Some((offset, c, value))
     }
 
     #[inline]
     fn size_hint(&self) -> (usize, Option<usize>) {
-        self.rest.chars().size_hint()
+        self.rest.size_hint()
     }
 }
 
 impl<T: TrieValue> DoubleEndedIterator for ValueIndicesOf<'_, T> {
     #[inline]
     fn next_back(&mut self) -> Option<(usize, char, T)> {
-        let mut characters = self.rest.chars();
-        let last = characters.next_back()?;
-        self.rest = characters.as_str();
+        let last = self.rest.next_back()?;
         self.end -= last.len_utf8();
         Some((self.end, last, self.trie.get(last)))
     }

@@ -3,7 +3,7 @@
 use crate::icu_trie::cptrie::CodePointTrie;
 use crate::icu_trie_core::value::TrieValue;
 use crate::icu_trie_text::ascii::AsciiInPlace;
-use crate::icu_trie_text::first_utf8::{ill_formed_size, of_four, of_three, of_two};
+use crate::icu_trie_text::first_utf8::{ill_formed_size, of_four, place_of_three, place_of_two};
 
 /// An iterator over the characters of bytes that may be ill-formed UTF-8, each with its value in a
 /// trie.
@@ -43,16 +43,28 @@ pub fn values_of_utf8<'a, T: TrieValue>(
     }
 }
 
-/// Returns the item of the character `c`, which is the first `size` of the bytes, and what follows
-/// it.
+/// Returns the item of a character, by its block of 64 and the index in it, and what follows it.
+/// The character is the first `size` of the bytes.
 #[inline(always)]
 fn item_of<'b, T: TrieValue>(
     trie: &AsciiInPlace<'_, T>,
     bytes: &'b [u8],
-    c: char,
+    at: (u32, u32),
     size: usize,
 ) -> ((char, T), &'b [u8]) {
-    ((c, trie.get(c)), &bytes[size..])
+    // Without a jump, so that the compiler removes the character if the caller drops it.
+    let c = char::from_u32(at.0 * 64 + at.1).unwrap_or(char::REPLACEMENT_CHARACTER);
+    ((c, trie.at(at.0, at.1)), &bytes[size..])
+}
+
+/// Returns the item of a character of four bytes, and what follows it.
+#[inline(always)]
+fn item_of_four<'b, T: TrieValue>(
+    trie: &AsciiInPlace<'_, T>,
+    bytes: &'b [u8],
+    c: char,
+) -> ((char, T), &'b [u8]) {
+    ((c, trie.far(c)), &bytes[4..])
 }
 
 /// Returns the item of the character at the start of the bytes, which are not empty, and what
@@ -66,16 +78,21 @@ fn character_item<'b, T: TrieValue>(
     let lead = bytes[0];
     if lead < 0xE0 {
         if lead < 0x80 {
-            return Some(item_of(trie, bytes, char::from(lead), 1));
+            return Some(item_of(
+                trie,
+                bytes,
+                (u32::from(lead / 64), u32::from(lead % 64)),
+                1,
+            ));
         }
         if lead < 0xC2 {
             return None;
         }
-        Some(item_of(trie, bytes, of_two(bytes)?, 2))
+        Some(item_of(trie, bytes, place_of_two(bytes)?, 2))
     } else if lead < 0xF0 {
-        Some(item_of(trie, bytes, of_three(bytes)?, 3))
+        Some(item_of(trie, bytes, place_of_three(bytes)?, 3))
     } else {
-        Some(item_of(trie, bytes, of_four(bytes)?, 4))
+        Some(item_of_four(trie, bytes, of_four(bytes)?))
     }
 }
 

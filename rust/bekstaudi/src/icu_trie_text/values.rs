@@ -12,7 +12,7 @@ use crate::icu_trie_text::first::first_value;
 #[must_use = "iterators are lazy and do nothing unless consumed"]
 pub struct ValuesOf<'a, T: TrieValue> {
     trie: AsciiInPlace<'a, T>,
-    rest: &'a str,
+    rest: core::str::Chars<'a>,
 }
 
 /// Returns an iterator over the characters of the text in order, each with its value in the trie.
@@ -36,7 +36,7 @@ pub fn values_of<'a, T: TrieValue>(
 ) -> ValuesOf<'a, T> {
     ValuesOf {
         trie: AsciiInPlace::new(trie),
-        rest: text,
+        rest: text.chars(),
     }
 }
 
@@ -45,23 +45,19 @@ impl<'a, T: TrieValue> Iterator for ValuesOf<'a, T> {
 
     #[inline]
     fn next(&mut self) -> Option<(char, T)> {
-        let (item, rest) = first_value(&self.trie, self.rest)?;
-        self.rest = rest;
-        Some(item)
+        first_value(&self.trie, &mut self.rest)
     }
 
     #[inline]
     fn size_hint(&self) -> (usize, Option<usize>) {
-        self.rest.chars().size_hint()
+        self.rest.size_hint()
     }
 }
 
 impl<T: TrieValue> DoubleEndedIterator for ValuesOf<'_, T> {
     #[inline]
     fn next_back(&mut self) -> Option<(char, T)> {
-        let mut characters = self.rest.chars();
-        let last = characters.next_back()?;
-        self.rest = characters.as_str();
+        let last = self.rest.next_back()?;
         Some((last, self.trie.get(last)))
     }
 }

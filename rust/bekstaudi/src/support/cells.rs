@@ -78,12 +78,19 @@ pub(crate) fn proved_cell(bytes: &[u8], width: usize, i: usize) -> &[u8] {
     unsafe { bytes.get_unchecked(i * width..(i + 1) * width) }
 }
 
+/// Returns cell `i` of the first `count` cells of `width` bytes, or `None` if there is none. It takes
+/// one test, that of a slice that ends there.
+#[allow(dead_code)] // Only the library uses it.
+#[inline(always)]
+pub(crate) fn cell_of_first(bytes: &[u8], width: usize, count: usize, i: usize) -> Option<&[u8]> {
+    cell(&bytes[..bytes.len().min(count * width)], width, i)
+}
+
 /// Returns the cell of `c`, two bytes, as a number, or `None` if `c` is `limit` or greater. Below,
 /// each `1 << shift` numbers have a cell.
 ///
 /// One test finds out both whether `c` is below the limit and whether there is a cell: that of a
 /// slice that ends at the limit.
-#[cfg(not(feature = "proved-reads"))]
 #[allow(dead_code)] // Only the library uses it.
 #[inline(always)]
 pub(crate) fn cell_below(bytes: &[u8], limit: u32, shift: i32, c: u32) -> Option<u16> {
@@ -99,7 +106,6 @@ pub(crate) fn cell_below(bytes: &[u8], limit: u32, shift: i32, c: u32) -> Option
 }
 
 /// Tells the compiler that the path on which it is called is rare.
-#[cfg(not(feature = "proved-reads"))]
 #[allow(dead_code)]
 #[cold]
 #[inline(always)]
