@@ -360,11 +360,12 @@ EDITS = {
         (r"\n +error_value(?:: self\.error_value)?,(?=\n +\})", "", 2),
         (r"self\.error_value(?=\n)", "self.without_answer()", 1),
         # With each read tested, one test finds out whether a code point is below the fast limit and
-        # whether it has a cell.
+        # whether it has a cell. The limit is computed: LLVM repeats a choice between
+        # two limits for each character.
         (
             r"( +)(?=if c < trie_type\.fast_limit\(\) \{\n)",
             r'\1#[cfg(not(feature = "proved-reads"))]\n'
-            r"\1if let Some(offset) = cell_below(index.as_bytes(), trie_type.fast_limit(), FAST_TYPE_SHIFT, c) {\n"
+            r"\1if let Some(offset) = cell_below(index.as_bytes(), 0x1000 << (4 * u32::from(trie_type == TrieType::Fast)), FAST_TYPE_SHIFT, c) {\n"
             r"\1    return data.at(offset as usize + (c & FAST_TYPE_DATA_MASK) as usize);\n\1}\n"
             r'\1#[cfg(feature = "proved-reads")]\n\1',
             2,

@@ -185,9 +185,12 @@ impl<'trie, T: TrieValue> CodePointTrie<'trie, T> {
     pub(crate) fn value_by_type(&self, trie_type: TrieType, c: u32) -> T {
         let (index, data) = (self.index.as_slice(), self.data.as_slice());
         #[cfg(not(feature = "proved-reads"))]
-        if let Some(offset) =
-            cell_below(index.as_bytes(), trie_type.fast_limit(), FAST_TYPE_SHIFT, c)
-        {
+        if let Some(offset) = cell_below(
+            index.as_bytes(),
+            0x1000 << (4 * u32::from(trie_type == TrieType::Fast)),
+            FAST_TYPE_SHIFT,
+            c,
+        ) {
             return data.at(offset as usize + (c & FAST_TYPE_DATA_MASK) as usize);
         }
         #[cfg(feature = "proved-reads")]
@@ -214,9 +217,12 @@ impl<'trie, T: TrieValue> CodePointTrie<'trie, T> {
         let c = c as u32;
         let (index, data) = (self.index.as_slice(), self.data.as_slice());
         #[cfg(not(feature = "proved-reads"))]
-        if let Some(offset) =
-            cell_below(index.as_bytes(), trie_type.fast_limit(), FAST_TYPE_SHIFT, c)
-        {
+        if let Some(offset) = cell_below(
+            index.as_bytes(),
+            0x1000 << (4 * u32::from(trie_type == TrieType::Fast)),
+            FAST_TYPE_SHIFT,
+            c,
+        ) {
             return data.at(offset as usize + (c & FAST_TYPE_DATA_MASK) as usize);
         }
         #[cfg(feature = "proved-reads")]
