@@ -223,3 +223,54 @@ module _ {T : Type 0} (value : Option ℕ → Option T) where
 pub rest_after : (bytes rest : List ℕ) (i n : ℕ) → rest ≡ drop i bytes → take (length rest - n) (drop n rest) ≡ drop (i + n) bytes
 rest_after bytes rest i n e =
     take_rest rest n ∙ ap (drop n) e ∙ drop-drop n i bytes ∙ ap (λ k. drop k bytes) (omega arith)
+
+-- Where what is left of bytes starts.
+pub left_from : (bytes rest : List ℕ) (i : ℕ) → rest ≡ drop i bytes → i ≤ length bytes
+    → (length bytes - length rest ≡ i) × (length rest ≤ length bytes) × (rest ≡ drop (length bytes - length rest) bytes)
+left_from bytes rest i e l =
+    let long : length rest ≡ length bytes - i = ap length e ∙ length-drop i bytes in
+    let same : length bytes - length rest ≡ i = omega (arith, long, l) in
+    (same, omega (arith, long), e ∙ ap (λ k. drop k bytes) (sym same))
+
+-- ---- copying up to what is left of the bytes
+pub left_within : (bytes rest : List ℕ) (n : ℕ) → length rest ≤ length bytes
+    → length (take (length rest - n) (drop n rest)) ≤ length bytes
+left_within bytes rest n l = rw (take_rest rest n) (omega (arith, length-drop n rest, l))
+
+pub room_after : {T : Type 0} (new : List T) (count : ℕ) (x : T) → count < length new → count + 1 ≤ length (set new count x)
+room_after new count x l = omega (arith, length-set new count x, l)
+
+module _ {T : Type 0} (value : Option ℕ → Option T) (bytes : List ℕ) (old : List T) where
+  -- The values of the bytes before `rest`, which is what is left of them, are in the buffer.
+  abbrev pub AreCopiedUpTo : List T → List ℕ → ℕ → Type 0
+  AreCopiedUpTo new rest count = AreCopiedParts value bytes old new (length bytes - length rest) count
+      × (rest ≡ drop (length bytes - length rest) bytes) × (length rest ≤ length bytes)
+
+  pub up_to_more : (new : List T) (rest : List ℕ) (count n : ℕ) (x : T) → AreCopiedUpTo new rest count
+      → HasFirstValue value rest x n → count < length new
+      → AreCopiedUpTo (set new count x) (take (length rest - n) (drop n rest)) (count + 1)
+  up_to_more new rest count n x u v room =
+      let i : ℕ = length bytes - length rest in
+      let fits = (part_size rest v.0 n v.1).1 in
+      let inside = u.2 in
+      let left = left_from bytes (take (length rest - n) (drop n rest)) (i + n) (rest_after bytes rest i n u.1)
+      (omega (arith, fits, inside)) in
+      (rw left.0 (copied_more value bytes old new i count n x u.0 (rw u.1 at v) room), left.2, left.1)
+
+  pub up_to_eight : (new after : List T) (rest : List ℕ) (count : ℕ) → AreCopiedUpTo new rest count
+      → ((k : ℕ) → k < 8 → get_or rest k 0 < 128 → value (Some (get_or rest k 0)) ≡ slice_get after (count + k))
+      → ((k : ℕ) → (k < count) ⊎ (count + 8 ≤ k) → slice_get after k ≡ slice_get new k)
+      → length after ≡ length new → 32 ≤ length rest → count + 9 ≤ length new
+      → (c : ℕ) → c ≤ 8 → ((k : ℕ) → k < c → get_or rest k 0 < 128)
+      → AreCopiedUpTo after (take (length rest - c) (drop c rest)) (count + c)
+  up_to_eight new after rest count u put kept same long room c few ascii =
+      let i : ℕ = length bytes - length rest in
+      let inside = u.2 in
+      let left = left_from bytes (take (length rest - c) (drop c rest)) (i + c) (rest_after bytes rest i c u.1)
+      (omega (arith, few, long, inside)) in (
+        rw left.0
+            (copied_eight value bytes old new after i count u.0 (rw u.1 at put) kept same (omega (arith, inside, long)) room c few
+            (λ k l. rw u.1 at (ascii k l))),
+        left.2,
+        left.1,
+      )

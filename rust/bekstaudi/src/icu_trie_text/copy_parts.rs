@@ -1,7 +1,7 @@
 //! The values of the parts of bytes that may be ill-formed UTF-8, written to a buffer.
 
 use crate::icu_trie_text::first_utf8::{
-    ill_formed_size, is_high_of_four, is_high_of_three, of_four, of_three, of_two,
+    ill_formed_size, is_high_of_four, of_four, of_three, of_two,
 };
 
 /// How many values a function copied to a buffer, and how many bytes of the text they stand for.
@@ -190,7 +190,12 @@ fn near_three<T, V: PartValues<T>>(trie: &V, bytes: &[u8]) -> Option<T> {
         return None;
     }
     let block = u32::from(bytes[0] - 0xE0) * 64 + u32::from(second);
-    if !is_high_of_three(block) {
+    // Two comparisons for most characters. LLVM computes all three of `is_high_of_three`.
+    if block < 0x360 {
+        if block < 0x20 {
+            return None;
+        }
+    } else if block < 0x380 {
         return None;
     }
     if block >= trie.blocks() {
@@ -237,13 +242,69 @@ fn near_value<T, V: PartValues<T>>(trie: &V, bytes: &[u8]) -> (T, usize) {
     first_value(trie, bytes)
 }
 
+/// Returns the value of the first part of the bytes, and its size in bytes, if it is a character of
+/// several bytes, or an ASCII one before a byte that is not ASCII. There are at least four bytes.
+#[inline(always)]
+fn wide_value<T, V: PartValues<T>>(trie: &V, bytes: &[u8]) -> Option<(T, usize)> {
+    let lead = bytes[0];
+    if lead >= 0xE0 {
+        if lead >= 0xF0 {
+            return Some((near_four(trie, bytes)?, 4));
+        }
+        return Some((near_three(trie, bytes)?, 3));
+    }
+    if lead >= 0xC2 {
+        return Some((near_two(trie, bytes)?, 2));
+    }
+    if lead < 0x80 && bytes[1] >= 0x80 {
+        return Some((trie.ascii(lead), 1));
+    }
+    None
+}
+
+/// Writes more values, as long as `wide_value` has that of the next part, and many bytes and much
+/// of the buffer are left. It is a call, so that it keeps its registers.
+#[inline(never)]
+fn copy_wide<T: Copy, V: PartValues<T>>(
+    trie: &V,
+    bytes: &[u8],
+    values: &mut [T],
+    front: Copied,
+) -> Copied {
+    let mut rest = &bytes[front.bytes..];
+    let mut j = front.values;
+    while rest.len() >= BYTES_AHEAD && values.len() - j >= ROOM_AHEAD {
+        let Some((value, size)) = wide_value(trie, rest) else {
+            return Copied {
+                values: j,
+                bytes: bytes.len() - rest.len(),
+            };
+        };
+        values[j] = value;
+        rest = &rest[size..];
+        j += 1;
+    }
+    Copied {
+        values: j,
+        bytes: bytes.len() - rest.len(),
+    }
+}
+
+/// Returns true if the bytes start with one that is not ASCII.
+#[inline(always)]
+fn starts_wide(bytes: &[u8]) -> bool {
+    match bytes.first() {
+        Some(lead) => *lead >= 0x80,
+        None => false,
+    }
+}
+
 /// Writes the values of the first parts of the bytes, as long as many bytes and much of the buffer
 /// are left. If the next byte is ASCII, a step writes the values of eight bytes without a test of
-/// each.
+/// each. Texts with few ASCII characters in a row have a loop of their own.
 #[inline(always)]
 fn copy_front<T: Copy, V: PartValues<T>>(trie: &V, bytes: &[u8], values: &mut [T]) -> Copied {
     let mut rest = bytes;
-    let mut i = 0;
     let mut j = 0;
     while rest.len() >= BYTES_AHEAD && values.len() - j >= ROOM_AHEAD {
         if rest[0] < 0x80 {
@@ -251,23 +312,29 @@ fn copy_front<T: Copy, V: PartValues<T>>(trie: &V, bytes: &[u8], values: &mut [T
             put_eight(trie, rest, values, j);
             if count == 8 {
                 rest = &rest[8..];
-                i += 8;
                 j += 8;
                 continue;
             }
             rest = &rest[count..];
-            i += count;
             j += count;
         }
         let (value, size) = near_value(trie, rest);
         values[j] = value;
         rest = &rest[size..];
-        i += size;
         j += 1;
+        if starts_wide(rest) {
+            let front = Copied {
+                values: j,
+                bytes: bytes.len() - rest.len(),
+            };
+            let ahead = copy_wide(trie, bytes, values, front);
+            rest = &bytes[ahead.bytes..];
+            j = ahead.values;
+        }
     }
     Copied {
         values: j,
-        bytes: i,
+        bytes: bytes.len() - rest.len(),
     }
 }
 

@@ -1,8 +1,9 @@
-use Rattle.std.proofs.Common.{◌≡◌, ℕ, ◌+◌, ◌*◌, ◌<◌, get_or, Some, arith}
+use Rattle.std.proofs.Common.{◌≡◌, ℕ, ◌+◌, ◌*◌, ◌<◌, get_or, Some, arith, inl, inr}
 use Rattle.std.proofs.lemmas.Nat.{le_or_l, le_or_r}
-use Rattle.icu_trie_text.specs.Inside.Trails.{IsTrail}
+use Rattle.icu_trie_text.specs.Inside.Trails.{IsHighOfThree, IsTrail}
 use Rattle.icu_trie_text.proofs.Utf8Parts.{three_found}
 use Rattle.icu_trie_text.proofs.copy_parts.near_three.Goals as goal
+use Rattle.icu_trie_text.proofs.copy_parts.near_three.Goals.{then-block-lt864+else-block-lt32, else-block-lt864+else-block-lt896}
 
 pub near-requires-clause-place : goal.near-requires-clause-place
 near-requires-clause-place g c =
@@ -29,7 +30,10 @@ returns g c =
       byte = omega (arith, c.from-3.ensures, c.trail_of-third.ensures small_too);
       six = omega (arith, c.from-3.ensures, small_too);
     } in
-    let high = c.is_high_of_three.ensures.0 c.if-not-is_high_of_three.false in (
+    let high : IsHighOfThree (a * 64 + b) = elim c.if-block-lt864.branch [
+      | then-block-lt864+else-block-lt32 w ↦ (omega (arith, w.if-block-lt32.false), inl (omega (arith, w.if-block-lt864.true)))
+      | else-block-lt864+else-block-lt896 w ↦ (omega (arith, w.if-block-lt864.false), inr (omega (arith, w.if-block-lt896.false)))
+    ] in (
       Some ((a * 64 + b) * 64 + d),
       three_found bytes a b d lead (omega (arith, lead, c.requires.to)) second high third,
       c.near.ensures,
