@@ -1,7 +1,8 @@
 -- The entries of a trie, in lines.
-use Rattle.std.specs.Prelude.{◌≡◌, ℕ, ℤ, ◌==◌, ◌&&◌, not, Bool, true, false, List, [], ◌∷◌, ◌++◌, length, All, Any}
+use Rattle.std.specs.Prelude.{◌≡◌, ℕ, ℤ, ◌==◌, ◌&&◌, not, Bool, true, List, [], ◌∷◌, ◌++◌, length, All, Option}
 use Rattle.std.specs.Fmt.{signed_decimal}
-use Rattle.std.specs.List.{flat_map, list_any}
+use Rattle.std.specs.List.{find, flat_map, list_any}
+use Rattle.std.specs.Option.{option_map}
 use Rattle.std.specs.Str.{chars}
 use Rattle.icu_char16trie.specs.LossyText.{key_text}
 use Rattle.icu_char16trie.specs.UnitMap.{UnitMap}
@@ -36,6 +37,7 @@ pub record AreRowsOf (m : UnitMap) (text : List ℕ) : Type 0 where
   pub rows : text ≡ rows_text m
   pub keys : All HasRow m
 
--- Some entry has this text as its key, which no line can have.
-abbrev pub HasNoRow : UnitMap → List ℕ → Type 0
-HasNoRow m text = Any (λ e. key_text e.0 ≡ text) m × (can_be_key text ≡ false)
+-- The first key that no line can have, if there is one.
+abbrev pub first_without_row : UnitMap → Option (List ℕ)
+first_without_row m =
+    option_map (λ e. key_text e.0) (find (λ e. not (can_be_key (key_text e.0))) m)

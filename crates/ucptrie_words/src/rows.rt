@@ -1,11 +1,11 @@
 //! The entries of a trie, in lines.
-ghost use Rattle.std.specs.Prelude.{◌≡◌, ◌==◌, ◌++◌, ◌⊎◌, ℕ, String, false, true, IfErr, IfOk, OnOk, string_bytes};
+ghost use Rattle.std.specs.Prelude.{◌≡◌, ◌==◌, ◌++◌, ◌⊎◌, ℕ, Some, String, false, true, IfErr, IfOk, OnOk, string_bytes};
 ghost use Rattle.std.specs.Global.{Global};
 ghost use Rattle.std.specs.List.{list_any};
 ghost use Rattle.std.specs.Str.{chars};
 ghost use Rattle.icu_char16trie.specs.Grammar.{IsTrieOf};
 ghost use Rattle.icu_char16trie.specs.UnitMap.{UnitMap};
-ghost use Rattle.ucptrie_words.specs.Rows.{AreRowsOf, HasNoRow, can_be_key, line_of};
+ghost use Rattle.ucptrie_words.specs.Rows.{AreRowsOf, can_be_key, first_without_row, line_of};
 ghost use Rattle.ucptrie_words.specs.declared.fault.RowsFault.TheVariants.{Key, Memory};
 
 use crate::fault::RowsFault;
@@ -66,7 +66,7 @@ pub(crate) fn rows_text(alloc: Global, trie: &Char16Trie<'_>) -> Result<String, 
     ensures rows { (m : UnitMap) → IsTrieOf trie.now m
         → IfOk result (λ text. AreRowsOf m (string_bytes text)) }
     ensures key { (m : UnitMap) (key : String Global) → IsTrieOf trie.now m
-        → IfErr result (λ e. e ≡ Key key → HasNoRow m (string_bytes key)) }
+        → IfErr result (λ e. e ≡ Key key → first_without_row m ≡ Some (string_bytes key)) }
 {
     let mut text = String::new(alloc);
     let mut entries = trie.entries(alloc);

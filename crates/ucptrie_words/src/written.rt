@@ -1,11 +1,11 @@
 //! A trie as the bytes of a file.
-ghost use Rattle.std.specs.Prelude.{◌≡◌, IfErr, IfOk, String, string_bytes};
+ghost use Rattle.std.specs.Prelude.{◌≡◌, IfErr, IfOk, Some, String, string_bytes};
 ghost use Rattle.std.specs.Global.{Global};
 ghost use Rattle.std.specs.List.{flat_map};
 ghost use Rattle.icu_zerovec.specs.PackedBytes.{low_bytes};
 ghost use Rattle.icu_char16trie.specs.Grammar.{IsTrieOf};
 ghost use Rattle.icu_char16trie.specs.UnitMap.{UnitMap};
-ghost use Rattle.ucptrie_words.specs.Rows.{AreRowsOf, HasNoRow};
+ghost use Rattle.ucptrie_words.specs.Rows.{AreRowsOf, first_without_row};
 ghost use Rattle.ucptrie_words.specs.declared.fault.RowsFault.TheVariants.{Key};
 
 use crate::fault::RowsFault;
@@ -45,7 +45,7 @@ pub fn written(alloc: Global, trie: &Char16Trie<'_>, form: Form<'_>) -> Result<V
     ensures rows { form.entry ≡ Form.Rows → (m : UnitMap) → IsTrieOf trie.now m
         → IfOk result (λ bytes. AreRowsOf m bytes.items) }
     ensures key { (m : UnitMap) (key : String Global) → IsTrieOf trie.now m
-        → IfErr result (λ e. e ≡ Key key → HasNoRow m (string_bytes key)) }
+        → IfErr result (λ e. e ≡ Key key → first_without_row m ≡ Some (string_bytes key)) }
     ensures only_rows { (key : String Global)
         → IfErr result (λ e. e ≡ Key key → form.entry ≡ Form.Rows) }
 {
