@@ -2,3 +2,4 @@ pub mod Lines
 pub mod Words
 pub mod Rows
 pub mod Units
+pub mod Messages

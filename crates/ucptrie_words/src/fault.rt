@@ -1,5 +1,6 @@
 //! What is wrong with a line, and why there is no trie or no text.
-ghost use Rattle.std.specs.Prelude.{◌≡◌};
+ghost use Rattle.std.specs.Prelude.{◌≡◌, ◌++◌, Some, codes};
+ghost use Rattle.ucptrie_words.specs.Messages.{expected_text, rows_fault_text, units_text, words_text};
 ghost use Rattle.ucptrie_words.specs.declared.fault.RowsFault.TheVariants.{Memory as RowsMemory};
 
 use icu_zerovec::MemoryError;
@@ -28,7 +29,9 @@ pub enum LineFault {
 
 impl LineFault {
     /// Returns what the test that failed expects of a line, in words.
-    pub fn expected(self) -> &'static str {
+    pub fn expected(self) -> &'static str
+        ensures { result.now ≡ expected_text self }
+    {
         match self {
             LineFault::NoSeparator => "KEY;VALUE",
             LineFault::NoKey => "a key before the last `;`",
@@ -42,6 +45,8 @@ impl LineFault {
 }
 
 impl fmt::Display for LineFault {
+    ghost output = { λ fault. Some (codes "expected " ++ expected_text fault) };
+
     fn fmt<W: fmt::Write>(&self, f: &mut fmt::Formatter<W>) -> fmt::Result {
         let expected = self.expected();
         write!(f, "expected {expected}")
@@ -62,6 +67,8 @@ pub enum WordsFault {
 }
 
 impl fmt::Display for WordsFault {
+    ghost output = { λ fault. Some (words_text fault) };
+
     fn fmt<W: fmt::Write>(&self, f: &mut fmt::Formatter<W>) -> fmt::Result {
         match self {
             WordsFault::Line(number, fault) => write!(f, "line {number}: {fault}"),
@@ -85,6 +92,8 @@ pub enum UnitsFault {
 }
 
 impl fmt::Display for UnitsFault {
+    ghost output = { λ fault. Some (units_text fault) };
+
     fn fmt<W: fmt::Write>(&self, f: &mut fmt::Formatter<W>) -> fmt::Result {
         f.write_str(match self {
             UnitsFault::HalfUnit => "expected units of two bytes, found an odd number of bytes",
@@ -107,6 +116,8 @@ pub enum RowsFault {
 }
 
 impl fmt::Display for RowsFault {
+    ghost output = { λ fault. Some (rows_fault_text fault) };
+
     fn fmt<W: fmt::Write>(&self, f: &mut fmt::Formatter<W>) -> fmt::Result {
         match self {
             RowsFault::Key(_) => f.write_str("no line can have a key"),
