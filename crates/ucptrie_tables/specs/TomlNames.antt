@@ -44,24 +44,37 @@ with_texts number names [] = Some names
 with_texts number names (d ∷ ds) =
     option_and_then (λ more. with_texts number more ds) (with_text number names d)
 
--- The names, and those at a key of a table, if the table has the key: a text, or an array of texts.
-abbrev pub with_names_at : Bool → List ℕ → ℕ → List (List ℕ × ℕ) → Members
+-- The names, and the items of an array of the file as names of a number.
+abbrev pub with_array : ℕ → List (List ℕ × ℕ) → Data → Option (List (List ℕ × ℕ))
+with_array number names d = option_and_then (with_texts number names) (items_in d)
+
+-- The names, and a value of the file if there is one, as `with` adds it.
+abbrev pub with_optional : (List (List ℕ × ℕ) → Data → Option (List (List ℕ × ℕ)))
+    → List (List ℕ × ℕ) → Option Data → Option (List (List ℕ × ℕ))
+with_optional with names None = Some names
+with_optional with names (Some d) = with names d
+
+-- The names, and the text at a key of a table, if the table has the key.
+abbrev pub with_name_at : List ℕ → ℕ → List (List ℕ × ℕ) → Members
     → Option (List (List ℕ × ℕ))
-with_names_at is_array key number names table = with_optional (get_member key table) where
-  with_optional : Option Data → Option (List (List ℕ × ℕ))
-  with_optional None = Some names
-  with_optional (Some d) = if is_array then option_and_then (with_texts number names) (items_in d)
-      else with_text number names d
+with_name_at key number names table =
+    with_optional (with_text number) names (get_member key table)
+
+-- The names, and the texts of the array at a key of a table, if the table has the key.
+abbrev pub with_names_at : List ℕ → ℕ → List (List ℕ × ℕ) → Members
+    → Option (List (List ℕ × ℕ))
+with_names_at key number names table =
+    with_optional (with_array number) names (get_member key table)
 
 -- The names, and those in the table of a value with this number: its long name, its short one, the
 -- only one in a range, and its other ones.
 abbrev pub with_value : ℕ → List (List ℕ × ℕ) → Members → Option (List (List ℕ × ℕ))
 with_value number names table =
     option_and_then (λ two. option_and_then (λ three. option_and_then (λ four.
-    with_names_at true (codes "aliases") number four table)
-    (with_names_at false (codes "name") number three table))
-    (with_names_at false (codes "short") number two table))
-    (with_names_at false (codes "long") number names table)
+    with_names_at (codes "aliases") number four table)
+    (with_name_at (codes "name") number three table))
+    (with_name_at (codes "short") number two table))
+    (with_name_at (codes "long") number names table)
 
 -- ---- The values of a property
 

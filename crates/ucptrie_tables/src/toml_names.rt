@@ -5,7 +5,7 @@ ghost use Rattle.std.specs.Prelude.{◌≡◌, [], Ok, IfErr, IfOk, map, option_
 ghost use Rattle.toml.specs.View.{table_view, view};
 ghost use Rattle.ucd_files.specs.Names.{pairs_of};
 ghost use Rattle.icu_trie_formats.specs.TrieToml.{items_in};
-ghost use Rattle.ucptrie_tables.specs.TomlNames.{is_name_of, items_at, names_of, number_at, with_item, with_items, with_name, with_names_at, with_text, with_texts, with_value, AreNamesOr, IsWhyNoNames};
+ghost use Rattle.ucptrie_tables.specs.TomlNames.{is_name_of, items_at, names_of, number_at, with_array, with_item, with_items, with_name, with_name_at, with_names_at, with_text, with_texts, with_value, AreNamesOr, IsWhyNoNames};
 
 use crate::read::value_at;
 use std::alloc::{AllocError, Global};
@@ -156,28 +156,54 @@ fn push_texts<'a>(
     Ok(true)
 }
 
-/// Appends the names of a number at a key, if there is a value at it: a text, or an array of texts
-/// if `is_array`. Returns whether the value is that.
+/// Appends the text at a key as a name of a number, if there is a value at it. Returns whether it
+/// is a text.
+fn push_name_at<'a>(
+    names: &mut ValueNames<'a>,
+    number: u32,
+    table: &'a Table,
+    key: &str,
+) -> Result<bool, AllocError>
+    ensures { IfOk result (λ is. AreNamesOr
+        (with_name_at key.now number (pairs_of names.old) (table_view table.now)) is
+        (pairs_of names.new)) }
+{
+    match value_at(table, key) {
+        Some(value) => push_text(names, number, value),
+        None => Ok(true),
+    }
+}
+
+/// Appends a value as an array with names of a number. Returns whether it is an array of texts.
+fn push_array<'a>(
+    names: &mut ValueNames<'a>,
+    number: u32,
+    value: &'a Value,
+) -> Result<bool, AllocError>
+    ensures { IfOk result (λ is. AreNamesOr
+        (with_array number (pairs_of names.old) (view value.now)) is (pairs_of names.new)) }
+{
+    match items_in(value) {
+        Some(items) => push_texts(names, number, items),
+        None => Ok(false),
+    }
+}
+
+/// Appends the texts of the array at a key as names of a number, if there is a value at it. Returns
+/// whether it is an array of texts.
 fn push_names_at<'a>(
     names: &mut ValueNames<'a>,
     number: u32,
     table: &'a Table,
     key: &str,
-    is_array: bool,
 ) -> Result<bool, AllocError>
     ensures { IfOk result (λ is. AreNamesOr
-        (with_names_at is_array key.now number (pairs_of names.old) (table_view table.now)) is
+        (with_names_at key.now number (pairs_of names.old) (table_view table.now)) is
         (pairs_of names.new)) }
 {
-    let Some(value) = value_at(table, key) else {
-        return Ok(true);
-    };
-    if !is_array {
-        return push_text(names, number, value);
-    }
-    match items_in(value) {
-        Some(items) => push_texts(names, number, items),
-        None => Ok(false),
+    match value_at(table, key) {
+        Some(value) => push_array(names, number, value),
+        None => Ok(true),
     }
 }
 
@@ -190,10 +216,10 @@ fn push_value<'a>(
     ensures { IfOk result (λ is. AreNamesOr
         (with_value number (pairs_of names.old) (table_view table.now)) is (pairs_of names.new)) }
 {
-    let are_texts = push_names_at(names, number, table, "long", false)?
-        && push_names_at(names, number, table, "short", false)?
-        && push_names_at(names, number, table, "name", false)?
-        && push_names_at(names, number, table, "aliases", true)?;
+    let are_texts = push_name_at(names, number, table, "long")?
+        && push_name_at(names, number, table, "short")?
+        && push_name_at(names, number, table, "name")?
+        && push_names_at(names, number, table, "aliases")?;
     Ok(are_texts)
 }
 

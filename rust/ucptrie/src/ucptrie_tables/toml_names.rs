@@ -125,24 +125,43 @@ fn push_texts<'a>(
     Ok(true)
 }
 
-/// Appends the names of a number at a key, if there is a value at it: a text, or an array of texts
-/// if `is_array`. Returns whether the value is that.
+/// Appends the text at a key as a name of a number, if there is a value at it. Returns whether it
+/// is a text.
+fn push_name_at<'a>(
+    names: &mut ValueNames<'a>,
+    number: u32,
+    table: &'a Table,
+    key: &str,
+) -> Result<bool, AllocError> {
+    match value_at(table, key) {
+        Some(value) => push_text(names, number, value),
+        None => Ok(true),
+    }
+}
+
+/// Appends a value as an array with names of a number. Returns whether it is an array of texts.
+fn push_array<'a>(
+    names: &mut ValueNames<'a>,
+    number: u32,
+    value: &'a Value,
+) -> Result<bool, AllocError> {
+    match items_in(value) {
+        Some(items) => push_texts(names, number, items),
+        None => Ok(false),
+    }
+}
+
+/// Appends the texts of the array at a key as names of a number, if there is a value at it. Returns
+/// whether it is an array of texts.
 fn push_names_at<'a>(
     names: &mut ValueNames<'a>,
     number: u32,
     table: &'a Table,
     key: &str,
-    is_array: bool,
 ) -> Result<bool, AllocError> {
-    let Some(value) = value_at(table, key) else {
-        return Ok(true);
-    };
-    if !is_array {
-        return push_text(names, number, value);
-    }
-    match items_in(value) {
-        Some(items) => push_texts(names, number, items),
-        None => Ok(false),
+    match value_at(table, key) {
+        Some(value) => push_array(names, number, value),
+        None => Ok(true),
     }
 }
 
@@ -152,10 +171,10 @@ fn push_value<'a>(
     number: u32,
     table: &'a Table,
 ) -> Result<bool, AllocError> {
-    let are_texts = push_names_at(names, number, table, "long", false)?
-        && push_names_at(names, number, table, "short", false)?
-        && push_names_at(names, number, table, "name", false)?
-        && push_names_at(names, number, table, "aliases", true)?;
+    let are_texts = push_name_at(names, number, table, "long")?
+        && push_name_at(names, number, table, "short")?
+        && push_name_at(names, number, table, "name")?
+        && push_names_at(names, number, table, "aliases")?;
     Ok(are_texts)
 }
 
