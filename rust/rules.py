@@ -212,7 +212,20 @@ EDITS = {
         (r"let start = i \* T::WIDTH;\n.*", "T::from_unaligned(cell(bytes, T::WIDTH, i)?)", 1),
         (r"match read\(bytes, i\) \{", "match T::from_unaligned(proved_cell(bytes, T::WIDTH, i)) {", 1),
         (r"bytes\.split_at\(T::WIDTH\);", "bytes.split_at_checked(T::WIDTH)?;", 1),
-        (r"(?=use crate::ule)", "use crate::support::cells::{cell, proved_cell};\n", 1),
+        (
+            r"(?=    if len::<T>\(bytes\) == 0 \{\n +return Err\(0\);)",
+            '    #[cfg(not(feature = "proved-reads"))]\n'
+            "    if let Some(found) = searched(bytes, T::WIDTH, |cell| match T::from_unaligned(cell) {\n"
+            "        Some(value) => value.cmp(x),\n        None => unreachable!(),\n    }) {\n"
+            "        return found;\n    }\n",
+            1,
+        ),
+        (
+            r"(?=use crate::ule)",
+            "use crate::support::cells::{cell, proved_cell};\n"
+            '#[cfg(not(feature = "proved-reads"))]\nuse crate::support::cells::searched;\n',
+            1,
+        ),
     ],
     # Four bytes in one read: rustc splits the read of four bytes that are checked one by one.
     "icu_invlist/codepointinvlist/cpinvlist/packing": [

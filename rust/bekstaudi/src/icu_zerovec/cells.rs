@@ -2,6 +2,8 @@
 
 use crate::icu_zerovec::ule::{AsULE, UleError};
 use crate::support::AllocError;
+#[cfg(not(feature = "proved-reads"))]
+use crate::support::cells::searched;
 use crate::support::cells::{cell, proved_cell};
 use crate::support::prelude::*;
 use core::cmp::Ordering;
@@ -120,6 +122,13 @@ fn narrowed<T: AsULE + Ord>(bytes: &[u8], x: &T) -> (usize, usize) {
 /// Searches ascending packed bytes for `x`. Returns the index of an equal value as `Ok`, or as
 /// `Err` the index at which `x` could be inserted.
 pub(crate) fn binary_search<T: AsULE + Ord>(bytes: &[u8], x: &T) -> Result<usize, usize> {
+    #[cfg(not(feature = "proved-reads"))]
+    if let Some(found) = searched(bytes, T::WIDTH, |cell| match T::from_unaligned(cell) {
+        Some(value) => value.cmp(x),
+        None => unreachable!(),
+    }) {
+        return found;
+    }
     if len::<T>(bytes) == 0 {
         return Err(0);
     }

@@ -86,6 +86,45 @@ pub(crate) fn cell_of_first(bytes: &[u8], width: usize, count: usize, i: usize) 
     cell(&bytes[..bytes.len().min(count * width)], width, i)
 }
 
+/// Searches ascending cells as std searches a slice, without a test of each index. Returns `None` if
+/// cells of this width are not searched so.
+#[cfg(not(feature = "proved-reads"))]
+#[allow(dead_code)] // Only the library uses it.
+#[inline(always)]
+pub(crate) fn searched(
+    bytes: &[u8],
+    width: usize,
+    mut compare: impl FnMut(&[u8]) -> core::cmp::Ordering,
+) -> Option<Result<usize, usize>> {
+    match width {
+        1 => Some(
+            bytes
+                .as_chunks::<1>()
+                .0
+                .binary_search_by(|cell| compare(cell)),
+        ),
+        2 => Some(
+            bytes
+                .as_chunks::<2>()
+                .0
+                .binary_search_by(|cell| compare(cell)),
+        ),
+        3 => Some(
+            bytes
+                .as_chunks::<3>()
+                .0
+                .binary_search_by(|cell| compare(cell)),
+        ),
+        4 => Some(
+            bytes
+                .as_chunks::<4>()
+                .0
+                .binary_search_by(|cell| compare(cell)),
+        ),
+        _ => None,
+    }
+}
+
 /// Returns the cell of `c`, two bytes, as a number, or `None` if `c` is `limit` or greater. Below,
 /// each `1 << shift` numbers have a cell.
 ///
