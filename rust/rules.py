@@ -313,6 +313,11 @@ EDITS = {
             "    match bytes.first_chunk::<8>() {\n        Some(eight) => u64::from_le_bytes(*eight),\n        None => 0,\n    }\n",
             1,
         ),
+        (
+            r"for k in 0\.\.8 \{\n( +)values\[j \+ k\] = trie\.ascii\(bytes\[k\] & 0x7F\);",
+            r"for (value, byte) in values[j..j + 8].iter_mut().zip(bytes) {\n\1*value = trie.ascii(byte & 0x7F);",
+            1,
+        ),
         (r"for k in 0\.\.8 \{\n +values\[j \+ k\] = eight\[k\];\n +\}", "values[j..j + 8].copy_from_slice(&eight);", 1),
     ],
     # Two types that differ in lifetimes only may have different widths, so a vector of one must not

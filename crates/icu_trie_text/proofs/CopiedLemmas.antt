@@ -71,6 +71,17 @@ module _ {T : Type 0} where
           rw same (set_same vs (j + k) x room ∙ sym is)
     ]
 
+    -- The same, if only the values of ASCII bytes count.
+    pub put_ascii : (value : ℕ → Option T) (byte : ℕ → ℕ)
+        → ((i : ℕ) → i < k → byte i < 128 → value (byte i) ≡ slice_get vs (j + i)) → (byte k < 128 → value (byte k) ≡ Some x)
+        → (i : ℕ) → i < k + 1 → byte i < 128 → value (byte i) ≡ slice_get (set vs (j + k) x) (j + i)
+    put_ascii value byte before is i l a = elim (cases_lt i k) [
+      | inl below ↦ before i below a ∙ sym (set_before vs (j + k) (j + i) x (omega (arith, below)))
+      | inr from ↦
+          let same : i ≡ k = omega (arith, from, l) in
+          rw same (is (rw same at a) ∙ sym (set_same vs (j + k) x room))
+    ]
+
     pub put_kept : k < 8 → ((i : ℕ) → (i < j) ⊎ (j + 8 ≤ i) → slice_get vs i ≡ slice_get old i)
         → (i : ℕ) → (i < j) ⊎ (j + 8 ≤ i) → slice_get (set vs (j + k) x) i ≡ slice_get old i
     put_kept few before i (inl l) = set_before vs (j + k) i x (omega (arith, l)) ∙ before i (inl l)

@@ -197,6 +197,23 @@ pub(crate) fn put_eight<T: Copy, V: PartValues<T>>(
     put_values(eight_values(trie, bytes), values, j);
 }
 
+/// Does the same as [`put_eight`], but writes each value before it reads the next one. In the loop
+/// of `copy_front`, this takes less time for eight ASCII bytes.
+#[inline(always)]
+fn put_each<T: Copy, V: PartValues<T>>(trie: &V, bytes: &[u8], values: &mut [T], j: usize)
+    requires ascii { V.end_of_ascii trie.now ≡ 0x80 }
+    requires bytes { 8 ≤ length bytes.now }
+    requires room { j + 8 ≤ length values.old }
+    ensures put { (k : ℕ) → k < 8 → slice_index bytes.now k < 0x80
+        → V.gives trie.now (Some (slice_index bytes.now k)) ≡ slice_get values.new (j + k) }
+    ensures kept { (k : ℕ) → (k < j) ⊎ (j + 8 ≤ k)
+        → slice_get values.new k ≡ slice_get values.old k }
+{
+    for k in 0..8 {
+        values[j + k] = trie.ascii(bytes[k] & 0x7F);
+    }
+}
+
 /// Returns the character at the start of the bytes, which are not empty, and its size in bytes.
 /// `None` if they do not start with a character.
 #[inline(always)]
@@ -419,12 +436,13 @@ fn copy_front<T: Copy, V: PartValues<T>>(trie: &V, bytes: &[u8], values: &mut [T
     while rest.len() >= BYTES_AHEAD && values.len() - j >= ROOM_AHEAD {
         if rest[0] < 0x80 {
             let count = ascii_count(rest);
-            put_eight(trie, rest, values, j);
             if count == 8 {
+                put_each(trie, rest, values, j);
                 rest = &rest[8..];
                 j += 8;
                 continue;
             }
+            put_eight(trie, rest, values, j);
             rest = &rest[count..];
             j += count;
         }

@@ -6,11 +6,11 @@ use Rattle.icu_trie_text.proofs.copy_parts.copy_front.Goals.{then-rest-lt128+els
 
 pub loop-rest-preserved-then-count-eq8 : goal.loop-rest-preserved-then-count-eq8
 loop-rest-preserved-then-count-eq8 g c =
-    let same = c.put_eight.auto.values in record {
+    let same = c.put_each.auto.values in record {
       room = omega (arith, same);
       copied = up_to_eight (g.V.PartValues.gives c.args.trie.now) c.args.bytes.now c.args.values.now c.loop-rest.values
-          c.put_eight.new.values c.loop-rest.rest.now c.loop-rest.j c.loop-rest.invariant.copied
-          c.put_eight.ensures.put c.put_eight.ensures.kept same (omega arith) (omega arith) 8 (omega arith)
+          c.put_each.new.values c.loop-rest.rest.now c.loop-rest.j c.loop-rest.invariant.copied
+          c.put_each.ensures.put c.put_each.ensures.kept same (omega arith) (omega arith) 8 (omega arith)
           (λ k l. c.ascii_count-count.ensures.ascii k (omega (arith, l, c.if-count-eq8.true)));
     }
 
