@@ -113,8 +113,8 @@ pub(crate) fn copy_ascii<T: Copy, V: PartValues<T>>(
                 bytes: i,
             };
         }
-        put_eight(trie, &bytes[i..], values, j);
-        put_eight(trie, &bytes[i + 8..], values, j + 8);
+        put_each(trie, &bytes[i..], values, j);
+        put_each(trie, &bytes[i + 8..], values, j + 8);
         i += 16;
         j += 16;
     }
@@ -135,8 +135,8 @@ pub(crate) fn put_eight<T: Copy, V: PartValues<T>>(
     put_values(eight_values(trie, bytes), values, j);
 }
 
-/// Does the same as [`put_eight`], but writes each value before it reads the next one. In the loop
-/// of `copy_front`, this takes less time for eight ASCII bytes.
+/// Does the same as [`put_eight`], but writes each value before it reads the next one. This takes
+/// less time if all eight bytes are ASCII.
 #[inline(always)]
 fn put_each<T: Copy, V: PartValues<T>>(trie: &V, bytes: &[u8], values: &mut [T], j: usize) {
     for (value, byte) in values[j..j + 8].iter_mut().zip(bytes) {
