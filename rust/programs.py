@@ -70,7 +70,10 @@ EDITS = {
     "ucptrie/names": [(r"\bfn name_in<'a>(\(matches: &ArgMatches\) -> &)'a ", r"fn name_in\1", 1)],
     "ucptrie/sets": [(r"\bfn set_form<'a>(\(matches: &ArgMatches\) -> SetForm)<'a>", r"fn set_form\1<'_>", 1)],
     "ucptrie/tables": [(r"\bfn form<'a>(\(matches: &ArgMatches\) -> Form)<'a>", r"fn form\1<'_>", 1)],
-    "ucptrie/unicode_files": [(r"(\bfn columns<'a>\(\s*matches: &)(ArgMatches)", r"\1'a \2", 1)],
+    "ucptrie/unicode_files": [
+        (r"(\bfn columns<'a>\(\s*matches: &)(ArgMatches)", r"\1'a \2", 1),
+        (r"\bfn unicode_file<'f, 'a: 'f>(\([^)]*?matches: &)(ArgMatches)", r"fn unicode_file<'f>\1'f \2", 1),
+    ],
     "ucptrie/word_lists": [(r"\bfn form<'a>(\(matches: &ArgMatches\) -> Form)<'a>", r"fn form\1<'_>", 1)],
     "ucptrie/words": [
         (r"(name|about): &'a str", r"\1: &'static str", 2),

@@ -7,7 +7,7 @@ use ucd_files::names::Numbering;
 use ucd_files::statement::Columns;
 
 /// A file of the Unicode Character Database.
-#[derive(Clone, Copy)]
+#[derive(Drop)]
 pub struct UnicodeFile<'f> {
     /// What it was read from.
     pub name: &'f str,
@@ -16,20 +16,20 @@ pub struct UnicodeFile<'f> {
     /// Where its lines have their values.
     pub columns: Columns<'f>,
     /// The bytes of the file of aliases, or none if the arguments name no such file.
-    pub aliases: &'f [u8],
+    pub aliases: Vec<u8>,
 }
 
 /// Returns the names of the property's values in the file of aliases, and what they are.
 fn choice_of_aliases<'f>(
     alloc: Global,
     matches: &ArgMatches<'_>,
-    file: UnicodeFile<'f>,
+    file: &'f UnicodeFile<'f>,
 ) -> Result<Choice<'f>, Fault> {
     let Some(property) = matches.get_str("property") else {
         let why = "--aliases needs --property, the property whose values are named";
         return Err(about(alloc, "arguments", why));
     };
-    let choice = alias_choice(alloc, file.aliases, property.as_bytes(), file.columns)?;
+    let choice = alias_choice(alloc, &file.aliases, property.as_bytes(), file.columns)?;
     if choice.names.as_slice().is_empty() {
         let why = "the file of aliases has no value of this property";
         return Err(about(alloc, property, why));
@@ -42,7 +42,7 @@ fn choice_of_aliases<'f>(
 pub fn choice_of<'f>(
     alloc: Global,
     matches: &ArgMatches<'_>,
-    file: UnicodeFile<'f>,
+    file: &'f UnicodeFile<'f>,
 ) -> Result<Choice<'f>, Fault> {
     if matches.get_str("aliases").is_none() {
         return Ok(own_choice(alloc, file.bytes, file.columns)?);
@@ -64,7 +64,7 @@ fn asked_numbering(matches: &ArgMatches<'_>) -> Option<NumberingKind> {
 /// Returns how the values of a file become numbers.
 pub fn numbering<'n>(
     matches: &ArgMatches<'_>,
-    file: UnicodeFile<'_>,
+    file: &UnicodeFile<'_>,
     choice: &'n Choice<'n>,
 ) -> Numbering<'n> {
     numbering_of(asked_numbering(matches), file.bytes, file.columns, choice)

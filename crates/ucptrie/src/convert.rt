@@ -2,13 +2,14 @@
 use crate::build::unbuilt;
 use crate::fault::{Fault, about};
 use crate::offsets::start_of;
-use crate::tables::{form, number, table_and_toml, trie_type, width};
+use crate::tables::{file_in, form, number, table_of_property, trie_type, width};
 use crate::unicode_files::with_names;
 use crate::wide::too_wide_in;
 use clap::ArgMatches;
 use std::alloc::Global;
 use ucptrie_tables::fault::BuildFault;
-use ucptrie_tables::properties::{TomlFile, property_names};
+use ucptrie_tables::parsed::ParsedFile;
+use ucptrie_tables::properties::property_names;
 use ucptrie_tables::rebuild::rebuilt;
 use ucptrie_tables::table::Table;
 use ucptrie_tables::toml_names::NamesFault;
@@ -56,13 +57,13 @@ fn converted(alloc: Global, name: &str, table: &Table, form: Form<'_>) -> Result
     }
 }
 
-/// Returns a table in a form, followed by the source of the names that a file in TOML has for its
-/// values. `name` is what the file was read from.
+/// Returns a table in a form, followed by the source of the names that a file has for its values,
+/// if it is TOML. `name` is what the file was read from.
 fn with_names_of_toml(
     alloc: Global,
     matches: &ArgMatches<'_>,
     name: &str,
-    file: &TomlFile,
+    file: &ParsedFile<'_>,
     bytes: Vec<u8>,
     width: ValueWidth,
 ) -> Result<Vec<u8>, Fault> {
@@ -77,20 +78,20 @@ fn with_names_of_toml(
 }
 
 /// Returns a table in a form, followed by the source of the names that its file has for its values,
-/// if the form is source and the file is TOML. `name` is what the file was read from.
+/// if the form is source. `name` is what the file was read from.
 fn with_names_of_file(
     alloc: Global,
     matches: &ArgMatches<'_>,
     name: &str,
-    toml: Option<&TomlFile>,
+    file: &ParsedFile<'_>,
     bytes: Vec<u8>,
     width: ValueWidth,
 ) -> Result<Vec<u8>, Fault> {
-    match (form(matches), toml) {
-        (Form::C(_) | Form::Rust(_), Some(toml)) => {
-            with_names_of_toml(alloc, matches, name, toml, bytes, width)
+    match form(matches) {
+        Form::C(_) | Form::Rust(_) => {
+            with_names_of_toml(alloc, matches, name, file, bytes, width)
         }
-        (form, _) => Ok(with_names(alloc, matches, bytes, form, width, &[])?),
+        form => Ok(with_names(alloc, matches, bytes, form, width, &[])?),
     }
 }
 
@@ -100,10 +101,11 @@ pub fn convert(
     alloc: Global,
     matches: &ArgMatches<'_>,
     name: &str,
-    file: &[u8],
+    bytes: &[u8],
 ) -> Result<Vec<u8>, Fault> {
-    let (table, toml) = table_and_toml(alloc, matches, name, file, start_of(matches))?;
+    let file = file_in(alloc, name, bytes, start_of(matches))?;
+    let table = table_of_property(alloc, matches, name, &file)?;
     let table = changed(alloc, matches, name, table)?;
     let bytes = converted(alloc, name, &table, form(matches))?;
-    with_names_of_file(alloc, matches, name, toml.as_ref(), bytes, table.width)
+    with_names_of_file(alloc, matches, name, &file, bytes, table.width)
 }

@@ -45,7 +45,7 @@ fn fraction_line(alloc: Global, name: &str, text: &[u8]) -> Result<String, Alloc
 pub fn say_fractions(
     rt: &HostRuntime,
     matches: &ArgMatches<'_>,
-    file: UnicodeFile<'_>,
+    file: &UnicodeFile<'_>,
     choice: &Choice<'_>,
 ) -> Result<(), AllocError> {
     let is_asked = matches.get_str("values").is_some() || !matches!(choice.kind, ValueKind::Own);

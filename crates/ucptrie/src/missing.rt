@@ -25,7 +25,7 @@ fn only_missing_line(alloc: Global, name: &str, value: &[u8]) -> Result<String, 
 /// it is not, as DerivedBidiClass.txt, have long names there and short ones elsewhere.
 pub fn test_own_names(
     alloc: Global,
-    file: UnicodeFile<'_>,
+    file: &UnicodeFile<'_>,
     choice: &Choice<'_>,
 ) -> Result<(), Fault> {
     if !matches!(choice.kind, ValueKind::Own) {
@@ -41,7 +41,7 @@ pub fn test_own_names(
 /// without the file of aliases.
 pub fn test_numbers(
     alloc: Global,
-    file: UnicodeFile<'_>,
+    file: &UnicodeFile<'_>,
     choice: &Choice<'_>,
 ) -> Result<(), Fault> {
     if !matches!(choice.kind, ValueKind::Own) {
@@ -60,7 +60,7 @@ pub fn test_numbers(
 pub fn default_of(
     alloc: Global,
     matches: &ArgMatches<'_>,
-    file: UnicodeFile<'_>,
+    file: &UnicodeFile<'_>,
     numbering: Numbering<'_>,
     other: u32,
     how: &str,
@@ -71,7 +71,7 @@ pub fn default_of(
         file.bytes,
         file.columns,
         numbering,
-        file.aliases,
+        &file.aliases,
         property,
     ) {
         Ok(MissingValue::Numbers | MissingValue::InLines) => Ok(other),

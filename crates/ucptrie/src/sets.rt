@@ -10,7 +10,7 @@ use crate::offsets::{has_tries, start_of, starts_trie};
 use crate::streams::say;
 use crate::tables::{number, table_in};
 use crate::unicode_files::{
-    choice_of_file, column_option, columns, named_file, named_kind, not_of_rows, unread,
+    choice_of_file, column_option, named_kind, not_of_rows, unicode_file, unread,
 };
 use clap::ArgMatches;
 use icu_invlist::codepointinvlist::CodePointInversionList;
@@ -114,7 +114,7 @@ fn number_named(alloc: Global, names: &ValueNames<'_>, text: &str) -> Result<u32
 fn asked_value<'n>(
     alloc: Global,
     matches: &ArgMatches<'_>,
-    file: UnicodeFile<'_>,
+    file: &UnicodeFile<'_>,
     choice: &'n Choice<'n>,
 ) -> Result<(Numbering<'n>, u32), Fault> {
     match (matches.get_str("value"), choice.kind) {
@@ -133,7 +133,7 @@ fn asked_value<'n>(
 fn default_in_set(
     alloc: Global,
     matches: &ArgMatches<'_>,
-    file: UnicodeFile<'_>,
+    file: &UnicodeFile<'_>,
     choice: &Choice<'_>,
     numbering: Numbering<'_>,
 ) -> Result<u32, Fault> {
@@ -148,7 +148,7 @@ fn default_in_set(
 fn set_of_lines(
     alloc: Global,
     matches: &ArgMatches<'_>,
-    file: UnicodeFile<'_>,
+    file: &UnicodeFile<'_>,
     choice: &Choice<'_>,
 ) -> Result<CodePointInversionList<'static>, Fault> {
     let (numbering, value) = asked_value(alloc, matches, file, choice)?;
@@ -169,17 +169,9 @@ fn set_of_unicode_file(
     bytes: &[u8],
     kind: FileKind,
 ) -> Result<CodePointInversionList<'static>, Fault> {
-    let columns = columns(rt.alloc(), matches, kind, name, bytes)?;
-    let named = named_file(rt, matches)?;
-    let aliases = named.as_slice();
-    let file = UnicodeFile {
-        name,
-        bytes,
-        columns,
-        aliases,
-    };
-    let choice = choice_of_file(rt, matches, file)?;
-    set_of_lines(rt.alloc(), matches, file, &choice)
+    let file = unicode_file(rt, matches, name, bytes, kind)?;
+    let choice = choice_of_file(rt, matches, &file)?;
+    set_of_lines(rt.alloc(), matches, &file, &choice)
 }
 
 /// Returns the set of a value in rows.

@@ -205,7 +205,7 @@ fn columns_of_unihan<'a>(
 }
 
 /// Returns where the lines of a file have their values. `name` is what it was read from.
-pub fn columns<'a>(
+fn columns<'a>(
     alloc: Global,
     matches: &ArgMatches<'a>,
     kind: FileKind,
@@ -246,11 +246,30 @@ pub fn columns<'a>(
 }
 
 /// Returns the bytes of the file of aliases, or none if the arguments name no such file.
-pub fn named_file(rt: &HostRuntime, matches: &ArgMatches<'_>) -> Result<Vec<u8>, Fault> {
+fn named_file(rt: &HostRuntime, matches: &ArgMatches<'_>) -> Result<Vec<u8>, Fault> {
     match matches.get_str("aliases") {
         Some(path) => text_at(rt, path),
         None => Ok(Vec::new(rt.alloc())),
     }
+}
+
+/// Returns a file of the Unicode Character Database, with the file of aliases that the arguments
+/// name. `name` is what it was read from.
+pub fn unicode_file<'f, 'a: 'f>(
+    rt: &HostRuntime,
+    matches: &ArgMatches<'a>,
+    name: &'f str,
+    bytes: &'f [u8],
+    kind: FileKind,
+) -> Result<UnicodeFile<'f>, Fault> {
+    let columns = columns(rt.alloc(), matches, kind, name, bytes)?;
+    let aliases = named_file(rt, matches)?;
+    Ok(UnicodeFile {
+        name,
+        bytes,
+        columns,
+        aliases,
+    })
 }
 
 /// Returns the fault of a file that makes no table. `name` is what it was read from.
@@ -300,7 +319,7 @@ pub fn with_names(
 fn written_of_file(
     alloc: Global,
     matches: &ArgMatches<'_>,
-    file: UnicodeFile<'_>,
+    file: &UnicodeFile<'_>,
     choice: &Choice<'_>,
     numbering: Numbering<'_>,
     options: TableOptions,
@@ -320,7 +339,7 @@ fn written_of_file(
 fn options_of_file(
     alloc: Global,
     matches: &ArgMatches<'_>,
-    file: UnicodeFile<'_>,
+    file: &UnicodeFile<'_>,
     choice: &Choice<'_>,
     numbering: Numbering<'_>,
 ) -> Result<TableOptions, Fault> {
@@ -342,7 +361,7 @@ fn options_of_file(
 fn built_of_file(
     alloc: Global,
     matches: &ArgMatches<'_>,
-    file: UnicodeFile<'_>,
+    file: &UnicodeFile<'_>,
     choice: &Choice<'_>,
 ) -> Result<Vec<u8>, Fault> {
     let numbering = numbering(matches, file, choice);
@@ -368,7 +387,7 @@ fn built_of_file(
 pub fn choice_of_file<'f>(
     rt: &HostRuntime,
     matches: &ArgMatches<'_>,
-    file: UnicodeFile<'f>,
+    file: &'f UnicodeFile<'f>,
 ) -> Result<Choice<'f>, Fault> {
     say_overlap(rt, file.columns, matches, file.name, file.bytes)?;
     choice_of(rt.alloc(), matches, file)
@@ -383,16 +402,8 @@ pub fn build_file(
     bytes: &[u8],
     kind: FileKind,
 ) -> Result<Vec<u8>, Fault> {
-    let columns = columns(rt.alloc(), matches, kind, name, bytes)?;
-    let named = named_file(rt, matches)?;
-    let aliases = named.as_slice();
-    let file = UnicodeFile {
-        name,
-        bytes,
-        columns,
-        aliases,
-    };
-    let choice = choice_of_file(rt, matches, file)?;
-    say_fractions(rt, matches, file, &choice)?;
-    built_of_file(rt.alloc(), matches, file, &choice)
+    let file = unicode_file(rt, matches, name, bytes, kind)?;
+    let choice = choice_of_file(rt, matches, &file)?;
+    say_fractions(rt, matches, &file, &choice)?;
+    built_of_file(rt.alloc(), matches, &file, &choice)
 }

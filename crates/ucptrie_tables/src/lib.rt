@@ -5,6 +5,7 @@
 //! - `width`: how many bits a value has in a file; `values`: the same numbers as values of another
 //!   type
 //! - `read`: the table that a file has in ICU's binary form, in JSON or in TOML
+//! - `parsed`: a file with its TOML
 //! - `properties`: the table of one of the properties in a TOML file
 //! - `toml_names`: the names of the values of such a property; `other_toml`: what a TOML file has
 //!   in place of a trie
@@ -45,6 +46,7 @@ pub mod diff;
 pub mod explain;
 pub mod fault;
 pub mod other_toml;
+pub mod parsed;
 pub mod properties;
 pub mod read;
 pub mod rebuild;

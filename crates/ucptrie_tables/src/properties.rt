@@ -1,20 +1,18 @@
 //! The properties of a TOML file that have a trie, and the table of one of them.
-ghost use Rattle.std.specs.Prelude.{◌≡◌, true, false, is_some, Err, IfErr, IfOk, Result};
-ghost use Rattle.ucptrie_tables.specs.Files.{IsTakenForToml, IsWhyNotToml};
-ghost use Rattle.ucptrie_tables.specs.Properties.{of_property, IsReadOf, IsTomlFileOf};
+ghost use Rattle.std.specs.Prelude.{◌≡◌, true, false, is_some, Err, Result};
+ghost use Rattle.ucptrie_tables.specs.Files.{IsTakenForToml};
+ghost use Rattle.ucptrie_tables.specs.Properties.{of_property, IsReadOf};
 ghost use Rattle.ucptrie_tables.specs.declared.fault.ReadFault.{ReadFault};
 ghost use Rattle.ucptrie_tables.specs.declared.properties.PropertyFault.TheVariants.{NotToml};
 ghost use Rattle.ucptrie_tables.specs.declared.table.Table.{Table};
 
 use crate::fault::ReadFault;
-use crate::read::{file_of_toml, read_table, table_of_members, toml_text, trie_of_table, value_at};
+use crate::parsed::ParsedFile;
+use crate::read::{read_table, table_of_members, trie_of_table, value_at};
 use crate::table::Table;
 use crate::toml_names::{NamesFault, names_of};
 use std::alloc::{AllocError, Global};
 use ucd_files::value_names::ValueNames;
-
-/// A TOML file.
-pub type TomlFile = toml::Table;
 
 /// A property that has a trie.
 #[derive(Clone, Copy, Drop)]
@@ -158,32 +156,20 @@ fn asked_trie<'a>(
     }
 }
 
-/// Returns the file if it is taken for TOML, or `None` for any other one.
-///
-/// # Errors
-/// Returns [`ReadFault::Toml`] if the text is not TOML, and [`ReadFault::Memory`] if an allocation
-/// fails.
-pub fn toml_file(alloc: Global, file: &[u8]) -> Result<Option<TomlFile>, ReadFault>
-    ensures ok { IfOk result (IsTomlFileOf file.now) }
-    ensures err { IfErr result (λ e. IsTakenForToml file.now × IsWhyNotToml file.now e) }
-{
-    match toml_text(file) {
-        Some(text) => Ok(Some(file_of_toml(alloc, text)?)),
-        None => Ok(None),
-    }
-}
-
 /// Returns the names of the values of the property whose table [`read_property`] reads from a file,
-/// as [`names_of`] does. Returns none if no property is chosen.
+/// as [`names_of`] does. Returns none if no property is chosen, or the file is not taken for TOML.
 ///
 /// # Errors
 /// Returns those of [`names_of`].
 pub fn property_names<'a>(
     alloc: Global,
-    file: &'a TomlFile,
+    file: &'a ParsedFile<'_>,
     name: Option<&str>,
 ) -> Result<ValueNames<'a>, NamesFault> {
-    let found = properties_of(alloc, file, name)?;
+    let Some(toml) = file.toml() else {
+        return Ok(ValueNames::new(alloc));
+    };
+    let found = properties_of(alloc, toml, name)?;
     match found.as_slice() {
         [property] => names_of(alloc, property.table),
         _ => Ok(ValueNames::new(alloc)),
@@ -191,8 +177,7 @@ pub fn property_names<'a>(
 }
 
 /// Reads the table that a file has, as [`read_table`] does, but in TOML only that of the property
-/// with this name, or of the only property with a trie if no name is asked. `toml` is the file as
-/// [`toml_file`] returns it.
+/// with this name, or of the only property with a trie if no name is asked.
 ///
 /// A name is the key of a property in the file, or its `long_name` or `short_name`.
 ///
@@ -202,21 +187,20 @@ pub fn property_names<'a>(
 /// if a name is asked of a file in another form. Other errors are those of [`read_table`].
 pub fn read_property(
     alloc: Global,
-    file: &[u8],
-    toml: Option<&TomlFile>,
+    file: &ParsedFile<'_>,
     name: Option<&str>,
 ) -> Result<Table, PropertyFault>
-    ensures named { is_some toml.entry ≡ false → is_some name.entry ≡ true → result ≡ Err NotToml }
-    ensures other { is_some toml.entry ≡ false → is_some name.entry ≡ false
-        → ¬ IsTakenForToml file.now → (read : Result Table ReadFault)
+    ensures named { is_some name.entry ≡ true → ¬ IsTakenForToml file.now → result ≡ Err NotToml }
+    ensures other { is_some name.entry ≡ false → ¬ IsTakenForToml file.now
+        → (read : Result Table ReadFault)
         × (IsReadOf file.now read × (result ≡ of_property read)) }
 {
-    if let Some(toml) = toml {
+    if let Some(toml) = file.toml() {
         let trie = asked_trie(alloc, toml, name)?;
         return Ok(table_of_members(alloc, trie)?);
     }
     if name.is_some() {
         return Err(PropertyFault::NotToml);
     }
-    Ok(read_table(alloc, file)?)
+    Ok(read_table(alloc, file.bytes())?)
 }

@@ -10,7 +10,6 @@ use crate::ucptrie::fault::{Fault, about};
 use clap::ArgMatches;
 
 /// A file of the Unicode Character Database.
-#[derive(Clone, Copy)]
 pub struct UnicodeFile<'f> {
     /// What it was read from.
     pub name: &'f str,
@@ -19,16 +18,19 @@ pub struct UnicodeFile<'f> {
     /// Where its lines have their values.
     pub columns: Columns<'f>,
     /// The bytes of the file of aliases, or none if the arguments name no such file.
-    pub aliases: &'f [u8],
+    pub aliases: Vec<u8>,
 }
 
 /// Returns the names of the property's values in the file of aliases, and what they are.
-fn choice_of_aliases<'f>(matches: &ArgMatches, file: UnicodeFile<'f>) -> Result<Choice<'f>, Fault> {
+fn choice_of_aliases<'f>(
+    matches: &ArgMatches,
+    file: &'f UnicodeFile<'f>,
+) -> Result<Choice<'f>, Fault> {
     let Some(property) = matches.get_one::<String>("property").map(String::as_str) else {
         let why = "--aliases needs --property, the property whose values are named";
         return Err(about("arguments", why));
     };
-    let choice = alias_choice(file.aliases, property.as_bytes(), file.columns)?;
+    let choice = alias_choice(&file.aliases, property.as_bytes(), file.columns)?;
     if choice.names.as_slice().is_empty() {
         let why = "the file of aliases has no value of this property";
         return Err(about(property, why));
@@ -38,7 +40,7 @@ fn choice_of_aliases<'f>(matches: &ArgMatches, file: UnicodeFile<'f>) -> Result<
 
 /// Returns the names of the values of a file, and what they are: those in the file of aliases, if
 /// the arguments name one, and else those in the file itself.
-pub fn choice_of<'f>(matches: &ArgMatches, file: UnicodeFile<'f>) -> Result<Choice<'f>, Fault> {
+pub fn choice_of<'f>(matches: &ArgMatches, file: &'f UnicodeFile<'f>) -> Result<Choice<'f>, Fault> {
     if matches
         .get_one::<String>("aliases")
         .map(String::as_str)
@@ -63,7 +65,7 @@ fn asked_numbering(matches: &ArgMatches) -> Option<NumberingKind> {
 /// Returns how the values of a file become numbers.
 pub fn numbering<'n>(
     matches: &ArgMatches,
-    file: UnicodeFile<'_>,
+    file: &UnicodeFile<'_>,
     choice: &'n Choice<'n>,
 ) -> Numbering<'n> {
     numbering_of(asked_numbering(matches), file.bytes, file.columns, choice)

@@ -6,11 +6,12 @@ use crate::support::prelude::*;
 use crate::ucptrie::build::unbuilt;
 use crate::ucptrie::fault::{Fault, about};
 use crate::ucptrie::offsets::start_of;
-use crate::ucptrie::tables::{form, number, table_and_toml, trie_type, width};
+use crate::ucptrie::tables::{file_in, form, number, table_of_property, trie_type, width};
 use crate::ucptrie::unicode_files::with_names;
 use crate::ucptrie::wide::too_wide_in;
 use crate::ucptrie_tables::fault::BuildFault;
-use crate::ucptrie_tables::properties::{TomlFile, property_names};
+use crate::ucptrie_tables::parsed::ParsedFile;
+use crate::ucptrie_tables::properties::property_names;
 use crate::ucptrie_tables::rebuild::rebuilt;
 use crate::ucptrie_tables::table::Table;
 use crate::ucptrie_tables::toml_names::NamesFault;
@@ -54,12 +55,12 @@ fn converted(name: &str, table: &Table, form: Form<'_>) -> Result<Vec<u8>, Fault
     }
 }
 
-/// Returns a table in a form, followed by the source of the names that a file in TOML has for its
-/// values. `name` is what the file was read from.
+/// Returns a table in a form, followed by the source of the names that a file has for its values,
+/// if it is TOML. `name` is what the file was read from.
 fn with_names_of_toml(
     matches: &ArgMatches,
     name: &str,
-    file: &TomlFile,
+    file: &ParsedFile<'_>,
     bytes: Vec<u8>,
     width: ValueWidth,
 ) -> Result<Vec<u8>, Fault> {
@@ -77,27 +78,26 @@ fn with_names_of_toml(
 }
 
 /// Returns a table in a form, followed by the source of the names that its file has for its values,
-/// if the form is source and the file is TOML. `name` is what the file was read from.
+/// if the form is source. `name` is what the file was read from.
 fn with_names_of_file(
     matches: &ArgMatches,
     name: &str,
-    toml: Option<&TomlFile>,
+    file: &ParsedFile<'_>,
     bytes: Vec<u8>,
     width: ValueWidth,
 ) -> Result<Vec<u8>, Fault> {
-    match (form(matches), toml) {
-        (Form::C(_) | Form::Rust(_), Some(toml)) => {
-            with_names_of_toml(matches, name, toml, bytes, width)
-        }
-        (form, _) => Ok(with_names(matches, bytes, form, width, &[])?),
+    match form(matches) {
+        Form::C(_) | Form::Rust(_) => with_names_of_toml(matches, name, file, bytes, width),
+        form => Ok(with_names(matches, bytes, form, width, &[])?),
     }
 }
 
 /// Returns the table of a file in the form that the arguments name. `name` is what the file was
 /// read from.
-pub fn convert(matches: &ArgMatches, name: &str, file: &[u8]) -> Result<Vec<u8>, Fault> {
-    let (table, toml) = table_and_toml(matches, name, file, start_of(matches))?;
+pub fn convert(matches: &ArgMatches, name: &str, bytes: &[u8]) -> Result<Vec<u8>, Fault> {
+    let file = file_in(name, bytes, start_of(matches))?;
+    let table = table_of_property(matches, name, &file)?;
     let table = changed(matches, name, table)?;
     let bytes = converted(name, &table, form(matches))?;
-    with_names_of_file(matches, name, toml.as_ref(), bytes, table.width)
+    with_names_of_file(matches, name, &file, bytes, table.width)
 }

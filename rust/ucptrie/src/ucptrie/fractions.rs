@@ -51,7 +51,7 @@ fn fraction_line(name: &str, text: &[u8]) -> Result<String, AllocError> {
 pub fn say_fractions(
     rt: &HostRuntime,
     matches: &ArgMatches,
-    file: UnicodeFile<'_>,
+    file: &UnicodeFile<'_>,
     choice: &Choice<'_>,
 ) -> Result<(), AllocError> {
     let is_asked = matches

@@ -27,7 +27,7 @@ fn only_missing_line(name: &str, value: &[u8]) -> Result<String, AllocError> {
 /// Tests whether `@missing` lines and other lines use the same names of values, as far as can be
 /// seen: with two names in `@missing` lines, each is the value of another line too. Files in which
 /// it is not, as DerivedBidiClass.txt, have long names there and short ones elsewhere.
-pub fn test_own_names(file: UnicodeFile<'_>, choice: &Choice<'_>) -> Result<(), Fault> {
+pub fn test_own_names(file: &UnicodeFile<'_>, choice: &Choice<'_>) -> Result<(), Fault> {
     if !matches!(choice.kind, ValueKind::Own) {
         return Ok(());
     }
@@ -39,7 +39,7 @@ pub fn test_own_names(file: UnicodeFile<'_>, choice: &Choice<'_>) -> Result<(), 
 
 /// Tests whether an `@missing` line has a number if all other values are numbers: a name has none
 /// without the file of aliases.
-pub fn test_numbers(file: UnicodeFile<'_>, choice: &Choice<'_>) -> Result<(), Fault> {
+pub fn test_numbers(file: &UnicodeFile<'_>, choice: &Choice<'_>) -> Result<(), Fault> {
     if !matches!(choice.kind, ValueKind::Own) {
         return Ok(());
     }
@@ -55,7 +55,7 @@ pub fn test_numbers(file: UnicodeFile<'_>, choice: &Choice<'_>) -> Result<(), Fa
 /// `how` says how to give another number.
 pub fn default_of(
     matches: &ArgMatches,
-    file: UnicodeFile<'_>,
+    file: &UnicodeFile<'_>,
     numbering: Numbering<'_>,
     other: u32,
     how: &str,
@@ -65,7 +65,7 @@ pub fn default_of(
         .map(String::as_str)
         .unwrap_or("")
         .as_bytes();
-    match missing_value(file.bytes, file.columns, numbering, file.aliases, property) {
+    match missing_value(file.bytes, file.columns, numbering, &file.aliases, property) {
         Ok(MissingValue::Numbers | MissingValue::InLines) => Ok(other),
         Ok(MissingValue::Number(number)) => Ok(number),
         Ok(MissingValue::Unsaid) => Err(about(file.name, how)),

@@ -19,7 +19,7 @@ use crate::ucptrie::offsets::{has_tries, start_of, starts_trie};
 use crate::ucptrie::streams::say;
 use crate::ucptrie::tables::{number, table_in};
 use crate::ucptrie::unicode_files::{
-    choice_of_file, column_option, columns, named_file, named_kind, not_of_rows, unread,
+    choice_of_file, column_option, named_kind, not_of_rows, unicode_file, unread,
 };
 use crate::ucptrie_sets::fault::{SetFileFault, SetWriteFault, ValueSetFault};
 use crate::ucptrie_sets::of_value::set_of_value;
@@ -115,7 +115,7 @@ fn number_named(names: &ValueNames<'_>, text: &str) -> Result<u32, Fault> {
 /// Returns how the values of a file become numbers, and the number whose set is asked for.
 fn asked_value<'n>(
     matches: &ArgMatches,
-    file: UnicodeFile<'_>,
+    file: &UnicodeFile<'_>,
     choice: &'n Choice<'n>,
 ) -> Result<(Numbering<'n>, u32), Fault> {
     match (
@@ -136,7 +136,7 @@ fn asked_value<'n>(
 /// line: false, or what the file of aliases says, or none of the file's values.
 fn default_in_set(
     matches: &ArgMatches,
-    file: UnicodeFile<'_>,
+    file: &UnicodeFile<'_>,
     choice: &Choice<'_>,
     numbering: Numbering<'_>,
 ) -> Result<u32, Fault> {
@@ -150,7 +150,7 @@ fn default_in_set(
 /// Returns the set of a value in lines whose values have these names.
 fn set_of_lines(
     matches: &ArgMatches,
-    file: UnicodeFile<'_>,
+    file: &UnicodeFile<'_>,
     choice: &Choice<'_>,
 ) -> Result<CodePointInversionList<'static>, Fault> {
     let (numbering, value) = asked_value(matches, file, choice)?;
@@ -171,17 +171,9 @@ fn set_of_unicode_file(
     bytes: &[u8],
     kind: FileKind,
 ) -> Result<CodePointInversionList<'static>, Fault> {
-    let columns = columns(matches, kind, name, bytes)?;
-    let named = named_file(rt, matches)?;
-    let aliases = named.as_slice();
-    let file = UnicodeFile {
-        name,
-        bytes,
-        columns,
-        aliases,
-    };
-    let choice = choice_of_file(rt, matches, file)?;
-    set_of_lines(matches, file, &choice)
+    let file = unicode_file(rt, matches, name, bytes, kind)?;
+    let choice = choice_of_file(rt, matches, &file)?;
+    set_of_lines(matches, &file, &choice)
 }
 
 /// Returns the set of a value in rows.

@@ -13,7 +13,8 @@ use crate::ucptrie_sets::fault::SetFileFault;
 use crate::ucptrie_sets::toml_file::set_of_file;
 use crate::ucptrie_tables::fault::{ReadFault, TomlFault};
 use crate::ucptrie_tables::other_toml::{OtherToml, other_toml};
-use crate::ucptrie_tables::properties::{PropertyFault, TomlFile, read_property, toml_file};
+use crate::ucptrie_tables::parsed::ParsedFile;
+use crate::ucptrie_tables::properties::{PropertyFault, read_property};
 use crate::ucptrie_tables::table::Table;
 use crate::ucptrie_tables::width::ValueWidth;
 use crate::ucptrie_tables::written::Form;
@@ -129,66 +130,59 @@ fn has_sets(file: &[u8]) -> Result<bool, Fault> {
 }
 
 /// Returns what a TOML file has that has no trie, if it is known.
-fn other_in(toml: Option<&TomlFile>) -> Option<OtherToml> {
-    other_toml(toml?)
+fn other_in(file: &ParsedFile<'_>) -> Option<OtherToml> {
+    other_toml(file.toml()?)
 }
 
 /// Returns the fault of a TOML file in which the trie is missing, or of the property that is asked
-/// for. `name` is what the file was read from, and `toml` the file as TOML.
+/// for. `name` is what the file was read from.
 fn without_trie(
     name: &str,
-    file: &[u8],
-    toml: Option<&TomlFile>,
+    file: &ParsedFile<'_>,
     property: &str,
     fault: PropertyFault,
 ) -> Result<Fault, Fault> {
-    if has_sets(file)? {
+    if has_sets(file.bytes())? {
         let why = "a set of code points, and no table: use ucptrie set";
         return Ok(about(name, why));
     }
-    match other_in(toml) {
+    match other_in(file) {
         Some(other) => Ok(about(name, other)),
         None => Ok(unchosen(name, property, fault)),
     }
 }
 
-/// Returns a file as TOML if it is taken for that. `name` is what it was read from.
-fn toml_in(name: &str, file: &[u8]) -> Result<Option<TomlFile>, Fault> {
-    match toml_file(file) {
-        Ok(toml) => Ok(toml),
+/// Returns a file with its TOML. `name` is what it was read from.
+fn parsed<'f>(name: &str, bytes: &'f [u8]) -> Result<ParsedFile<'f>, Fault> {
+    match ParsedFile::new(bytes) {
+        Ok(file) => Ok(file),
         Err(fault) => Err(unread(name, fault)),
     }
 }
 
-/// Returns the table of a file. `name` is what it was read from, and `toml` the file as TOML.
-fn table_of_property(
+/// Returns the table of a file: in TOML that of the property that the arguments name, and in
+/// another file that of the trie at its start. `name` is what the file was read from.
+pub fn table_of_property(
     matches: &ArgMatches,
     name: &str,
-    file: &[u8],
-    toml: Option<&TomlFile>,
+    file: &ParsedFile<'_>,
 ) -> Result<Table, Fault> {
     let property = matches.get_one::<String>("property").map(String::as_str);
-    match read_property(file, toml, property) {
+    match read_property(file, property) {
         Ok(table) => Ok(table),
         Err(fault) => {
             let property = property.unwrap_or("");
             if lacks_trie(&fault) {
-                return Err(without_trie(name, file, toml, property, fault)?);
+                return Err(without_trie(name, file, property, fault)?);
             }
             Err(unchosen(name, property, fault))
         }
     }
 }
 
-/// Returns the table of a file with these bytes, and the file if it is TOML. In TOML the table is
-/// that of the property that the arguments name, and in another file that of the trie at its start.
-/// `name` is what the bytes were read from.
-pub fn table_and_toml(
-    matches: &ArgMatches,
-    name: &str,
-    bytes: &[u8],
-    start: Start,
-) -> Result<(Table, Option<TomlFile>), Fault> {
+/// Returns the file with these bytes, from the start of its trie on, with its TOML. `name` is what
+/// the bytes were read from.
+pub fn file_in<'f>(name: &str, bytes: &'f [u8], start: Start) -> Result<ParsedFile<'f>, Fault> {
     if bytes.is_empty() {
         return Err(about(name, "the file is empty"));
     }
@@ -196,20 +190,18 @@ pub fn table_and_toml(
     if !matches!(start, Start::At(_)) && !starts_trie(part) {
         expect_text(name, part)?;
     }
-    let toml = toml_in(name, part)?;
-    let table = table_of_property(matches, name, part, toml.as_ref())?;
-    Ok((table, toml))
+    parsed(name, part)
 }
 
-/// Returns the table of a file with these bytes, as [`table_and_toml`] does.
+/// Returns the table of a file with these bytes, as [`table_of_property`] does.
 pub fn table_in(
     matches: &ArgMatches,
     name: &str,
     bytes: &[u8],
     start: Start,
 ) -> Result<Table, Fault> {
-    let (table, _) = table_and_toml(matches, name, bytes, start)?;
-    Ok(table)
+    let file = file_in(name, bytes, start)?;
+    table_of_property(matches, name, &file)
 }
 
 /// Reads the table of the file that the argument `id` names, or of standard input if its name is

@@ -206,7 +206,7 @@ fn columns_of_unihan<'a>(property: &'a str, name: &str, file: &[u8]) -> Result<C
 }
 
 /// Returns where the lines of a file have their values. `name` is what it was read from.
-pub fn columns<'a>(
+fn columns<'a>(
     matches: &'a ArgMatches,
     kind: FileKind,
     name: &str,
@@ -246,11 +246,30 @@ pub fn columns<'a>(
 }
 
 /// Returns the bytes of the file of aliases, or none if the arguments name no such file.
-pub fn named_file(rt: &HostRuntime, matches: &ArgMatches) -> Result<Vec<u8>, Fault> {
+fn named_file(rt: &HostRuntime, matches: &ArgMatches) -> Result<Vec<u8>, Fault> {
     match matches.get_one::<String>("aliases").map(String::as_str) {
         Some(path) => text_at(rt, path),
         None => Ok(Vec::new()),
     }
+}
+
+/// Returns a file of the Unicode Character Database, with the file of aliases that the arguments
+/// name. `name` is what it was read from.
+pub fn unicode_file<'f>(
+    rt: &HostRuntime,
+    matches: &'f ArgMatches,
+    name: &'f str,
+    bytes: &'f [u8],
+    kind: FileKind,
+) -> Result<UnicodeFile<'f>, Fault> {
+    let columns = columns(matches, kind, name, bytes)?;
+    let aliases = named_file(rt, matches)?;
+    Ok(UnicodeFile {
+        name,
+        bytes,
+        columns,
+        aliases,
+    })
 }
 
 /// Returns the fault of a file that makes no table. `name` is what it was read from.
@@ -297,7 +316,7 @@ pub fn with_names(
 /// Returns the table of a file in the form that the arguments name.
 fn written_of_file(
     matches: &ArgMatches,
-    file: UnicodeFile<'_>,
+    file: &UnicodeFile<'_>,
     choice: &Choice<'_>,
     numbering: Numbering<'_>,
     options: TableOptions,
@@ -316,7 +335,7 @@ fn written_of_file(
 /// Returns what the table of a file is to be.
 fn options_of_file(
     matches: &ArgMatches,
-    file: UnicodeFile<'_>,
+    file: &UnicodeFile<'_>,
     choice: &Choice<'_>,
     numbering: Numbering<'_>,
 ) -> Result<TableOptions, Fault> {
@@ -337,7 +356,7 @@ fn options_of_file(
 /// Returns the table of a file, whose values have these names, in the form that the arguments name.
 fn built_of_file(
     matches: &ArgMatches,
-    file: UnicodeFile<'_>,
+    file: &UnicodeFile<'_>,
     choice: &Choice<'_>,
 ) -> Result<Vec<u8>, Fault> {
     let numbering = numbering(matches, file, choice);
@@ -367,7 +386,7 @@ fn built_of_file(
 pub fn choice_of_file<'f>(
     rt: &HostRuntime,
     matches: &ArgMatches,
-    file: UnicodeFile<'f>,
+    file: &'f UnicodeFile<'f>,
 ) -> Result<Choice<'f>, Fault> {
     say_overlap(rt, file.columns, matches, file.name, file.bytes)?;
     choice_of(matches, file)
@@ -382,16 +401,8 @@ pub fn build_file(
     bytes: &[u8],
     kind: FileKind,
 ) -> Result<Vec<u8>, Fault> {
-    let columns = columns(matches, kind, name, bytes)?;
-    let named = named_file(rt, matches)?;
-    let aliases = named.as_slice();
-    let file = UnicodeFile {
-        name,
-        bytes,
-        columns,
-        aliases,
-    };
-    let choice = choice_of_file(rt, matches, file)?;
-    say_fractions(rt, matches, file, &choice)?;
-    built_of_file(matches, file, &choice)
+    let file = unicode_file(rt, matches, name, bytes, kind)?;
+    let choice = choice_of_file(rt, matches, &file)?;
+    say_fractions(rt, matches, &file, &choice)?;
+    built_of_file(matches, &file, &choice)
 }

@@ -48,7 +48,7 @@ pub fn row_with(rows: &[u8], value: u32) -> Option<u64> {
 
 /// Returns whether a line of a file, after the line `previous`, gives this value.
 fn says(
-    file: UnicodeFile<'_>,
+    file: &UnicodeFile<'_>,
     numbering: Numbering<'_>,
     previous: &[u8],
     line: &[u8],
@@ -61,7 +61,7 @@ fn says(
 }
 
 /// Returns the number of the first line of a file that gives this value, counted from 1.
-pub fn line_with(file: UnicodeFile<'_>, numbering: Numbering<'_>, value: u32) -> Option<u64> {
+pub fn line_with(file: &UnicodeFile<'_>, numbering: Numbering<'_>, value: u32) -> Option<u64> {
     let mut number = 0u64;
     let mut previous: &[u8] = &[];
     let mut rest = file.bytes;

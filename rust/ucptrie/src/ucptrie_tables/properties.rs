@@ -7,14 +7,10 @@ use crate::support::AllocError;
 use crate::support::prelude::*;
 use crate::ucd_files::value_names::ValueNames;
 use crate::ucptrie_tables::fault::ReadFault;
-use crate::ucptrie_tables::read::{
-    file_of_toml, read_table, table_of_members, toml_text, trie_of_table, value_at,
-};
+use crate::ucptrie_tables::parsed::ParsedFile;
+use crate::ucptrie_tables::read::{read_table, table_of_members, trie_of_table, value_at};
 use crate::ucptrie_tables::table::Table;
 use crate::ucptrie_tables::toml_names::{NamesFault, names_of};
-
-/// A TOML file.
-pub type TomlFile = toml::value::Table;
 
 /// A property that has a trie.
 #[derive(Clone, Copy)]
@@ -147,28 +143,19 @@ fn asked_trie<'a>(
     }
 }
 
-/// Returns the file if it is taken for TOML, or `None` for any other one.
-///
-/// # Errors
-/// Returns [`ReadFault::Toml`] if the text is not TOML, and [`ReadFault::Memory`] if an allocation
-/// fails.
-pub fn toml_file(file: &[u8]) -> Result<Option<TomlFile>, ReadFault> {
-    match toml_text(file) {
-        Some(text) => Ok(Some(file_of_toml(text)?)),
-        None => Ok(None),
-    }
-}
-
 /// Returns the names of the values of the property whose table [`read_property`] reads from a file,
-/// as [`names_of`] does. Returns none if no property is chosen.
+/// as [`names_of`] does. Returns none if no property is chosen, or the file is not taken for TOML.
 ///
 /// # Errors
 /// Returns those of [`names_of`].
 pub fn property_names<'a>(
-    file: &'a TomlFile,
+    file: &'a ParsedFile<'_>,
     name: Option<&str>,
 ) -> Result<ValueNames<'a>, NamesFault> {
-    let found = properties_of(file, name)?;
+    let Some(toml) = file.toml() else {
+        return Ok(ValueNames::new());
+    };
+    let found = properties_of(toml, name)?;
     match found.as_slice() {
         [property] => names_of(property.table),
         _ => Ok(ValueNames::new()),
@@ -176,8 +163,7 @@ pub fn property_names<'a>(
 }
 
 /// Reads the table that a file has, as [`read_table`] does, but in TOML only that of the property
-/// with this name, or of the only property with a trie if no name is asked. `toml` is the file as
-/// [`toml_file`] returns it.
+/// with this name, or of the only property with a trie if no name is asked.
 ///
 /// A name is the key of a property in the file, or its `long_name` or `short_name`.
 ///
@@ -185,17 +171,13 @@ pub fn property_names<'a>(
 /// Returns [`PropertyFault::Several`] if several properties have a trie, and the name, if one is
 /// asked, and [`PropertyFault::Missing`] if none has that name. Returns [`PropertyFault::NotToml`]
 /// if a name is asked of a file in another form. Other errors are those of [`read_table`].
-pub fn read_property(
-    file: &[u8],
-    toml: Option<&TomlFile>,
-    name: Option<&str>,
-) -> Result<Table, PropertyFault> {
-    if let Some(toml) = toml {
+pub fn read_property(file: &ParsedFile<'_>, name: Option<&str>) -> Result<Table, PropertyFault> {
+    if let Some(toml) = file.toml() {
         let trie = asked_trie(toml, name)?;
         return Ok(table_of_members(trie)?);
     }
     if name.is_some() {
         return Err(PropertyFault::NotToml);
     }
-    Ok(read_table(file)?)
+    Ok(read_table(file.bytes())?)
 }

@@ -1,0 +1,37 @@
+//! A file with its TOML, which is parsed once for all that is read from it.
+
+#[allow(unused_imports)]
+use crate::host::{HostRuntime, Text};
+use crate::ucptrie_tables::fault::ReadFault;
+use crate::ucptrie_tables::read::{file_of_toml, toml_text};
+
+/// A file, and its TOML if it is taken for TOML.
+pub struct ParsedFile<'f> {
+    bytes: &'f [u8],
+    toml: Option<toml::value::Table>,
+}
+
+impl<'f> ParsedFile<'f> {
+    /// Parses a file if it is taken for TOML.
+    ///
+    /// # Errors
+    /// Returns [`ReadFault::Toml`] if the text is not TOML, and [`ReadFault::Memory`] if an
+    /// allocation fails.
+    pub fn new(bytes: &'f [u8]) -> Result<ParsedFile<'f>, ReadFault> {
+        let toml = match toml_text(bytes) {
+            Some(text) => Some(file_of_toml(text)?),
+            None => None,
+        };
+        Ok(ParsedFile { bytes, toml })
+    }
+
+    /// Returns the bytes of the file.
+    pub fn bytes(&self) -> &'f [u8] {
+        self.bytes
+    }
+
+    /// Returns the TOML of the file, or `None` if it is not taken for TOML.
+    pub fn toml(&self) -> Option<&toml::value::Table> {
+        self.toml.as_ref()
+    }
+}
