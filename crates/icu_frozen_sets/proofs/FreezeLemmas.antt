@@ -1,14 +1,11 @@
 -- The ranges of a set are filled one after another.
-use Rattle.std.proofs.Common.{◌≡◌, ◌∙◌, ℕ, ◌+◌, ◌%◌, ◌<◌, ◌≤◌, ◌-◌, List, [], ◌∷◌, length, drop, slice_get, Some, get_or, min, refl, ap, sym, arith, zero, suc, Bool, true, false, inl, inr}
+use Rattle.std.proofs.Common.{◌≡◌, ◌∙◌, ℕ, ◌+◌, ◌<◌, ◌≤◌, List, [], ◌∷◌, length, get_or, min, refl, ap, sym, arith, suc, Bool, true, false, inl, inr}
 use Rattle.std.specs.Prelude.{nat_lt, nat_le, ◌&&◌, ◌||◌}
 use Rattle.std.specs.List.{All}
 use Rattle.std.specs.declared.ops.RangeInclusive.{RangeInclusive}
 use Rattle.std.proofs.lemmas.Bool.{cases_lt, lt-ltb, le-ltb, le-leb, lt-leb}
 use Rattle.icu_zerovec.specs.CodePoints.{code_point_limit}
-use Rattle.std.proofs.Math.ListN.{drop_of_length-le}
-use Rattle.std.proofs.lemmas.Option.{get_or_from_slice_get}
-use Rattle.icu_invlist.specs.InversionList.{AreApart, IsOfCodePoints, IsValid, StartsBehind, between, holds, in_ranges, ranges_of}
-use Rattle.icu_invlist.proofs.CallerLemmas.{ranges_apart, ranges_hold, ranges_within}
+use Rattle.icu_invlist.specs.InversionList.{AreApart, IsOfCodePoints, IsValid, StartsBehind, between, holds, in_ranges}
 use Rattle.icu_frozen_sets.specs.CodePointBits.{BitTables, has_bit}
 use Rattle.icu_frozen_sets.specs.Inside.Filling.{AreBelow, AreClosed, AreTables, IsFilling, IsFrozen, bit_among, bits_of, filled}
 use Rattle.icu_frozen_sets.proofs.BitLemmas.{or_false}
@@ -68,46 +65,6 @@ below_rest : (starts ends : List ℕ) (at last : ℕ) (left : List (RangeInclusi
 below_rest starts ends at last [] b h = tt
 below_rest starts ends at last (r ∷ rs) b h = below_later starts ends at (last + 2) r.start b (omega arith)
 
--- ---- the boundaries from index i on, two at a time
-drop_place : (xs : List ℕ) (i x : ℕ) → slice_get xs i ≡ Some x → drop i xs ≡ x ∷ drop (i + 1) xs
-drop_place [] i x e = cc
-drop_place (y ∷ ys) zero x e = let k : y ≡ x = cc in rw k refl
-drop_place (y ∷ ys) (suc i) x e = let k : suc i + 1 ≡ suc (i + 1) = omega arith in rw k (drop_place ys i x e)
-
-two_places : (xs : List ℕ) (i x y : ℕ) → slice_get xs i ≡ Some x → slice_get xs (i + 1) ≡ Some y → drop i xs ≡ x ∷ y ∷ drop (i + 2) xs
-two_places xs i x y a b = drop_place xs i x a ∙ ap (λ (zs : List ℕ). x ∷ zs) (drop_place xs (i + 1) y b
-    ∙ ap (λ n. y ∷ drop n xs) (let e : i + 1 + 1 ≡ i + 2 = omega arith in e))
-
--- The next range is that of the next two boundaries.
-pub next_range : (xs : List ℕ) (i x y : ℕ) → slice_get xs i ≡ Some x → slice_get xs (i + 1) ≡ Some y
-    → ranges_of (drop i xs) ≡ record { start = x; end = y - 1; exhausted = false } ∷ ranges_of (drop (i + 2) xs)
-next_range xs i x y a b = ap (λ (zs : List ℕ). ranges_of zs) (two_places xs i x y a b)
-
--- A range's end is above its start.
-pub end_above : (xs : List ℕ) (i x y : ℕ) → IsValid xs → slice_get xs i ≡ Some x → slice_get xs (i + 1) ≡ Some y → i + 1 < length xs → x < y
-end_above xs i x y v a b h =
-    let s = v.ascending i h in
-    let p = get_or_from_slice_get xs i x 0 a in
-    let q = get_or_from_slice_get xs (i + 1) y 0 b in omega arith
-
--- The boundaries from a view of the set's list.
-module _ (set vs : List ℕ) (same : vs ≡ set) (i x y : ℕ) (first : slice_get vs i ≡ Some x) (second : slice_get vs (i + 1) ≡ Some y) where
-  x_at : slice_get set i ≡ Some x
-  x_at = ap (λ (zs : List ℕ). slice_get zs i) (sym same) ∙ first
-
-  y_at : slice_get set (i + 1) ≡ Some y
-  y_at = ap (λ (zs : List ℕ). slice_get zs (i + 1)) (sym same) ∙ second
-
-  pub range_at : ranges_of (drop i set) ≡ record { start = x; end = y - 1; exhausted = false } ∷ ranges_of (drop (i + 2) set)
-  range_at = next_range set i x y x_at y_at
-
-  pub rises_at : (n : ℕ) → IsValid set → n ≡ length vs → i < n → i % 2 ≡ 0 → x < y
-  rises_at n v l h even = let e = v.even in let m : length vs ≡ length set = ap length same in end_above set i x y v x_at y_at (omega arith)
-
--- No range is left.
-pub none_left : (xs : List ℕ) (i : ℕ) → length xs ≤ i → ranges_of (drop i xs) ≡ []
-none_left xs i h = ap (λ (zs : List ℕ). ranges_of zs) (drop_of_length-le xs h)
-
 pub freezes_none : (set : List ℕ) (left : List (RangeInclusive ℕ)) (t : BitTables) (starts ends : List ℕ) (carried : Bool) (at : ℕ)
     → IsFilling t at → AreClosed starts ends carried → ((next : ℕ) → AreBelow starts ends at next)
     → ((c : ℕ) → filled t (bits_of starts ends carried) at c ≡ false)
@@ -121,15 +78,6 @@ freezes_none set left t starts ends carried at f closed below none apart within 
   below = below_first starts ends at left below;
   held = λ c h. sym (rw (none c) (held c));
 }
-
--- Before any range is filled.
-pub freezes_first : (set : List ℕ) (t : BitTables) (starts ends : List ℕ) (carried : Bool) (at : ℕ) → IsValid set
-    → IsFilling t at → AreClosed starts ends carried → ((next : ℕ) → AreBelow starts ends at next)
-    → ((c : ℕ) → filled t (bits_of starts ends carried) at c ≡ false)
-    → Freezes set (ranges_of (drop 0 set)) t starts ends carried at
-freezes_first set t starts ends carried at v f closed below none =
-    freezes_none set (ranges_of set) t starts ends carried at f closed below none (ranges_apart set v) (ranges_within set v)
-    (λ c. ranges_hold set c v)
 
 module _ (set : List ℕ) (left rest : List (RangeInclusive ℕ)) (r : RangeInclusive ℕ) (step : left ≡ r ∷ rest) (t : BitTables)
     (starts ends : List ℕ) (carried : Bool) (at : ℕ)

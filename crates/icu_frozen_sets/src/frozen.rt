@@ -82,14 +82,10 @@ impl FrozenCodePointSet {
     ) -> Result<FrozenCodePointSet, MemoryError>
         ensures ok { IfOk result (λ s. s ≡ set.now) }
     {
-        let ends = set.as_inversion_list();
-        let count = ends.len();
-        let mut filling = Filling::new(alloc, count / 2)?;
-        // Cell by cell: the block of a boundary is its two upper bytes, which is one read.
-        let mut i = 0;
-        while i < count {
-            filling.add(u32::from(ends.at(i)), u32::from(ends.at(i + 1)))?;
-            i += 2;
+        let ranges = set.iter_ranges();
+        let mut filling = Filling::new(alloc, ranges.len())?;
+        for range in ranges {
+            filling.add(*range.start(), *range.end() + 1)?;
         }
         let bits = filling.finish()?;
         Ok(FrozenCodePointSet {

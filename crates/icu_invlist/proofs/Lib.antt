@@ -7,7 +7,6 @@ pub mod EmptySets
 mod EqualSets
 pub mod PlaceLemmas
 pub mod PackedEnds
-pub mod PackedPairs
 pub mod CheckedLists
 pub mod Toggles
 pub mod Searches

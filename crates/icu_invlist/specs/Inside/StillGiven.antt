@@ -3,14 +3,8 @@
 use Rattle.std.specs.Prelude.{ℕ, ◌-◌, List, [], ◌∷◌, ◌++◌, Option, Some, None, nat_lt, if◌then◌else◌}
 use Rattle.std.specs.List.{filter, range_with_len}
 use Rattle.std.proofs.Math.Utf8.{scalar}
-use Rattle.icu_zerovec.specs.Cells.{values_of}
 use Rattle.icu_zerovec.specs.CodePoints.{code_point_limit}
-use Rattle.icu_zerovec.specs.PackedBytes.{number_of}
 use Rattle.icu_invlist.specs.InversionList.{members, toggle_back}
-
--- The boundaries that are packed in bytes, in three bytes each.
-abbrev pub ends_in : List ℕ → List ℕ
-ends_in b = values_of (λ c. Some (number_of 3 c)) 3 b
 
 -- The boundaries of the gaps of a set, from the start of the next gap and the set's boundaries
 -- after it.

@@ -1,5 +1,5 @@
 //! Iterators over the ranges and the characters of a set.
-ghost use Rattle.std.specs.Prelude.{◌≡◌, ◌<◌, ◌≤◌, ◌-◌, ◌^◌, ◌∷◌, [], drop, length, take, Some, IfSome};
+ghost use Rattle.std.specs.Prelude.{◌≡◌, ◌<◌, ◌≤◌, ◌-◌, ◌^◌, ◌∷◌, [], length, Some, IfSome};
 ghost use Rattle.std.specs.Char.{OutOfScalarRange};
 ghost use Rattle.std.specs.Iterator.{YieldsFirst, item_count, at_most, UpTo};
 ghost use Rattle.std.specs.Iterator.SizeHint.{IsWithinCount};
@@ -7,13 +7,11 @@ ghost use Rattle.std.specs.List.{filter, range_with_len};
 ghost use Rattle.std.specs.Option.{MatchOption};
 ghost use Rattle.std.proofs.Math.Utf8.{scalar};
 ghost use Rattle.icu_zerovec.specs.CodePoints.{code_point_limit};
-ghost use Rattle.icu_zerovec.specs.PackedBytes.{number_of};
-ghost use Rattle.icu_zerovec.specs.Slice.{slice_values};
 ghost use Rattle.icu_invlist.specs.InversionList.{IsValid, ranges_of};
 ghost use Rattle.icu_invlist.specs.Inside.StillGiven.{gaps_left, start_at, characters_left};
 
 use icu_zerovec::iter::Iter;
-use icu_zerovec::{CODE_POINT_LIMIT, PotentialCodePoint, ZeroSlice};
+use icu_zerovec::{CODE_POINT_LIMIT, PotentialCodePoint};
 use std::marker::Model;
 use std::ops::RangeInclusive;
 
@@ -25,52 +23,28 @@ use std::ops::RangeInclusive;
 /// In contracts, it is the list of the boundaries of the ranges that are left.
 #[derive(Debug, Drop)]
 pub struct IterRanges<'a> {
-    /// The boundaries, packed in three bytes each.
-    bytes: &'a [u8],
+    ends: Iter<'a, PotentialCodePoint>,
 }
 
 impl<'a> Model for IterRanges<'a> {
     ghost use Rattle.std.specs.Prelude.{List, ℕ};
     ghost use Rattle.icu_invlist.specs.InversionList.{IsValid};
-    ghost use Rattle.icu_invlist.specs.Inside.StillGiven.{ends_in};
 
     ghost Value = { List ℕ };
 
-    ghost view = { λ a. ends_in a.bytes.now };
+    ghost view = { λ a. a.ends };
 
-    ghost invariant = { λ a. IsValid (ends_in a.bytes.now) };
+    ghost invariant = { λ a. IsValid a.ends };
 }
 
 impl<'a> IterRanges<'a> {
     /// Returns an iterator over the ranges with these boundaries.
-    pub(crate) fn from_ends(ends: ZeroSlice<'a, PotentialCodePoint>) -> Self
-        requires { IsValid (slice_values ends) }
-        ensures { result ≡ slice_values ends.entry }
+    pub(crate) fn from_ends(ends: Iter<'a, PotentialCodePoint>) -> Self
+        requires { IsValid ends }
+        ensures { result ≡ ends.entry }
     {
-        IterRanges {
-            bytes: ends.as_bytes(),
-        }
+        IterRanges { ends }
     }
-}
-
-/// Returns the two boundaries that are packed in six bytes.
-///
-/// Each is a part of four bytes that are copied as a whole: rustc and LLVM make one read of them,
-/// but two of three bytes.
-#[inline(always)]
-fn pair_of(cells: &[u8]) -> (u32, u32)
-    requires { length cells.now ≡ 6 }
-    ensures first { result.0 ≡ number_of 3 (take 3 cells.now) }
-    ensures second { result.1 ≡ number_of 3 (drop 3 cells.now) }
-{
-    let mut front = [0; 4];
-    front.copy_from_slice(&cells[..4]);
-    let mut back = [0; 4];
-    back.copy_from_slice(&cells[2..6]);
-    (
-        u32::from_le_bytes(front) % 0x100_0000,
-        u32::from_le_bytes(back) >> 8,
-    )
 }
 
 impl<'a> Iterator for IterRanges<'a> {
@@ -81,13 +55,9 @@ impl<'a> Iterator for IterRanges<'a> {
     ghost remaining = { item_count ranges_of };
 
     fn next(&mut self) -> Option<RangeInclusive<u32>> {
-        if self.bytes.len() < 6 {
-            return None;
-        }
-        let (cells, others) = self.bytes.split_at(6);
-        let (start, end) = pair_of(cells);
-        self.bytes = others;
-        Some(RangeInclusive::new(start, end - 1))
+        let start = self.ends.next()?;
+        let end = self.ends.next()?;
+        Some(RangeInclusive::new(u32::from(start), u32::from(end) - 1))
     }
 
     fn size_hint(&self) -> (usize, Option<usize>)
@@ -96,14 +66,14 @@ impl<'a> Iterator for IterRanges<'a> {
         ensures exact { (result.0 ≡ length (ranges_of self.now))
             × (result.1 ≡ Some (length (ranges_of self.now))) }
     {
-        let len = self.bytes.len() / 6;
+        let len = self.ends.len() / 2;
         (len, Some(len))
     }
 }
 
 impl<'a> ExactSizeIterator for IterRanges<'a> {
     fn len(&self) -> usize {
-        self.bytes.len() / 6
+        self.ends.len() / 2
     }
 }
 

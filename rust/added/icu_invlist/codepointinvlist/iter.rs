@@ -1,11 +1,9 @@
 impl DoubleEndedIterator for IterRanges<'_> {
     #[inline]
     fn next_back(&mut self) -> Option<RangeInclusive<u32>> {
-        let place = self.bytes.len().checked_sub(6)?;
-        let (others, cells) = self.bytes.split_at(place);
-        let (start, end) = pair_of(cells);
-        self.bytes = others;
-        Some(RangeInclusive::new(start, end - 1))
+        let end = self.ends.next_back()?;
+        let start = self.ends.next_back()?;
+        Some(RangeInclusive::new(u32::from(start), u32::from(end) - 1))
     }
 }
 

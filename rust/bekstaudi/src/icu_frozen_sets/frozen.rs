@@ -55,14 +55,10 @@ impl FrozenCodePointSet {
     /// # Errors
     /// Returns `MemoryError` if an allocation fails.
     pub fn try_freeze(set: &CodePointInversionList<'_>) -> Result<FrozenCodePointSet, MemoryError> {
-        let ends = set.as_inversion_list();
-        let count = ends.len();
-        let mut filling = Filling::new(count / 2)?;
-        // Cell by cell: the block of a boundary is its two upper bytes, which is one read.
-        let mut i = 0;
-        while i < count {
-            filling.add(u32::from(ends.at(i)), u32::from(ends.at(i + 1)))?;
-            i += 2;
+        let ranges = set.iter_ranges();
+        let mut filling = Filling::new(ranges.len())?;
+        for range in ranges {
+            filling.add(*range.start(), *range.end() + 1)?;
         }
         let bits = filling.finish()?;
         Ok(FrozenCodePointSet {

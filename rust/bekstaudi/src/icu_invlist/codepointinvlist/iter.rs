@@ -1,7 +1,7 @@
 //! Iterators over the ranges and the characters of a set.
 
 use crate::icu_zerovec::iter::Iter;
-use crate::icu_zerovec::{CODE_POINT_LIMIT, PotentialCodePoint, ZeroSlice};
+use crate::icu_zerovec::{CODE_POINT_LIMIT, PotentialCodePoint};
 use core::ops::RangeInclusive;
 
 /// An iterator over the ranges of a set, in ascending order.
@@ -11,34 +11,15 @@ use core::ops::RangeInclusive;
 #[derive(Debug, Clone)]
 #[must_use = "iterators are lazy and do nothing unless consumed"]
 pub struct IterRanges<'a> {
-    /// The boundaries, packed in three bytes each.
-    bytes: &'a [u8],
+    ends: Iter<'a, PotentialCodePoint>,
 }
 
 impl<'a> IterRanges<'a> {
     /// Returns an iterator over the ranges with these boundaries.
     #[inline]
-    pub(crate) fn from_ends(ends: ZeroSlice<'a, PotentialCodePoint>) -> Self {
-        IterRanges {
-            bytes: ends.as_bytes(),
-        }
+    pub(crate) fn from_ends(ends: Iter<'a, PotentialCodePoint>) -> Self {
+        IterRanges { ends }
     }
-}
-
-/// Returns the two boundaries that are packed in six bytes.
-///
-/// Each is a part of four bytes that are copied as a whole: rustc and LLVM make one read of them,
-/// but two of three bytes.
-#[inline(always)]
-fn pair_of(cells: &[u8]) -> (u32, u32) {
-    let mut front = [0; 4];
-    front.copy_from_slice(&cells[..4]);
-    let mut back = [0; 4];
-    back.copy_from_slice(&cells[2..6]);
-    (
-        u32::from_le_bytes(front) % 0x100_0000,
-        u32::from_le_bytes(back) >> 8,
-    )
 }
 
 impl<'a> Iterator for IterRanges<'a> {
@@ -46,18 +27,14 @@ impl<'a> Iterator for IterRanges<'a> {
 
     #[inline]
     fn next(&mut self) -> Option<RangeInclusive<u32>> {
-        if self.bytes.len() < 6 {
-            return None;
-        }
-        let (cells, others) = self.bytes.split_at(6);
-        let (start, end) = pair_of(cells);
-        self.bytes = others;
-        Some(RangeInclusive::new(start, end - 1))
+        let start = self.ends.next()?;
+        let end = self.ends.next()?;
+        Some(RangeInclusive::new(u32::from(start), u32::from(end) - 1))
     }
 
     #[inline]
     fn size_hint(&self) -> (usize, Option<usize>) {
-        let len = self.bytes.len() / 6;
+        let len = self.ends.len() / 2;
         (len, Some(len))
     }
 }
@@ -65,7 +42,7 @@ impl<'a> Iterator for IterRanges<'a> {
 impl<'a> ExactSizeIterator for IterRanges<'a> {
     #[inline]
     fn len(&self) -> usize {
-        self.bytes.len() / 6
+        self.ends.len() / 2
     }
 }
 
@@ -224,11 +201,9 @@ impl<'a> Iterator for IterChars<'a> {
 impl DoubleEndedIterator for IterRanges<'_> {
     #[inline]
     fn next_back(&mut self) -> Option<RangeInclusive<u32>> {
-        let place = self.bytes.len().checked_sub(6)?;
-        let (others, cells) = self.bytes.split_at(place);
-        let (start, end) = pair_of(cells);
-        self.bytes = others;
-        Some(RangeInclusive::new(start, end - 1))
+        let end = self.ends.next_back()?;
+        let start = self.ends.next_back()?;
+        Some(RangeInclusive::new(u32::from(start), u32::from(end) - 1))
     }
 }
 
