@@ -139,6 +139,13 @@ def is_kept(rt, crate):
     return is_built(rt, crate) or take_passed(rt, crate)
 
 
+def mark(rt, made, stamp):
+    """Notes what a file was built from, so that it is not built or put in place again. Another script
+    may run it then: rt takes what it cannot write over for damaged, and drops what it stored of it."""
+    with open(f"{made}.mark", "w", encoding="utf-8") as file:
+        file.write(stamp + rt.rtlib.sum_of(made))
+
+
 def built(rt, crate):
     """The path of the crate's program, of its static library, or of its tests if it is another
     library; None if it cannot be built. Takes what `rt ci` passed, or what was built here from the
@@ -147,6 +154,7 @@ def built(rt, crate):
     if is_built(rt, crate):
         return made
     if take_passed(rt, crate, tests=not crate.is_program) and not crate.is_static:
+        mark(rt, made, stamp)
         return made
     words = ["rt", "lib" if crate.is_static else "run" if crate.is_program else "test"]
     ran = subprocess.run(
@@ -163,8 +171,7 @@ def built(rt, crate):
         print("\n".join(ran.stdout.split("\n")[-20:]), file=sys.stderr)
         return None
     # The stamp is from before the build: a file that was edited meanwhile has another one.
-    with open(f"{made}.mark", "w", encoding="utf-8") as file:
-        file.write(stamp + rt.rtlib.sum_of(made))
+    mark(rt, made, stamp)
     return made
 
 
