@@ -3,7 +3,7 @@ ghost use Rattle.std.specs.Prelude.{◌≡◌, ◌↔◌, ℕ, ℤ, pos, List, [
 ghost use Rattle.icu_zerovec.specs.Slice.{slice_values};
 ghost use Rattle.icu_char16trie.specs.Grammar.{IsTrieOf};
 ghost use Rattle.icu_char16trie.specs.UnitMap.{UnitMap, after_all, value_of, goes_on};
-ghost use Rattle.icu_char16trie.specs.Listing.{AreToCome, entry_text, entry_value};
+ghost use Rattle.icu_char16trie.specs.Listing.{AreToCome, entry_text, entry_value, listed_units};
 ghost use Rattle.icu_char16trie.specs.CursorPlaces.{place_of};
 ghost use Rattle.icu_char16trie.specs.UnitPlaces.{HasPassed, value_at, is_empty_at};
 ghost use Rattle.icu_char16trie.specs.NextUnits.{AreAscending, GoesOnWith, first_units};
@@ -177,6 +177,7 @@ impl<'a> Char16TrieCursor<'a> {
             → AreToCome result (after_all w m) }
         ensures text { entry_text result ≡ [] }
         ensures value { entry_value result ≡ pos 0 }
+        ensures units { listed_units result ≡ self.now.units }
     {
         Entries::new(alloc, self.units, self.place)
     }

@@ -10,7 +10,7 @@ ghost use Rattle.icu_zerovec.specs.Cells.{same_bytes};
 ghost use Rattle.icu_char16trie.specs.Grammar.{IsTrieOf};
 ghost use Rattle.icu_char16trie.specs.UnitMap.{UnitMap, IsAscendingKeys};
 ghost use Rattle.icu_char16trie.specs.Entries.{IsLeft, GivesNext, AreEntries, AreCutShort};
-ghost use Rattle.icu_char16trie.specs.Listing.{AreToCome, entry_text, entry_value};
+ghost use Rattle.icu_char16trie.specs.Listing.{AreToCome, entry_text, entry_value, listed_units};
 ghost use Rattle.icu_char16trie.specs.UnitPlaces.{HasPassed};
 ghost use Rattle.icu_char16trie.specs.declared.place.Place.TheVariants.{Node};
 
@@ -144,6 +144,7 @@ impl<'data> Char16Trie<'data> {
         ensures one { (m m' : UnitMap) → IsTrieOf self.now m → IsTrieOf self.now m' → m ≡ m' }
         ensures text { entry_text result ≡ [] }
         ensures value { entry_value result ≡ pos 0 }
+        ensures units { listed_units result ≡ self.now }
     {
         self.cursor().entries(alloc)
     }
