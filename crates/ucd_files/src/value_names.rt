@@ -1,5 +1,5 @@
 //! Names of values, each of which is found without a comparison with all others.
-ghost use Rattle.std.specs.Prelude.{◌≡◌, ℕ, ◌==◌, ◌∷◌, ◌++◌, [], if◌then◌else◌, slice_get, IfOk, OnErr, OnOk};
+ghost use Rattle.std.specs.Prelude.{◌≡◌, ℕ, ◌==◌, ◌∷◌, ◌++◌, [], if◌then◌else◌, slice_get, IfErr, IfOk, OnErr, OnOk};
 ghost use Rattle.std.specs.List.{filter_map};
 ghost use Rattle.ucd_files.specs.Inside.Groups.{group, name_hash};
 ghost use Rattle.ucd_files.specs.Names.{number_named, pairs_of};
@@ -115,10 +115,11 @@ impl<'a> ValueNames<'a> {
     /// Appends a name with its number.
     ///
     /// # Errors
-    /// Returns [`AllocError`] if an allocation fails.
+    /// Returns [`AllocError`] if an allocation fails. The names are unchanged then.
     pub fn push(&mut self, number: usize, text: &'a [u8]) -> Result<(), AllocError>
-        ensures { IfOk result
+        ensures ok { IfOk result
             (λ _. pairs_of self.new ≡ pairs_of self.old ++ (text.now, number) ∷ []) }
+        ensures err { IfErr result (λ _. pairs_of self.new ≡ pairs_of self.old) }
     {
         self.names.reserve(1)?;
         push_in_group(&mut self.groups, hash_of(text), self.names.len())?;

@@ -83,7 +83,7 @@ impl<'a> ValueNames<'a> {
     /// Appends a name with its number.
     ///
     /// # Errors
-    /// Returns [`AllocError`] if an allocation fails.
+    /// Returns [`AllocError`] if an allocation fails. The names are unchanged then.
     pub fn try_push(&mut self, number: usize, text: &'a [u8]) -> Result<(), AllocError> {
         self.names.try_room(1)?;
         push_in_group(&mut self.groups, hash_of(text), self.names.len())?;
