@@ -57,26 +57,6 @@ fn converted(alloc: Global, name: &str, table: &Table, form: Form<'_>) -> Result
     }
 }
 
-/// Returns a table in a form, followed by the source of the names that a file has for its values,
-/// if it is TOML. `name` is what the file was read from.
-fn with_names_of_toml(
-    alloc: Global,
-    matches: &ArgMatches<'_>,
-    name: &str,
-    file: &ParsedFile<'_>,
-    bytes: Vec<u8>,
-    width: ValueWidth,
-) -> Result<Vec<u8>, Fault> {
-    match property_names(alloc, file, matches.get_str("property")) {
-        Ok(names) => {
-            let names = names.as_slice();
-            Ok(with_names(alloc, matches, bytes, form(matches), width, names)?)
-        }
-        Err(NamesFault::Memory) => Err(Fault::Memory),
-        Err(fault) => Err(about(alloc, name, fault)),
-    }
-}
-
 /// Returns a table in a form, followed by the source of the names that its file has for its values,
 /// if the form is source. `name` is what the file was read from.
 fn with_names_of_file(
@@ -87,11 +67,14 @@ fn with_names_of_file(
     bytes: Vec<u8>,
     width: ValueWidth,
 ) -> Result<Vec<u8>, Fault> {
-    match form(matches) {
-        Form::C(_) | Form::Rust(_) => {
-            with_names_of_toml(alloc, matches, name, file, bytes, width)
-        }
-        form => Ok(with_names(alloc, matches, bytes, form, width, &[])?),
+    let form = form(matches);
+    if !matches!(form, Form::C(_) | Form::Rust(_)) {
+        return Ok(with_names(alloc, matches, bytes, form, width, &[])?);
+    }
+    match property_names(alloc, file, matches.get_str("property")) {
+        Ok(names) => Ok(with_names(alloc, matches, bytes, form, width, names.as_slice())?),
+        Err(NamesFault::Memory) => Err(Fault::Memory),
+        Err(fault) => Err(about(alloc, name, fault)),
     }
 }
 

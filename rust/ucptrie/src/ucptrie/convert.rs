@@ -55,28 +55,6 @@ fn converted(name: &str, table: &Table, form: Form<'_>) -> Result<Vec<u8>, Fault
     }
 }
 
-/// Returns a table in a form, followed by the source of the names that a file has for its values,
-/// if it is TOML. `name` is what the file was read from.
-fn with_names_of_toml(
-    matches: &ArgMatches,
-    name: &str,
-    file: &ParsedFile<'_>,
-    bytes: Vec<u8>,
-    width: ValueWidth,
-) -> Result<Vec<u8>, Fault> {
-    match property_names(
-        file,
-        matches.get_one::<String>("property").map(String::as_str),
-    ) {
-        Ok(names) => {
-            let names = names.as_slice();
-            Ok(with_names(matches, bytes, form(matches), width, names)?)
-        }
-        Err(NamesFault::Memory) => Err(Fault::Memory),
-        Err(fault) => Err(about(name, fault)),
-    }
-}
-
 /// Returns a table in a form, followed by the source of the names that its file has for its values,
 /// if the form is source. `name` is what the file was read from.
 fn with_names_of_file(
@@ -86,9 +64,17 @@ fn with_names_of_file(
     bytes: Vec<u8>,
     width: ValueWidth,
 ) -> Result<Vec<u8>, Fault> {
-    match form(matches) {
-        Form::C(_) | Form::Rust(_) => with_names_of_toml(matches, name, file, bytes, width),
-        form => Ok(with_names(matches, bytes, form, width, &[])?),
+    let form = form(matches);
+    if !matches!(form, Form::C(_) | Form::Rust(_)) {
+        return Ok(with_names(matches, bytes, form, width, &[])?);
+    }
+    match property_names(
+        file,
+        matches.get_one::<String>("property").map(String::as_str),
+    ) {
+        Ok(names) => Ok(with_names(matches, bytes, form, width, names.as_slice())?),
+        Err(NamesFault::Memory) => Err(Fault::Memory),
+        Err(fault) => Err(about(name, fault)),
     }
 }
 
