@@ -76,9 +76,8 @@ EDITS = {
     ],
     "ucptrie/word_lists": [(r"\bfn form<'a>(\(matches: &ArgMatches\) -> Form)<'a>", r"fn form\1<'_>", 1)],
     "ucptrie/words": [
-        (r"(name|about): &'a str", r"\1: &'static str", 2),
-        (r"(\.arg\(arg_of\(row\)\))\?", r"\1", 1),
-        (r"(\.subcommand\(command_of\(.*\)\?\))\?", r"\1", 1),
+        (r"(\.arg\(arg_of\(argument\)\))\?", r"\1", 1),
+        (r"(?m)^    (Command::new\(.*(?:\n +\..*)+)$", r"    Ok(\1)", 1),
         (r"(fn \w+)<'a>", r"\1", 8),
     ],
     "ucd_files/read": [(r"(missing\.append\(&mut explicit\))\?", r"\1", 1)],

@@ -333,47 +333,55 @@ const SET: [Argument; 11] = [
     CHECK,
 ];
 
-/// The name, the description and the arguments of a command.
-type Row = (&'static str, &'static str, &'static [Argument]);
+/// A command, what help says of it, and its arguments.
+struct Row {
+    name: &'static str,
+    about: &'static str,
+    arguments: &'static [Argument],
+}
 
 /// The commands.
 static COMMANDS: [Row; 8] = [
-    (
-        "build",
-        "Builds a table from rows or from a file of the Unicode Character Database",
-        &BUILD,
-    ),
-    (
-        "convert",
-        "Writes a table in another form, or of another type, width or error value",
-        &CONVERT,
-    ),
-    (
-        "set",
-        "Writes the set of the code points with a value",
-        &SET,
-    ),
-    (
-        "words",
-        "Writes a word list as a unit trie, which ICU's UCharsTrie reads",
-        &WORDS,
-    ),
-    (
-        "show",
-        "Prints the header of a table, its sizes and its ranges",
-        &SHOW,
-    ),
-    ("get", "Prints the value of each number in a table", &GET),
-    (
-        "explain",
-        "Prints which cells of a table the look-up of each number reads",
-        &GET,
-    ),
-    (
-        "diff",
-        "Prints the ranges in which two tables differ, with the value of each",
-        &DIFF,
-    ),
+    Row {
+        name: "build",
+        about: "Builds a table from rows or from a file of the Unicode Character Database",
+        arguments: &BUILD,
+    },
+    Row {
+        name: "convert",
+        about: "Writes a table in another form, or of another type, width or error value",
+        arguments: &CONVERT,
+    },
+    Row {
+        name: "set",
+        about: "Writes the set of the code points with a value",
+        arguments: &SET,
+    },
+    Row {
+        name: "words",
+        about: "Writes a word list as a unit trie, which ICU's UCharsTrie reads",
+        arguments: &WORDS,
+    },
+    Row {
+        name: "show",
+        about: "Prints the header of a table, its sizes and its ranges",
+        arguments: &SHOW,
+    },
+    Row {
+        name: "get",
+        about: "Prints the value of each number in a table",
+        arguments: &GET,
+    },
+    Row {
+        name: "explain",
+        about: "Prints which cells of a table the look-up of each number reads",
+        arguments: &GET,
+    },
+    Row {
+        name: "diff",
+        about: "Prints the ranges in which two tables differ, with the value of each",
+        arguments: &DIFF,
+    },
 ];
 
 /// Sets what help calls the argument's value.
@@ -411,36 +419,31 @@ fn arg_of<'a>(alloc: Global, row: &Argument) -> Arg<'a> {
     placed(with_default(tested, row), row)
 }
 
-/// Returns a command with these arguments.
-fn command_of<'a>(
-    alloc: Global,
-    name: &'a str,
-    about: &'a str,
-    arguments: &[Argument],
-) -> Result<Command<'a>, AllocError> {
-    let mut command = Command::new(alloc, name).about(about);
-    for row in arguments {
-        command = command.arg(arg_of(alloc, row))?;
+/// Returns a command with the arguments of its row.
+fn command_of<'a>(alloc: Global, row: &Row) -> Result<Command<'a>, AllocError> {
+    let mut command = Command::new(alloc, row.name).about(row.about);
+    for argument in row.arguments {
+        command = command.arg(arg_of(alloc, argument))?;
     }
     Ok(command)
 }
 
-/// Adds commands to a program.
-fn with_commands<'a>(
-    alloc: Global,
-    program: Command<'a>,
-    commands: &[Row],
-) -> Result<Command<'a>, AllocError> {
-    let mut program = program;
-    for (name, about, arguments) in commands {
-        program = program.subcommand(command_of(alloc, name, about, arguments)?)?;
+/// Returns the commands in clap's form.
+fn commands<'a>(alloc: Global) -> Result<Vec<Command<'a>>, AllocError> {
+    let mut commands = Vec::new(alloc);
+    for row in &COMMANDS {
+        let command = command_of(alloc, row)?;
+        commands.push(command)?;
     }
-    Ok(program)
+    Ok(commands)
 }
 
 /// Returns the program's command line in clap's form.
 pub fn program_words<'a>(alloc: Global) -> Result<Command<'a>, AllocError> {
-    let about = "Makes code point tries from rows, and reads them";
-    let named = command_of(alloc, "ucptrie", about, &[])?.version(VERSION);
-    with_commands(alloc, named.subcommand_required(true), &COMMANDS)
+    let commands = commands(alloc)?;
+    Command::new(alloc, "ucptrie")
+        .about("Makes code point tries from rows, and reads them")
+        .version(VERSION)
+        .subcommand_required(true)
+        .subcommands(commands)
 }

@@ -337,47 +337,55 @@ const SET: [Argument; 11] = [
     CHECK,
 ];
 
-/// The name, the description and the arguments of a command.
-type Row = (&'static str, &'static str, &'static [Argument]);
+/// A command, what help says of it, and its arguments.
+struct Row {
+    name: &'static str,
+    about: &'static str,
+    arguments: &'static [Argument],
+}
 
 /// The commands.
 static COMMANDS: [Row; 8] = [
-    (
-        "build",
-        "Builds a table from rows or from a file of the Unicode Character Database",
-        &BUILD,
-    ),
-    (
-        "convert",
-        "Writes a table in another form, or of another type, width or error value",
-        &CONVERT,
-    ),
-    (
-        "set",
-        "Writes the set of the code points with a value",
-        &SET,
-    ),
-    (
-        "words",
-        "Writes a word list as a unit trie, which ICU's UCharsTrie reads",
-        &WORDS,
-    ),
-    (
-        "show",
-        "Prints the header of a table, its sizes and its ranges",
-        &SHOW,
-    ),
-    ("get", "Prints the value of each number in a table", &GET),
-    (
-        "explain",
-        "Prints which cells of a table the look-up of each number reads",
-        &GET,
-    ),
-    (
-        "diff",
-        "Prints the ranges in which two tables differ, with the value of each",
-        &DIFF,
-    ),
+    Row {
+        name: "build",
+        about: "Builds a table from rows or from a file of the Unicode Character Database",
+        arguments: &BUILD,
+    },
+    Row {
+        name: "convert",
+        about: "Writes a table in another form, or of another type, width or error value",
+        arguments: &CONVERT,
+    },
+    Row {
+        name: "set",
+        about: "Writes the set of the code points with a value",
+        arguments: &SET,
+    },
+    Row {
+        name: "words",
+        about: "Writes a word list as a unit trie, which ICU's UCharsTrie reads",
+        arguments: &WORDS,
+    },
+    Row {
+        name: "show",
+        about: "Prints the header of a table, its sizes and its ranges",
+        arguments: &SHOW,
+    },
+    Row {
+        name: "get",
+        about: "Prints the value of each number in a table",
+        arguments: &GET,
+    },
+    Row {
+        name: "explain",
+        about: "Prints which cells of a table the look-up of each number reads",
+        arguments: &GET,
+    },
+    Row {
+        name: "diff",
+        about: "Prints the ranges in which two tables differ, with the value of each",
+        arguments: &DIFF,
+    },
 ];
 
 /// Sets what help calls the argument's value.
@@ -413,31 +421,31 @@ fn arg_of(row: &Argument) -> Arg {
     placed(with_default(tested, row), row)
 }
 
-/// Returns a command with these arguments.
-fn command_of(
-    name: &'static str,
-    about: &'static str,
-    arguments: &[Argument],
-) -> Result<Command, AllocError> {
-    let mut command = Command::new(name).about(about);
-    for row in arguments {
-        command = command.arg(arg_of(row));
+/// Returns a command with the arguments of its row.
+fn command_of(row: &Row) -> Result<Command, AllocError> {
+    let mut command = Command::new(row.name).about(row.about);
+    for argument in row.arguments {
+        command = command.arg(arg_of(argument));
     }
     Ok(command)
 }
 
-/// Adds commands to a program.
-fn with_commands(program: Command, commands: &[Row]) -> Result<Command, AllocError> {
-    let mut program = program;
-    for (name, about, arguments) in commands {
-        program = program.subcommand(command_of(name, about, arguments)?);
+/// Returns the commands in clap's form.
+fn commands() -> Result<Vec<Command>, AllocError> {
+    let mut commands = Vec::new();
+    for row in &COMMANDS {
+        let command = command_of(row)?;
+        commands.try_push(command)?;
     }
-    Ok(program)
+    Ok(commands)
 }
 
 /// Returns the program's command line in clap's form.
 pub fn program_words() -> Result<Command, AllocError> {
-    let about = "Makes code point tries from rows, and reads them";
-    let named = command_of("ucptrie", about, &[])?.version(VERSION);
-    with_commands(named.subcommand_required(true), &COMMANDS)
+    let commands = commands()?;
+    Ok(Command::new("ucptrie")
+        .about("Makes code point tries from rows, and reads them")
+        .version(VERSION)
+        .subcommand_required(true)
+        .subcommands(commands))
 }
