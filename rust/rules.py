@@ -118,8 +118,8 @@ GETTERS = {
 }
 # Traits that modules import for a method, and a word that such a module has.
 METHODS = {
-    "Cells": "cells", "PartValues": "ascii", "RangeOf": "deconstruct", "RangePoint": "number",
-    "TrieValue": "to_u32", "Write": "write",
+    "AsULE": "from_unaligned", "Cells": "cells", "PartValues": "ascii", "RangeOf": "deconstruct",
+    "RangePoint": "number", "TrieValue": "to_u32", "Write": "write",
 }
 # The modules of Rattle's std that Rust's core has under the same names.
 OWN = "cmp error fmt hash iter marker ops"

@@ -1,7 +1,6 @@
 -- The ranges and the members of a set.
-use Rattle.std.proofs.Common.{◌≡◌, ℕ, ◌+◌, ◌-◌, ◌*◌, ◌/◌, ◌%◌, ◌<◌, ◌≤◌, List, [], ◌∷◌, length, get_or, drop, Option, Some, None, slice_get, refl, ap, sym, ◌∙◌, arith, zero, suc, min, Bool, true, false, cond, inl, inr}
+use Rattle.std.proofs.Common.{◌≡◌, ℕ, ◌+◌, ◌-◌, ◌*◌, ◌/◌, ◌%◌, ◌<◌, ◌≤◌, List, [], ◌∷◌, length, get_or, drop, Some, slice_get, refl, ap, sym, ◌∙◌, arith, zero, suc, min, Bool, true, false, cond, inl, inr}
 use Rattle.std.proofs.lemmas.Bool.{cases_lt, cases_eq, eq-eqb, ne_eqb}
-use Rattle.std.specs.Option.{MatchOption}
 use Rattle.std.specs.declared.ops.RangeInclusive.{RangeInclusive}
 use Rattle.std.proofs.lemmas.List.{drop_more}
 use Rattle.std.proofs.lemmas.List.Elements.{All-cons, All-nil}
@@ -94,17 +93,6 @@ pub total-le : (lo hi : ℕ) (xs : List ℕ) → lo ≤ hi → Run lo hi xs → 
 total-le lo hi [] h r = omega arith
 total-le lo hi (s ∷ []) h r = omega arith
 total-le lo hi (s ∷ e ∷ xs) h r = let i = total-le (suc e) hi xs (omega (arith, r.2.1)) r.2.2 in omega (arith, r.0, r.2.0, r.2.1)
-
-empty_valid : IsValid []
-empty_valid = valid_from_run [] tt refl
-
--- Two boundaries removed from the start.
-pub left_valid : (xs ys zs : List ℕ) (r q : Option ℕ) → IsValid xs → MatchOption r ((xs ≡ []) × (ys ≡ [])) (λ x. xs ≡ x ∷ ys)
-    → MatchOption q ((ys ≡ []) × (zs ≡ [])) (λ y. ys ≡ y ∷ zs) → IsValid zs
-left_valid xs ys zs None None v a b = rw (b.1, ← a.0) v
-left_valid xs ys zs None (Some y) v a b = absurd (let e = sym a.1 ∙ b in cc)
-left_valid xs ys zs (Some x) None v a b = rw (b.1) (empty_valid)
-left_valid xs ys zs (Some x) (Some y) v a b = rest_valid x y zs (rw (a, b) at v)
 
 pub members-before : (lo hi m : ℕ) (xs : List ℕ) → Run lo hi xs → m ≤ lo → members_below xs m ≡ 0
 unfolding members_below

@@ -397,7 +397,7 @@ impl<'data> CodePointInversionList<'data> {
         ensures apart { AreApart (ranges_of self.now) }
         ensures held { (c : ℕ) → in_ranges (ranges_of self.now) c ≡ holds self.now c }
     {
-        IterRanges::from_ends(self.ends.iter())
+        IterRanges::from_bytes(self.ends.as_bytes())
     }
 
     /// Returns an iterator over the ranges of code points that are not in the set, in ascending

@@ -8,10 +8,12 @@ ghost use Rattle.std.specs.Option.{MatchOption};
 ghost use Rattle.std.proofs.Math.Utf8.{scalar};
 ghost use Rattle.icu_zerovec.specs.CodePoints.{code_point_limit};
 ghost use Rattle.icu_invlist.specs.InversionList.{IsValid, ranges_of};
-ghost use Rattle.icu_invlist.specs.Inside.StillGiven.{gaps_left, start_at, characters_left};
+ghost use Rattle.icu_invlist.specs.Inside.StillGiven.{ends_in, ArePackedEnds, gaps_left, start_at, characters_left};
 
 use icu_zerovec::iter::Iter;
-use icu_zerovec::{CODE_POINT_LIMIT, PotentialCodePoint};
+use icu_zerovec::ule::AsULE;
+use icu_zerovec::{CODE_POINT_LIMIT, PotentialCodePoint, ZeroVec};
+use std::fmt;
 use std::marker::Model;
 use std::ops::RangeInclusive;
 
@@ -21,29 +23,40 @@ use std::ops::RangeInclusive;
 /// It knows how many ranges are left.
 ///
 /// In contracts, it is the list of the boundaries of the ranges that are left.
-#[derive(Debug, Drop)]
+#[derive(Drop)]
 pub struct IterRanges<'a> {
-    ends: Iter<'a, PotentialCodePoint>,
+    /// The packed boundaries that are left: six bytes for each range.
+    bytes: &'a [u8],
 }
 
 impl<'a> Model for IterRanges<'a> {
     ghost use Rattle.std.specs.Prelude.{List, ℕ};
-    ghost use Rattle.icu_invlist.specs.InversionList.{IsValid};
+    ghost use Rattle.icu_invlist.specs.Inside.StillGiven.{ends_in, ArePackedEnds};
 
     ghost Value = { List ℕ };
 
-    ghost view = { λ a. a.ends };
+    ghost view = { λ a. ends_in a.bytes.now };
 
-    ghost invariant = { λ a. IsValid a.ends };
+    ghost invariant = { λ a. ArePackedEnds a.bytes.now };
 }
 
 impl<'a> IterRanges<'a> {
-    /// Returns an iterator over the ranges with these boundaries.
-    pub(crate) fn from_ends(ends: Iter<'a, PotentialCodePoint>) -> Self
-        requires { IsValid ends }
-        ensures { result ≡ ends.entry }
+    /// Returns an iterator over the ranges with these packed boundaries.
+    pub(crate) fn from_bytes(bytes: &'a [u8]) -> Self
+        requires { ArePackedEnds bytes.now }
+        ensures { result ≡ ends_in bytes.now }
     {
-        IterRanges { ends }
+        IterRanges { bytes }
+    }
+}
+
+/// Formats the boundaries that are left as a list.
+impl<'a> fmt::Debug for IterRanges<'a> {
+    fn fmt<W: fmt::Write>(&self, f: &mut fmt::Formatter<W>) -> fmt::Result {
+        match ZeroVec::<PotentialCodePoint>::parse_bytes(self.bytes) {
+            Ok(ends) => f.debug_struct("IterRanges").field("ends", &ends).finish(),
+            Err(_) => unreachable!(),
+        }
     }
 }
 
@@ -55,8 +68,14 @@ impl<'a> Iterator for IterRanges<'a> {
     ghost remaining = { item_count ranges_of };
 
     fn next(&mut self) -> Option<RangeInclusive<u32>> {
-        let start = self.ends.next()?;
-        let end = self.ends.next()?;
+        if self.bytes.is_empty() {
+            return None;
+        }
+        // Each range has six bytes, so at least six are left.
+        let (range, others) = self.bytes.split_at(6);
+        self.bytes = others;
+        let start = PotentialCodePoint::from_unaligned(&range[..3])?;
+        let end = PotentialCodePoint::from_unaligned(&range[3..6])?;
         Some(RangeInclusive::new(u32::from(start), u32::from(end) - 1))
     }
 
@@ -66,14 +85,14 @@ impl<'a> Iterator for IterRanges<'a> {
         ensures exact { (result.0 ≡ length (ranges_of self.now))
             × (result.1 ≡ Some (length (ranges_of self.now))) }
     {
-        let len = self.ends.len() / 2;
+        let len = self.bytes.len() / 6;
         (len, Some(len))
     }
 }
 
 impl<'a> ExactSizeIterator for IterRanges<'a> {
     fn len(&self) -> usize {
-        self.ends.len() / 2
+        self.bytes.len() / 6
     }
 }
 

@@ -1,8 +1,10 @@
 impl DoubleEndedIterator for IterRanges<'_> {
     #[inline]
     fn next_back(&mut self) -> Option<RangeInclusive<u32>> {
-        let end = self.ends.next_back()?;
-        let start = self.ends.next_back()?;
+        let (others, range) = self.bytes.split_last_chunk::<6>()?;
+        self.bytes = others;
+        let start = PotentialCodePoint::from_unaligned(&range[..3])?;
+        let end = PotentialCodePoint::from_unaligned(&range[3..6])?;
         Some(RangeInclusive::new(u32::from(start), u32::from(end) - 1))
     }
 }

@@ -338,7 +338,7 @@ impl<'data> CodePointInversionList<'data> {
     /// 0x62]` it yields 0x41..=0x43 and 0x61..=0x61.
     #[inline]
     pub fn iter_ranges(&self) -> IterRanges<'_> {
-        IterRanges::from_ends(self.ends.iter())
+        IterRanges::from_bytes(self.ends.as_bytes())
     }
 
     /// Returns an iterator over the ranges of code points that are not in the set, in ascending

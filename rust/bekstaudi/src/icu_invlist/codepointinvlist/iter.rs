@@ -1,24 +1,38 @@
 //! Iterators over the ranges and the characters of a set.
 
 use crate::icu_zerovec::iter::Iter;
-use crate::icu_zerovec::{CODE_POINT_LIMIT, PotentialCodePoint};
+use crate::icu_zerovec::ule::AsULE;
+use crate::icu_zerovec::{CODE_POINT_LIMIT, PotentialCodePoint, ZeroVec};
+use core::fmt;
 use core::ops::RangeInclusive;
 
 /// An iterator over the ranges of a set, in ascending order.
 /// [`iter_ranges`](crate::icu_invlist::codepointinvlist::CodePointInversionList::iter_ranges) returns it.
 ///
 /// It knows how many ranges are left.
-#[derive(Debug, Clone)]
+#[derive(Clone)]
 #[must_use = "iterators are lazy and do nothing unless consumed"]
 pub struct IterRanges<'a> {
-    ends: Iter<'a, PotentialCodePoint>,
+    /// The packed boundaries that are left: six bytes for each range.
+    bytes: &'a [u8],
 }
 
 impl<'a> IterRanges<'a> {
-    /// Returns an iterator over the ranges with these boundaries.
+    /// Returns an iterator over the ranges with these packed boundaries.
     #[inline]
-    pub(crate) fn from_ends(ends: Iter<'a, PotentialCodePoint>) -> Self {
-        IterRanges { ends }
+    pub(crate) fn from_bytes(bytes: &'a [u8]) -> Self {
+        IterRanges { bytes }
+    }
+}
+
+/// Formats the boundaries that are left as a list.
+impl<'a> fmt::Debug for IterRanges<'a> {
+    #[inline]
+    fn fmt(&self, f: &mut fmt::Formatter<'_>) -> fmt::Result {
+        match ZeroVec::<PotentialCodePoint>::parse_bytes(self.bytes) {
+            Ok(ends) => f.debug_struct("IterRanges").field("ends", &ends).finish(),
+            Err(_) => unreachable!(),
+        }
     }
 }
 
@@ -27,14 +41,20 @@ impl<'a> Iterator for IterRanges<'a> {
 
     #[inline]
     fn next(&mut self) -> Option<RangeInclusive<u32>> {
-        let start = self.ends.next()?;
-        let end = self.ends.next()?;
+        if self.bytes.is_empty() {
+            return None;
+        }
+        // Each range has six bytes, so at least six are left.
+        let (range, others) = self.bytes.split_at(6);
+        self.bytes = others;
+        let start = PotentialCodePoint::from_unaligned(&range[..3])?;
+        let end = PotentialCodePoint::from_unaligned(&range[3..6])?;
         Some(RangeInclusive::new(u32::from(start), u32::from(end) - 1))
     }
 
     #[inline]
     fn size_hint(&self) -> (usize, Option<usize>) {
-        let len = self.ends.len() / 2;
+        let len = self.bytes.len() / 6;
         (len, Some(len))
     }
 }
@@ -42,7 +62,7 @@ impl<'a> Iterator for IterRanges<'a> {
 impl<'a> ExactSizeIterator for IterRanges<'a> {
     #[inline]
     fn len(&self) -> usize {
-        self.ends.len() / 2
+        self.bytes.len() / 6
     }
 }
 
@@ -201,8 +221,10 @@ impl<'a> Iterator for IterChars<'a> {
 impl DoubleEndedIterator for IterRanges<'_> {
     #[inline]
     fn next_back(&mut self) -> Option<RangeInclusive<u32>> {
-        let end = self.ends.next_back()?;
-        let start = self.ends.next_back()?;
+        let (others, range) = self.bytes.split_last_chunk::<6>()?;
+        self.bytes = others;
+        let start = PotentialCodePoint::from_unaligned(&range[..3])?;
+        let end = PotentialCodePoint::from_unaligned(&range[3..6])?;
         Some(RangeInclusive::new(u32::from(start), u32::from(end) - 1))
     }
 }
