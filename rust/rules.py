@@ -318,7 +318,15 @@ EDITS = {
             r"for (value, byte) in values[j..j + 8].iter_mut().zip(bytes) {\n\1*value = trie.ascii(byte & 0x7F);",
             1,
         ),
-        (r"for k in 0\.\.8 \{\n +values\[j \+ k\] = eight\[k\];\n +\}", "values[j..j + 8].copy_from_slice(&eight);", 1),
+    ],
+    # A struct with a value of a type parameter is not copied from behind a reference in the source.
+    "icu_collections_c/texts": [
+        (
+            r"(?s)(fn clone\(&self\) -> )Result<([^{]*), AllocError>( \{\s*)Ok\(TextValues \{.*?\}\)",
+            r"\1\2\3*self",
+            1,
+        ),
+        (r"use crate::support::AllocError;\n", "", 1),
     ],
     # Two types that differ in lifetimes only may have different widths, so a vector of one must not
     # be accepted as a vector of the other.

@@ -1,5 +1,5 @@
 //! The values of the characters of a UTF-8 text, and of the code points of 16-bit units.
-ghost use Rattle.std.specs.Prelude.{◌≡◌, ℕ, pos, ◌<◌, ◌≤◌, length, map, slice_get, slice_set, Some, unwrap_or};
+ghost use Rattle.std.specs.Prelude.{◌≡◌, ℕ, pos, ◌<◌, ◌≤◌, length, map, slice_get, slice_set, Some, unwrap_or, ⊤};
 ghost use Rattle.std.specs.Str.{IsUtf8, chars};
 ghost use Rattle.icu_zerovec.specs.Cells.{values_of};
 ghost use Rattle.icu_trie_core.specs.FastIndex.{fast_index_len};
@@ -21,6 +21,7 @@ use icu_trie_text::copy_characters::copy_characters;
 use icu_trie_text::copy_parts::{Copied, PartValues, copy_parts};
 use icu_trie_text::first_utf16::first_code_point;
 use icu_zerovec::CODE_POINT_LIMIT;
+use std::alloc::AllocError;
 
 /// Writes the value at index `i` if the slice has that index.
 #[inline(always)]
@@ -34,7 +35,6 @@ fn put<T: UnsignedValue>(values: &mut [T], i: usize, value: T)
 }
 
 /// The values of a trie in bytes, for the parts of a text.
-#[derive(Drop)]
 struct TextValues<'a, T: UnsignedValue> {
     header: CodePointTrieHeader,
     index: &'a [u8],
@@ -51,6 +51,27 @@ struct TextValues<'a, T: UnsignedValue> {
     ghost there: { blocks ≤ length (cells_of 2 index.now) },
     ghost near: { blocks ≤ fast_index_len header.trie_type },
 }
+
+impl<'a, T: UnsignedValue> Clone for TextValues<'a, T> {
+    ghost is_clone = { λ s r. (r.header ≡ s.header) × (r.index ≡ s.index) × (r.cells ≡ s.cells)
+        × (r.none ≡ s.none) × (r.ascii_end ≡ s.ascii_end) × (r.blocks ≡ s.blocks) };
+
+    ghost is_infallible = { λ _. ⊤ };
+
+    #[inline(always)]
+    fn clone(&self) -> Result<TextValues<'a, T>, AllocError> {
+        Ok(TextValues {
+            header: self.header,
+            index: self.index,
+            cells: self.cells,
+            none: self.none,
+            ascii_end: self.ascii_end,
+            blocks: self.blocks,
+        })
+    }
+}
+
+impl<'a, T: UnsignedValue> Copy for TextValues<'a, T> {}
 
 /// Returns 0x80 if the first two blocks of the trie are the first two blocks of the data, and
 /// otherwise 0. The code points below the result have their values at their own index in the data.

@@ -60,18 +60,8 @@ module _ {T : Type 0} where
   set_other (y ∷ ys) (suc n) zero x l = absurd (omega arith)
   set_other (y ∷ ys) (suc n) (suc k) x l = set_other ys n k x (omega arith)
 
-  -- One more of eight values is written.
-  module _ (eight old vs : List T) (j k : ℕ) (x : T) (room : j + k < length vs) where
-    pub put_next : ((i : ℕ) → i < k → slice_get vs (j + i) ≡ slice_get eight i) → slice_get eight k ≡ Some x
-        → (i : ℕ) → i < k + 1 → slice_get (set vs (j + k) x) (j + i) ≡ slice_get eight i
-    put_next before is i l = elim (cases_lt i k) [
-      | inl below ↦ set_before vs (j + k) (j + i) x (omega (arith, below)) ∙ before i below
-      | inr from ↦
-          let same : i ≡ k = omega (arith, from, l) in
-          rw same (set_same vs (j + k) x room ∙ sym is)
-    ]
-
-    -- The same, if only the values of ASCII bytes count.
+  -- One more of eight values is written. Only the values of ASCII bytes count.
+  module _ (old vs : List T) (j k : ℕ) (x : T) (room : j + k < length vs) where
     pub put_ascii : (value : ℕ → Option T) (byte : ℕ → ℕ)
         → ((i : ℕ) → i < k → byte i < 128 → value (byte i) ≡ slice_get vs (j + i)) → (byte k < 128 → value (byte k) ≡ Some x)
         → (i : ℕ) → i < k + 1 → byte i < 128 → value (byte i) ≡ slice_get (set vs (j + k) x) (j + i)

@@ -1,5 +1,5 @@
 //! The value of each character of bytes that may be ill-formed UTF-8, copied to a buffer.
-ghost use Rattle.std.specs.Prelude.{◌≡◌, ◌≤◌, ℕ, ◌++◌, List, Some, length, map, drop};
+ghost use Rattle.std.specs.Prelude.{◌≡◌, ◌≤◌, ℕ, ◌++◌, List, Some, length, map, drop, ⊤};
 ghost use Rattle.std.specs.Str.{IsUtf8, chars};
 ghost use Rattle.icu_zerovec.specs.Slice.{slice_values};
 ghost use Rattle.icu_trie.specs.Parts.{trie_value};
@@ -14,9 +14,9 @@ use crate::copy_parts::{Copied, PartValues, copy_parts};
 use icu_trie::cptrie::CodePointTrie;
 use icu_trie_core::value::TrieValue;
 use icu_zerovec::ZeroSlice;
+use std::alloc::AllocError;
 
 /// A trie with its cells at hand.
-#[derive(Drop)]
 struct TrieCells<'a, T: TrieValue> {
     trie: &'a CodePointTrie<'a, T>,
     index: ZeroSlice<'a, u16>,
@@ -28,6 +28,19 @@ struct TrieCells<'a, T: TrieValue> {
     ghost ascii: { HasAsciiInPlace trie.now (slice_values values) ascii_end },
     ghost near: { HasNearBlocks trie.now (slice_values index) (slice_values values) blocks },
 }
+
+impl<'a, T: TrieValue> Clone for TrieCells<'a, T> {
+    ghost is_clone = { λ s r. r ≡ s };
+
+    ghost is_infallible = { λ _. ⊤ };
+
+    #[inline(always)]
+    fn clone(&self) -> Result<TrieCells<'a, T>, AllocError> {
+        Ok(*self)
+    }
+}
+
+impl<'a, T: TrieValue> Copy for TrieCells<'a, T> {}
 
 impl<'a, T: TrieValue> TrieCells<'a, T> {
     /// Borrows the trie.

@@ -19,8 +19,10 @@ pub struct Copied {
 
 /// The values of characters and of ill-formed parts, for [`copy_parts`].
 ///
+/// It is `Copy`, since [`copy_ascii`] reads a copy that no write to the buffer can change.
+///
 /// Public for the crates that build on this one.
-pub trait PartValues<T> {
+pub trait PartValues<T>: Copy {
     /// The value of a character, or for `None` that of an ill-formed part.
     ghost gives: { Self → Option ℕ → Option T };
 
@@ -105,40 +107,25 @@ fn are_ascii(bytes: &[u8]) -> bool
     first | second == 0
 }
 
-/// Writes eight values from index `j` on.
+/// Writes eight values from index `j` on: those of the first eight bytes that are ASCII.
 #[inline(always)]
-fn put_values<T: Copy>(eight: [T; 8], values: &mut [T], j: usize)
-    requires eight { length eight ≡ 8 }
+pub(crate) fn put_eight<T: Copy, V: PartValues<T>>(
+    trie: &V,
+    bytes: &[u8],
+    values: &mut [T],
+    j: usize,
+)
+    requires ascii { V.end_of_ascii trie.now ≡ 0x80 }
+    requires bytes { 8 ≤ length bytes.now }
     requires room { j + 8 ≤ length values.old }
-    ensures put { (k : ℕ) → k < 8 → slice_get values.new (j + k) ≡ slice_get eight k }
+    ensures put { (k : ℕ) → k < 8 → slice_index bytes.now k < 0x80
+        → V.gives trie.now (Some (slice_index bytes.now k)) ≡ slice_get values.new (j + k) }
     ensures kept { (k : ℕ) → (k < j) ⊎ (j + 8 ≤ k)
         → slice_get values.new k ≡ slice_get values.old k }
 {
     for k in 0..8 {
-        values[j + k] = eight[k];
+        values[j + k] = trie.ascii(bytes[k] & 0x7F);
     }
-}
-
-/// Returns the values of the first eight bytes: those of the bytes that are ASCII. All are read
-/// before one is written, since a write could change the trie for the compiler.
-#[inline(always)]
-fn eight_values<T: Copy, V: PartValues<T>>(trie: &V, bytes: &[u8]) -> [T; 8]
-    requires ascii { V.end_of_ascii trie.now ≡ 0x80 }
-    requires bytes { 8 ≤ length bytes.now }
-    ensures eight { length result ≡ 8 }
-    ensures values { (k : ℕ) → k < 8 → slice_index bytes.now k < 0x80
-        → V.gives trie.now (Some (slice_index bytes.now k)) ≡ slice_get result k }
-{
-    [
-        trie.ascii(bytes[0] & 0x7F),
-        trie.ascii(bytes[1] & 0x7F),
-        trie.ascii(bytes[2] & 0x7F),
-        trie.ascii(bytes[3] & 0x7F),
-        trie.ascii(bytes[4] & 0x7F),
-        trie.ascii(bytes[5] & 0x7F),
-        trie.ascii(bytes[6] & 0x7F),
-        trie.ascii(bytes[7] & 0x7F),
-    ]
 }
 
 /// Writes more values, as long as sixteen bytes at a time are ASCII and much of the buffer is left.
@@ -158,6 +145,8 @@ pub(crate) fn copy_ascii<T: Copy, V: PartValues<T>>(
         front.bytes front.values
         → AreCopiedParts (V.gives trie.now) bytes.now old values.new result.bytes result.values }
 {
+    // LLVM reads the addresses in a copy once: no write to the buffer can change it.
+    let table = *trie;
     let mut i = front.bytes;
     let mut j = front.values;
     while bytes.len() - i >= BYTES_AHEAD + 8 && values.len() - j >= ROOM_AHEAD + 8 {
@@ -167,50 +156,14 @@ pub(crate) fn copy_ascii<T: Copy, V: PartValues<T>>(
                 bytes: i,
             };
         }
-        put_each(trie, &bytes[i..], values, j);
-        put_each(trie, &bytes[i + 8..], values, j + 8);
+        put_eight(&table, &bytes[i..], values, j);
+        put_eight(&table, &bytes[i + 8..], values, j + 8);
         i += 16;
         j += 16;
     }
     Copied {
         values: j,
         bytes: i,
-    }
-}
-
-/// Writes eight values from index `j` on: those of the first eight bytes that are ASCII.
-#[inline(always)]
-pub(crate) fn put_eight<T: Copy, V: PartValues<T>>(
-    trie: &V,
-    bytes: &[u8],
-    values: &mut [T],
-    j: usize,
-)
-    requires ascii { V.end_of_ascii trie.now ≡ 0x80 }
-    requires bytes { 8 ≤ length bytes.now }
-    requires room { j + 8 ≤ length values.old }
-    ensures put { (k : ℕ) → k < 8 → slice_index bytes.now k < 0x80
-        → V.gives trie.now (Some (slice_index bytes.now k)) ≡ slice_get values.new (j + k) }
-    ensures kept { (k : ℕ) → (k < j) ⊎ (j + 8 ≤ k)
-        → slice_get values.new k ≡ slice_get values.old k }
-{
-    put_values(eight_values(trie, bytes), values, j);
-}
-
-/// Does the same as [`put_eight`], but writes each value before it reads the next one. This takes
-/// less time if all eight bytes are ASCII.
-#[inline(always)]
-fn put_each<T: Copy, V: PartValues<T>>(trie: &V, bytes: &[u8], values: &mut [T], j: usize)
-    requires ascii { V.end_of_ascii trie.now ≡ 0x80 }
-    requires bytes { 8 ≤ length bytes.now }
-    requires room { j + 8 ≤ length values.old }
-    ensures put { (k : ℕ) → k < 8 → slice_index bytes.now k < 0x80
-        → V.gives trie.now (Some (slice_index bytes.now k)) ≡ slice_get values.new (j + k) }
-    ensures kept { (k : ℕ) → (k < j) ⊎ (j + 8 ≤ k)
-        → slice_get values.new k ≡ slice_get values.old k }
-{
-    for k in 0..8 {
-        values[j + k] = trie.ascii(bytes[k] & 0x7F);
     }
 }
 
@@ -437,7 +390,7 @@ fn copy_front<T: Copy, V: PartValues<T>>(trie: &V, bytes: &[u8], values: &mut [T
         if rest[0] < 0x80 {
             let count = ascii_count(rest);
             if count == 8 {
-                put_each(trie, rest, values, j);
+                put_eight(trie, rest, values, j);
                 rest = &rest[8..];
                 j += 8;
                 continue;

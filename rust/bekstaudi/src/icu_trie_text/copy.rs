@@ -17,6 +17,15 @@ struct TrieCells<'a, T: TrieValue> {
     blocks: u32,
 }
 
+impl<'a, T: TrieValue> Clone for TrieCells<'a, T> {
+    #[inline(always)]
+    fn clone(&self) -> TrieCells<'a, T> {
+        *self
+    }
+}
+
+impl<'a, T: TrieValue> Copy for TrieCells<'a, T> {}
+
 impl<'a, T: TrieValue> TrieCells<'a, T> {
     /// Borrows the trie.
     #[inline(always)]

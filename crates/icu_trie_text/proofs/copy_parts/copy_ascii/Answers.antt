@@ -18,8 +18,8 @@ loop-i-preserved g c =
     let j : ℕ = c.loop-i.j in
     let invariant = c.loop-i.invariant in
     let more = invariant.more in
-    let same = c.put_each.auto.values in
-    let same_too = c.put_each-in-loop-i.auto.values in
+    let same = c.put_eight.auto.values in
+    let same_too = c.put_eight-in-loop-i.auto.values in
     let are : (k : ℕ) → k < 16 → get_or (drop i bytes) k 0 < 128 =
     λ k l. rw (take_rest bytes i) at (c.are_ascii.ensures c.if-not-are_ascii.false k l) in
     record {
@@ -27,13 +27,13 @@ loop-i-preserved g c =
       room = omega (arith, same, same_too);
       more = omega (arith, more);
       copied = λ old before.
-          let first : AreCopiedParts gives bytes old c.put_each.new.values (i + 8) (j + 8) =
-          copied_eight gives bytes old c.loop-i.values c.put_each.new.values i j (invariant.copied old before)
-          (rw (take_rest bytes i) at c.put_each.ensures.put) c.put_each.ensures.kept same (omega arith) (omega arith) 8
+          let first : AreCopiedParts gives bytes old c.put_eight.new.values (i + 8) (j + 8) =
+          copied_eight gives bytes old c.loop-i.values c.put_eight.new.values i j (invariant.copied old before)
+          (rw (take_rest bytes i) at c.put_eight.ensures.put) c.put_eight.ensures.kept same (omega arith) (omega arith) 8
           (omega arith) (λ k l. are k (omega (arith, l))) in
-          let second : AreCopiedParts gives bytes old c.put_each-in-loop-i.new.values (i + 8 + 8) (j + 8 + 8) =
-          copied_eight gives bytes old c.put_each.new.values c.put_each-in-loop-i.new.values (i + 8) (j + 8) first
-          (rw (take_rest bytes (i + 8)) at c.put_each-in-loop-i.ensures.put) c.put_each-in-loop-i.ensures.kept same_too
+          let second : AreCopiedParts gives bytes old c.put_eight-in-loop-i.new.values (i + 8 + 8) (j + 8 + 8) =
+          copied_eight gives bytes old c.put_eight.new.values c.put_eight-in-loop-i.new.values (i + 8) (j + 8) first
+          (rw (take_rest bytes (i + 8)) at c.put_eight-in-loop-i.ensures.put) c.put_eight-in-loop-i.ensures.kept same_too
           (omega arith) (omega (arith, same)) 8
           (omega arith) (λ k l. next_byte bytes i k (are (k + 8) (omega (arith, l)))) in
           let size : i + 8 + 8 ≡ i + 16 = omega arith in

@@ -6,11 +6,11 @@ use Rattle.icu_trie_text.proofs.copy_parts.copy_front.Goals.{then-rest-lt128+els
 
 pub loop-rest-preserved-then-count-eq8 : goal.loop-rest-preserved-then-count-eq8
 loop-rest-preserved-then-count-eq8 g c =
-    let same = c.put_each.auto.values in record {
+    let same = c.put_eight.auto.values in record {
       room = omega (arith, same);
       copied = up_to_eight (g.V.PartValues.gives c.args.trie.now) c.args.bytes.now c.args.values.now c.loop-rest.values
-          c.put_each.new.values c.loop-rest.rest.now c.loop-rest.j c.loop-rest.invariant.copied
-          c.put_each.ensures.put c.put_each.ensures.kept same (omega arith) (omega arith) 8 (omega arith)
+          c.put_eight.new.values c.loop-rest.rest.now c.loop-rest.j c.loop-rest.invariant.copied
+          c.put_eight.ensures.put c.put_eight.ensures.kept same (omega arith) (omega arith) 8 (omega arith)
           (λ k l. c.ascii_count-count.ensures.ascii k (omega (arith, l, c.if-count-eq8.true)));
     }
 
@@ -24,10 +24,11 @@ loop-rest-preserved-then-starts_wide g c =
     elim c.if-rest-lt128.branch [
       | then-rest-lt128+else-count-eq8 w ↦
           let few = w.ascii_count-count.ensures.bound in
-          let same = w.put_eight.auto.values in
+          let same = w.put_eight-then-rest-lt128.auto.values in
           rw (w.values-is, w.rest-is, w.j-is) (
-            up_to_eight gives bytes old c.loop-rest.values w.put_eight.new.values c.loop-rest.rest.now c.loop-rest.j
-                c.loop-rest.invariant.copied w.put_eight.ensures.put w.put_eight.ensures.kept same (omega arith) (omega arith)
+            up_to_eight gives bytes old c.loop-rest.values w.put_eight-then-rest-lt128.new.values c.loop-rest.rest.now c.loop-rest.j
+                c.loop-rest.invariant.copied w.put_eight-then-rest-lt128.ensures.put w.put_eight-then-rest-lt128.ensures.kept
+                same (omega arith) (omega arith)
                 w.ascii_count-count.result few w.ascii_count-count.ensures.ascii,
             omega (arith, few, same),
           )
@@ -56,10 +57,11 @@ loop-rest-preserved g c =
     elim c.if-rest-lt128.branch [
       | then-rest-lt128+else-count-eq8 w ↦
           let few = w.ascii_count-count.ensures.bound in
-          let same = w.put_eight.auto.values in
+          let same = w.put_eight-then-rest-lt128.auto.values in
           rw (w.values-is, w.rest-is, w.j-is) (
-            up_to_eight gives bytes old c.loop-rest.values w.put_eight.new.values c.loop-rest.rest.now c.loop-rest.j
-                c.loop-rest.invariant.copied w.put_eight.ensures.put w.put_eight.ensures.kept same (omega arith) (omega arith)
+            up_to_eight gives bytes old c.loop-rest.values w.put_eight-then-rest-lt128.new.values c.loop-rest.rest.now c.loop-rest.j
+                c.loop-rest.invariant.copied w.put_eight-then-rest-lt128.ensures.put w.put_eight-then-rest-lt128.ensures.kept
+                same (omega arith) (omega arith)
                 w.ascii_count-count.result few w.ascii_count-count.ensures.ascii,
             omega (arith, few, same),
           )

@@ -1,5 +1,5 @@
 use Rattle.std.proofs.Common.{◌≡◌, ◌⊎◌, ℕ, ◌+◌, ◌<◌, ◌≤◌, length, slice_get, get_or, Some}
-use Rattle.icu_trie_text.proofs.copy_parts.put_each.Given as goal
+use Rattle.icu_trie_text.proofs.copy_parts.put_eight.Given as goal
 
 abbrev pub invariant-loop-k : goal.invariant-loop-k
 invariant-loop-k g l = record {

@@ -1,9 +1,0 @@
-use Rattle.std.proofs.Common.{◌≡◌, ◌⊎◌, ℕ, ◌+◌, ◌<◌, ◌≤◌, length, slice_get}
-use Rattle.icu_trie_text.proofs.copy_parts.put_values.Given as goal
-
-abbrev pub invariant-loop-k : goal.invariant-loop-k
-invariant-loop-k g l = record {
-  long : length l.values ≡ length l.initial.values;
-  put : (i : ℕ) → i < l.k → slice_get l.values (l.j + i) ≡ slice_get l.eight i;
-  kept : (i : ℕ) → (i < l.j) ⊎ (l.j + 8 ≤ i) → slice_get l.values i ≡ slice_get l.initial.values i;
-}
