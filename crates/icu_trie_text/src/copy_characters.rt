@@ -74,7 +74,7 @@ fn character_value<T, V: PartValues<T>>(trie: &V, text: &[u8]) -> (T, usize)
 
 /// Writes the values of the first characters of the text, as long as many bytes and much of the
 /// buffer are left. If the next byte is ASCII, a step writes the values of eight bytes without a
-/// test of each.
+/// test of each. If all eight are ASCII, [`copy_ascii`] goes on.
 #[inline(always)]
 fn copy_text<T: Copy, V: PartValues<T>>(trie: &V, text: &[u8], values: &mut [T]) -> Copied
     requires text { IsUtf8 text.now }
@@ -88,23 +88,20 @@ fn copy_text<T: Copy, V: PartValues<T>>(trie: &V, text: &[u8], values: &mut [T])
     while text.len() - i >= BYTES_AHEAD && values.len() - j >= ROOM_AHEAD {
         if text[i] < 0x80 {
             let count = ascii_count(&text[i..]);
-            put_eight(trie, &text[i..], values, j);
-            i += count;
-            j += count;
             if count == 8 {
-                let ahead = copy_ascii(
-                    trie,
-                    text,
-                    values,
-                    Copied {
-                        values: j,
-                        bytes: i,
-                    },
-                );
+                put_eight(trie, &text[i..], values, j);
+                let front = Copied {
+                    values: j + 8,
+                    bytes: i + 8,
+                };
+                let ahead = copy_ascii(trie, text, values, front);
                 i = ahead.bytes;
                 j = ahead.values;
                 continue;
             }
+            put_eight(trie, &text[i..], values, j);
+            i += count;
+            j += count;
         }
         let (value, size) = character_value(trie, &text[i..]);
         values[j] = value;

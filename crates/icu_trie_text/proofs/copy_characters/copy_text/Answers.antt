@@ -10,13 +10,12 @@ pub loop-i-preserved-then-count-eq8 : goal.loop-i-preserved-then-count-eq8
 loop-i-preserved-then-count-eq8 g c =
     let gives = g.V.PartValues.gives c.args.trie.now in
     let text = c.args.text.now in
-    let few = c.ascii_count-count.ensures.bound in
     c.copy_ascii-ahead.ensures.copied c.args.values.now
     (copied_eight gives text c.args.values.now c.loop-i.values c.put_eight.new.values
     c.loop-i.i c.loop-i.j c.loop-i.invariant
     (rw (take_rest text c.loop-i.i) at c.put_eight.ensures.put) c.put_eight.ensures.kept c.put_eight.auto.values
-    (omega arith) (omega arith) c.ascii_count-count.result few
-    (λ k l. rw (take_rest text c.loop-i.i) at (c.ascii_count-count.ensures.ascii k l)))
+    (omega arith) (omega arith) 8 (omega arith)
+    (λ k l. rw (take_rest text c.loop-i.i) at (c.ascii_count-count.ensures.ascii k (omega (arith, l, c.if-count-eq8.true)))))
 
 pub character_value-value-requires-clause-text : goal.character_value-value-requires-clause-text
 character_value-value-requires-clause-text g c =
@@ -25,9 +24,11 @@ character_value-value-requires-clause-text g c =
     let joined : AreCopiedParts gives text c.args.values.now c.if-text-i-lt128.values c.if-text-i-lt128.i c.if-text-i-lt128.j =
     elim c.if-text-i-lt128.branch [
       | then-text-i-lt128+else-count-eq8 w ↦ rw (w.values-is, w.i-is, w.j-is)
-          (copied_eight gives text c.args.values.now c.loop-i.values w.put_eight.new.values c.loop-i.i c.loop-i.j
-          c.loop-i.invariant (rw (take_rest text c.loop-i.i) at w.put_eight.ensures.put) w.put_eight.ensures.kept
-          w.put_eight.auto.values (omega arith) (omega arith) w.ascii_count-count.result w.ascii_count-count.ensures.bound
+          (copied_eight gives text c.args.values.now c.loop-i.values w.put_eight-then-text-i-lt128.new.values
+          c.loop-i.i c.loop-i.j c.loop-i.invariant
+          (rw (take_rest text c.loop-i.i) at w.put_eight-then-text-i-lt128.ensures.put)
+          w.put_eight-then-text-i-lt128.ensures.kept w.put_eight-then-text-i-lt128.auto.values
+          (omega arith) (omega arith) w.ascii_count-count.result w.ascii_count-count.ensures.bound
           (λ k l. rw (take_rest text c.loop-i.i) at (w.ascii_count-count.ensures.ascii k l)))
       | else-text-i-lt128 w ↦ rw (w.values-is, w.i-is, w.j-is) c.loop-i.invariant
     ] in
@@ -43,10 +44,12 @@ loop-i-preserved g c =
     elim c.if-text-i-lt128.branch [
       | then-text-i-lt128+else-count-eq8 w ↦
           let few = w.ascii_count-count.ensures.bound in
-          let same = w.put_eight.auto.values in (
+          let same = w.put_eight-then-text-i-lt128.auto.values in (
             rw (w.values-is, w.i-is, w.j-is)
-                (copied_eight gives text c.args.values.now c.loop-i.values w.put_eight.new.values c.loop-i.i c.loop-i.j
-                c.loop-i.invariant (rw (take_rest text c.loop-i.i) at w.put_eight.ensures.put) w.put_eight.ensures.kept same
+                (copied_eight gives text c.args.values.now c.loop-i.values w.put_eight-then-text-i-lt128.new.values
+                c.loop-i.i c.loop-i.j c.loop-i.invariant
+                (rw (take_rest text c.loop-i.i) at w.put_eight-then-text-i-lt128.ensures.put)
+                w.put_eight-then-text-i-lt128.ensures.kept same
                 (omega arith) (omega arith) w.ascii_count-count.result few
                 (λ k l. rw (take_rest text c.loop-i.i) at (w.ascii_count-count.ensures.ascii k l))),
             rw (w.values-is, w.j-is) (omega (arith, few, same)),
