@@ -108,6 +108,9 @@ EDITS = {
         (r"(?s)\btext: &str, (error: \S+\) -> TomlFault \{\n).*?\n( +TomlFault \{ line)", r"\1\2: error.line", 1),
         (r"self\.error\.message\(\)", "&self.error.message", 1),
     ],
+    "ucptrie_tables/properties": [
+        (r"(if let Some\(property\) = property_of\(key, value\)) \{\s*if (.*) \{\s*(.*)\s*\}\s*\}", r"\1 && \2 { \3 }", 1)
+    ],
     "ucptrie_tables/read": [
         (r"\n *Err\(error\) if error\.is_memory\(\) => [^\n]*", "", 1),
         (r"TomlFault::new\(text, error\)", "TomlFault::new(error)", 1),

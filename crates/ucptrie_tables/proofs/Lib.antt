@@ -3,6 +3,7 @@ mod DifferenceLemmas
 mod IdentifierLemmas
 mod JsonLemmas
 mod Printed
+mod PropertyLemmas
 mod SameNumbers
 mod RebuildLemmas
 mod ShownLemmas

@@ -117,14 +117,18 @@ IsWhyNoJson text _ = ⊥
 
 -- ---- TOML
 
+-- The table of a TOML file is the table's trie.
+pub record IsTomlTrieOf (members : Members) (t : Table) : Type 0 where
+  pub parts : TomlParts
+  pub says : toml_of members ≡ Ok parts
+  pub trie : trie_of (fitting (2 ^ 32)) parts ≡ Ok t.trie
+  pub width : t.width ≡ width_of parts
+
 -- The text is a TOML file that has the table's trie.
 pub record IsTomlOf (text : List ℕ) (t : Table) : Type 0 where
   pub file : Members
   pub reads : parse_document text ≡ Some file
-  pub parts : TomlParts
-  pub says : toml_of (trie_table file) ≡ Ok parts
-  pub trie : trie_of (fitting (2 ^ 32)) parts ≡ Ok t.trie
-  pub width : t.width ≡ width_of parts
+  pub trie : IsTomlTrieOf (trie_table file) t
 
 -- Why a table of a TOML file is not a trie: its own first fault, or that of the trie of its parts.
 abbrev pub IsWhyNoTrieToml : Members → TrieFromTomlError → Type 0
@@ -133,6 +137,12 @@ IsWhyNoTrieToml table (trie_refusals.Table why) = IsRefused (toml_of table) why
 IsWhyNoTrieToml table (trie_refusals.Trie why) = (parts : TomlParts) × (toml_of table ≡ Ok parts)
     × IsRefusedTrie (trie_of (fitting (2 ^ 32)) parts) (trie_refusals.Trie why)
 IsWhyNoTrieToml table trie_refusals.Memory = ⊥
+
+-- The same as a fault of reading.
+abbrev pub IsWhyNoTomlTrie : Members → ReadFault → Type 0
+IsWhyNoTomlTrie table (TrieToml why) = IsWhyNoTrieToml table why
+IsWhyNoTomlTrie table Memory = ⊤
+IsWhyNoTomlTrie table _ = ⊥
 
 -- Why a text is not read as TOML.
 abbrev pub IsWhyNotToml : List ℕ → ReadFault → Type 0

@@ -1,7 +1,13 @@
 //! The properties of a TOML file that have a trie, and the table of one of them.
-ghost use Rattle.std.specs.Prelude.{◌≡◌, true, false, is_some, Err, Result};
+ghost use Rattle.std.specs.Prelude.{◌≡◌, ◌∷◌, [], ◌++◌, true, false, is_some, filter, filter_map, map, option_map, string_bytes, Some, Ok, Err, Result, IfErr, IfOk, IsOkAnd, MatchResult};
+ghost use Rattle.toml.specs.Data.{Members};
+ghost use Rattle.toml.specs.Parse.{parse_document};
+ghost use Rattle.toml.specs.View.{table_view, view};
+ghost use Rattle.ucd_files.specs.Names.{pairs_of};
 ghost use Rattle.ucptrie_tables.specs.Files.{IsTakenForToml};
-ghost use Rattle.ucptrie_tables.specs.Properties.{of_property, IsReadOf};
+ghost use Rattle.ucptrie_tables.specs.Inside.ReadProperties.{as_read};
+ghost use Rattle.ucptrie_tables.specs.Properties.{asked_of, chosen_names, chosen_trie, is_asked, is_named, is_text, listed, name_of, of_property, properties_at, property_of, text_at, IsAskedTable, IsReadOf, IsWhyNoneAsked, IsWhyNotAsked};
+ghost use Rattle.ucptrie_tables.specs.TomlNames.{IsWhyNoNames};
 ghost use Rattle.ucptrie_tables.specs.declared.fault.ReadFault.{ReadFault};
 ghost use Rattle.ucptrie_tables.specs.declared.properties.PropertyFault.TheVariants.{NotToml};
 ghost use Rattle.ucptrie_tables.specs.declared.table.Table.{Table};
@@ -10,7 +16,7 @@ use crate::fault::ReadFault;
 use crate::parsed::ParsedFile;
 use crate::read::{read_table, table_of_members, trie_of_table, value_at};
 use crate::table::Table;
-use crate::toml_names::{NamesFault, names_of};
+use crate::toml_names::{NamesFault, items_in, names_of};
 use std::alloc::{AllocError, Global};
 use ucd_files::value_names::ValueNames;
 
@@ -60,64 +66,123 @@ impl From<AllocError> for PropertyFault {
 }
 
 /// Returns the text at a key of a property, as icuexportdata writes its names.
-fn text_at<'a>(table: &'a toml::Table, key: &str) -> Option<&'a str> {
+fn text_at<'a>(table: &'a toml::Table, key: &str) -> Option<&'a str>
+    ensures { option_map (λ text. text.now) result ≡ text_at key.now (table_view table.now) }
+{
     value_at(table, key)?.as_str()
 }
 
+/// Returns whether the text at a key of a property is this one.
+fn has_text(table: &toml::Table, key: &str, text: &str) -> bool
+    ensures { result ≡ is_text text.now (text_at key.now (table_view table.now)) }
+{
+    match text_at(table, key) {
+        Some(found) => found == text,
+        None => false,
+    }
+}
+
 /// Returns the name by which messages call the property.
-fn name_of<'a>(property: &Property<'a>) -> &'a str {
+fn name_of<'a>(property: &Property<'a>) -> &'a str
+    ensures { result.now ≡ name_of (as_read property.now) }
+{
     text_at(property.table, "long_name").unwrap_or(property.key)
 }
 
 /// Returns whether the property has this name: its key, its long name or its short one.
-fn is_named(property: &Property<'_>, name: &str) -> bool {
+fn is_named(property: &Property<'_>, name: &str) -> bool
+    ensures { result ≡ is_named name.now (as_read property.now) }
+{
     property.key == name
-        || text_at(property.table, "long_name") == Some(name)
-        || text_at(property.table, "short_name") == Some(name)
+        || has_text(property.table, "long_name", name)
+        || has_text(property.table, "short_name", name)
 }
 
-/// Appends the property of a value, if it has a trie and the name, if one is asked.
+/// Returns whether a property is asked for: it has the name, or none is asked.
+fn is_asked(property: &Property<'_>, name: Option<&str>) -> bool
+    ensures { result
+        ≡ is_asked (option_map (λ name. name.now) name.entry) (as_read property.now) }
+{
+    match name {
+        Some(name) => is_named(property, name),
+        None => true,
+    }
+}
+
+/// Returns the property that a value at a key is, if the value is a table with a trie.
+fn property_of<'a>(key: &'a str, value: &'a toml::Value) -> Option<Property<'a>>
+    ensures { option_map as_read result ≡ property_of key.now (view value.now) }
+{
+    let table = value.as_table()?;
+    let trie = trie_of_table(table)?;
+    Some(Property { key, table, trie })
+}
+
+/// Appends the property of a value, if it has a trie and is asked for.
 fn push_property<'a>(
     found: &mut Vec<Property<'a>>,
     key: &'a str,
     value: &'a toml::Value,
     name: Option<&str>,
-) -> Result<(), AllocError> {
-    let Some(table) = value.as_table() else {
-        return Ok(());
-    };
-    let Some(trie) = trie_of_table(table) else {
-        return Ok(());
-    };
-    let property = Property { key, table, trie };
-    if name.is_none_or(|name| is_named(&property, name)) {
-        found.push(property)?;
+) -> Result<(), AllocError>
+    ensures { IfOk result (λ _. map as_read found.new.items ≡ map as_read found.old.items
+        ++ filter (is_asked (option_map (λ name. name.now) name.entry))
+        (filter_map (property_of key.now) (view value.now ∷ []))) }
+{
+    if let Some(property) = property_of(key, value) {
+        if is_asked(&property, name) {
+            found.push(property)?;
+        }
     }
     Ok(())
 }
 
-/// Appends the properties at a key: those of an array, or the one that the value is.
+/// Appends those of the properties at a key that are asked for.
+fn push_items<'a>(
+    found: &mut Vec<Property<'a>>,
+    key: &'a str,
+    values: &'a [toml::Value],
+    name: Option<&str>,
+) -> Result<(), AllocError>
+    ensures { IfOk result (λ _. map as_read found.new.items ≡ map as_read found.old.items
+        ++ filter (is_asked (option_map (λ name. name.now) name.entry))
+        (filter_map (property_of key.now) (map view values.now))) }
+{
+    let mut rest = values;
+    while let [value, after @ ..] = rest {
+        push_property(found, key, value, name)?;
+        rest = after;
+    }
+    Ok(())
+}
+
+/// Appends those of the properties at a key that are asked for: the items of an array, or the one
+/// that the value is.
 fn push_properties<'a>(
     found: &mut Vec<Property<'a>>,
     key: &'a str,
     value: &'a toml::Value,
     name: Option<&str>,
-) -> Result<(), AllocError> {
-    let Some(values) = value.as_array() else {
-        return push_property(found, key, value, name);
-    };
-    for value in values {
-        push_property(found, key, value, name)?;
+) -> Result<(), AllocError>
+    ensures { IfOk result (λ _. map as_read found.new.items ≡ map as_read found.old.items
+        ++ filter (is_asked (option_map (λ name. name.now) name.entry))
+        (properties_at key.now (view value.now))) }
+{
+    match items_in(value) {
+        Some(values) => push_items(found, key, values, name),
+        None => push_property(found, key, value, name),
     }
-    Ok(())
 }
 
-/// Returns the properties with a trie and the name, if one is asked, in order of their keys.
+/// Returns the properties with a trie that are asked for, in order of their keys.
 fn properties_of<'a>(
     alloc: Global,
     file: &'a toml::Table,
     name: Option<&str>,
-) -> Result<Vec<Property<'a>>, AllocError> {
+) -> Result<Vec<Property<'a>>, AllocError>
+    ensures { IfOk result (λ found. map as_read found.items
+        ≡ asked_of (option_map (λ name. name.now) name.entry) (table_view file.now)) }
+{
     let mut found = Vec::new(alloc);
     for (key, value) in file.iter() {
         push_properties(&mut found, key.as_str(), value, name)?;
@@ -126,13 +191,19 @@ fn properties_of<'a>(
 }
 
 /// Returns the names of properties, with commas between them.
-fn listed(alloc: Global, properties: &[Property<'_>]) -> Result<String, AllocError> {
+fn listed(alloc: Global, properties: &[Property<'_>]) -> Result<String, AllocError>
+    ensures { IfOk result (λ names. string_bytes names ≡ listed (map as_read properties.now)) }
+{
     let mut names = String::new(alloc);
-    for property in properties {
-        if !names.is_empty() {
-            names.push_str(", ")?;
-        }
+    let [first, others @ ..] = properties else {
+        return Ok(names);
+    };
+    names.push_str(name_of(first))?;
+    let mut rest = others;
+    while let [property, after @ ..] = rest {
+        names.push_str(", ")?;
         names.push_str(name_of(property))?;
+        rest = after;
     }
     Ok(names)
 }
@@ -143,7 +214,12 @@ fn asked_trie<'a>(
     alloc: Global,
     file: &'a toml::Table,
     name: Option<&str>,
-) -> Result<&'a toml::Table, PropertyFault> {
+) -> Result<&'a toml::Table, PropertyFault>
+    ensures ok { IfOk result (λ trie. chosen_trie (option_map (λ name. name.now) name.entry)
+        (table_view file.now) ≡ Some (table_view trie.now)) }
+    ensures err { IfErr result (IsWhyNoneAsked (option_map (λ name. name.now) name.entry)
+        (table_view file.now)) }
+{
     let found = properties_of(alloc, file, name)?;
     match (found.as_slice(), name) {
         ([property], _) => Ok(property.trie),
@@ -165,7 +241,14 @@ pub fn property_names<'a>(
     alloc: Global,
     file: &'a ParsedFile<'_>,
     name: Option<&str>,
-) -> Result<ValueNames<'a>, NamesFault> {
+) -> Result<ValueNames<'a>, NamesFault>
+    ensures toml { IsTakenForToml file.now → (toml : Members)
+        × (parse_document file.now ≡ Some toml)
+        × MatchResult result (λ names. chosen_names (option_map (λ name. name.now) name.entry) toml
+        ≡ Ok (pairs_of names))
+        (IsWhyNoNames (chosen_names (option_map (λ name. name.now) name.entry) toml)) }
+    ensures other { ¬ IsTakenForToml file.now → IsOkAnd result (λ names. pairs_of names ≡ []) }
+{
     let Some(toml) = file.toml() else {
         return Ok(ValueNames::new(alloc));
     };
@@ -190,6 +273,9 @@ pub fn read_property(
     file: &ParsedFile<'_>,
     name: Option<&str>,
 ) -> Result<Table, PropertyFault>
+    ensures toml { IsTakenForToml file.now → MatchResult result
+        (IsAskedTable file.now (option_map (λ name. name.now) name.entry))
+        (IsWhyNotAsked file.now (option_map (λ name. name.now) name.entry)) }
     ensures named { is_some name.entry ≡ true → ¬ IsTakenForToml file.now → result ≡ Err NotToml }
     ensures other { is_some name.entry ≡ false → ¬ IsTakenForToml file.now
         → (read : Result Table ReadFault)

@@ -4,9 +4,8 @@ ghost use Rattle.toml.specs.Data.{get_member};
 ghost use Rattle.toml.specs.Parse.{parse_document};
 ghost use Rattle.toml.specs.View.{table_view, view};
 ghost use Rattle.icu_trie_core.specs.ValueNumbers.{fitting};
-ghost use Rattle.ucptrie_tables.specs.Files.{HasNoForm, HasSignature, HasSwappedSignature, IsBinaryOf, IsJsonOf, IsSwappedOf, IsTakenForJson, IsTakenForToml, IsTomlOf, IsWhyNoBinary, IsWhyNoJson, IsWhyNoSwapped, IsWhyNoToml, IsWhyNotToml, starts_object};
+ghost use Rattle.ucptrie_tables.specs.Files.{HasNoForm, HasSignature, HasSwappedSignature, IsBinaryOf, IsJsonOf, IsSwappedOf, IsTakenForJson, IsTakenForToml, IsTomlOf, IsTomlTrieOf, IsWhyNoBinary, IsWhyNoJson, IsWhyNoSwapped, IsWhyNoToml, IsWhyNoTomlTrie, IsWhyNotToml, starts_object};
 ghost use Rattle.ucptrie_tables.specs.Inside.Numbers.{HasNumbersOf};
-ghost use Rattle.ucptrie_tables.specs.Inside.TomlTries.{IsTomlTrieOf, IsWhyNoTomlTrie};
 ghost use Rattle.ucptrie_tables.specs.TomlFiles.{first_property, trie_of_property, trie_of_table, trie_table, width_of};
 ghost use Rattle.ucptrie_tables.specs.declared.fault.ReadFault.TheVariants.{Memory, Text};
 

@@ -79,7 +79,7 @@ impl From<AllocError> for NamesFault {
 }
 
 /// Returns the items of an array.
-fn items_in(value: &Value) -> Option<&[Value]>
+pub(crate) fn items_in(value: &Value) -> Option<&[Value]>
     ensures { option_map (λ items. map view items.now) result ≡ items_in (view value.now) }
 {
     match value.as_array() {

@@ -10,7 +10,7 @@ use crate::ucptrie_tables::fault::ReadFault;
 use crate::ucptrie_tables::parsed::ParsedFile;
 use crate::ucptrie_tables::read::{read_table, table_of_members, trie_of_table, value_at};
 use crate::ucptrie_tables::table::Table;
-use crate::ucptrie_tables::toml_names::{NamesFault, names_of};
+use crate::ucptrie_tables::toml_names::{NamesFault, items_in, names_of};
 
 /// A property that has a trie.
 #[derive(Clone, Copy)]
@@ -53,6 +53,14 @@ fn text_at<'a>(table: &'a toml::value::Table, key: &str) -> Option<&'a str> {
     value_at(table, key)?.as_str()
 }
 
+/// Returns whether the text at a key of a property is this one.
+fn has_text(table: &toml::value::Table, key: &str, text: &str) -> bool {
+    match text_at(table, key) {
+        Some(found) => found == text,
+        None => false,
+    }
+}
+
 /// Returns the name by which messages call the property.
 fn name_of<'a>(property: &Property<'a>) -> &'a str {
     text_at(property.table, "long_name").unwrap_or(property.key)
@@ -61,47 +69,70 @@ fn name_of<'a>(property: &Property<'a>) -> &'a str {
 /// Returns whether the property has this name: its key, its long name or its short one.
 fn is_named(property: &Property<'_>, name: &str) -> bool {
     property.key == name
-        || text_at(property.table, "long_name") == Some(name)
-        || text_at(property.table, "short_name") == Some(name)
+        || has_text(property.table, "long_name", name)
+        || has_text(property.table, "short_name", name)
 }
 
-/// Appends the property of a value, if it has a trie and the name, if one is asked.
+/// Returns whether a property is asked for: it has the name, or none is asked.
+fn is_asked(property: &Property<'_>, name: Option<&str>) -> bool {
+    match name {
+        Some(name) => is_named(property, name),
+        None => true,
+    }
+}
+
+/// Returns the property that a value at a key is, if the value is a table with a trie.
+fn property_of<'a>(key: &'a str, value: &'a toml::Value) -> Option<Property<'a>> {
+    let table = value.as_table()?;
+    let trie = trie_of_table(table)?;
+    Some(Property { key, table, trie })
+}
+
+/// Appends the property of a value, if it has a trie and is asked for.
 fn push_property<'a>(
     found: &mut Vec<Property<'a>>,
     key: &'a str,
     value: &'a toml::Value,
     name: Option<&str>,
 ) -> Result<(), AllocError> {
-    let Some(table) = value.as_table() else {
-        return Ok(());
-    };
-    let Some(trie) = trie_of_table(table) else {
-        return Ok(());
-    };
-    let property = Property { key, table, trie };
-    if name.is_none_or(|name| is_named(&property, name)) {
+    if let Some(property) = property_of(key, value)
+        && is_asked(&property, name)
+    {
         found.try_push(property)?;
     }
     Ok(())
 }
 
-/// Appends the properties at a key: those of an array, or the one that the value is.
+/// Appends those of the properties at a key that are asked for.
+fn push_items<'a>(
+    found: &mut Vec<Property<'a>>,
+    key: &'a str,
+    values: &'a [toml::Value],
+    name: Option<&str>,
+) -> Result<(), AllocError> {
+    let mut rest = values;
+    while let [value, after @ ..] = rest {
+        push_property(found, key, value, name)?;
+        rest = after;
+    }
+    Ok(())
+}
+
+/// Appends those of the properties at a key that are asked for: the items of an array, or the one
+/// that the value is.
 fn push_properties<'a>(
     found: &mut Vec<Property<'a>>,
     key: &'a str,
     value: &'a toml::Value,
     name: Option<&str>,
 ) -> Result<(), AllocError> {
-    let Some(values) = value.as_array() else {
-        return push_property(found, key, value, name);
-    };
-    for value in values {
-        push_property(found, key, value, name)?;
+    match items_in(value) {
+        Some(values) => push_items(found, key, values, name),
+        None => push_property(found, key, value, name),
     }
-    Ok(())
 }
 
-/// Returns the properties with a trie and the name, if one is asked, in order of their keys.
+/// Returns the properties with a trie that are asked for, in order of their keys.
 fn properties_of<'a>(
     file: &'a toml::value::Table,
     name: Option<&str>,
@@ -116,11 +147,15 @@ fn properties_of<'a>(
 /// Returns the names of properties, with commas between them.
 fn listed(properties: &[Property<'_>]) -> Result<String, AllocError> {
     let mut names = String::new();
-    for property in properties {
-        if !names.is_empty() {
-            names.try_push_str(", ")?;
-        }
+    let [first, others @ ..] = properties else {
+        return Ok(names);
+    };
+    names.try_push_str(name_of(first))?;
+    let mut rest = others;
+    while let [property, after @ ..] = rest {
+        names.try_push_str(", ")?;
         names.try_push_str(name_of(property))?;
+        rest = after;
     }
     Ok(names)
 }

@@ -64,7 +64,7 @@ impl From<AllocError> for NamesFault {
 }
 
 /// Returns the items of an array.
-fn items_in(value: &Value) -> Option<&[Value]> {
+pub(crate) fn items_in(value: &Value) -> Option<&[Value]> {
     match value.as_array() {
         Some(items) => Some(items.as_slice()),
         None => None,
