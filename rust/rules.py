@@ -257,7 +257,7 @@ EDITS = {
     "icu_trie_text/ascii": [
         (
             r"if block < self\.blocks \{\s*let offset = self\.index\.at\(block as usize\);",
-            "if let Some(offset) = cell_below(self.index.as_bytes(), self.blocks, 0, block) {",
+            "if let Some(offset) = usual_cell(T::WIDTH, self.index.as_bytes(), self.blocks, 0, block) {",
             1,
         ),
         (
@@ -265,7 +265,7 @@ EDITS = {
             "T::from_unaligned(cell_of_first(self.values.as_bytes(), T::WIDTH, self.end as usize, c as usize)?)",
             1,
         ),
-        (r"(?=use icu_zerovec)", "use crate::support::cells::{cell_below, cell_of_first};\n", 1),
+        (r"(?=use icu_zerovec)", "use crate::support::cells::{cell_of_first, usual_cell};\n", 1),
     ],
     # The characters that are left: rustc tests whether a slice of a text starts at a character.
     "icu_trie_text/first": [
@@ -396,9 +396,10 @@ EDITS = {
             r'\1#[cfg(feature = "proved-reads")]\n\1',
             2,
         ),
+        (r"(?s)(fn value_by_type.*?)cell_below\(", r"\1usual_cell(T::WIDTH, ", 1),
         (
             r"(?=use icu_trie_core::error)",
-            r'#[cfg(not(feature = "proved-reads"))]\nuse crate::support::cells::cell_below;\n'
+            r'#[cfg(not(feature = "proved-reads"))]\nuse crate::support::cells::{cell_below, usual_cell};\n'
             r'#[cfg(not(feature = "proved-reads"))]\n'
             r"use icu_trie_core::impl_const::{FAST_TYPE_DATA_MASK, FAST_TYPE_SHIFT};\n",
             1,

@@ -10,7 +10,7 @@ use crate::icu_trie_core::impl_const::{FAST_TYPE_DATA_MASK, FAST_TYPE_SHIFT};
 use crate::icu_trie_core::value::TrieValue;
 use crate::icu_zerovec::{MemoryError, ZeroSlice, ZeroVec};
 #[cfg(not(feature = "proved-reads"))]
-use crate::support::cells::cell_below;
+use crate::support::cells::{cell_below, usual_cell};
 
 /// Returns true if the fast index names a block of 64 that ends outside data of length `len`. The
 /// index must have all cells of the fast index.
@@ -185,7 +185,8 @@ impl<'trie, T: TrieValue> CodePointTrie<'trie, T> {
     pub(crate) fn value_by_type(&self, trie_type: TrieType, c: u32) -> T {
         let (index, data) = (self.index.as_slice(), self.data.as_slice());
         #[cfg(not(feature = "proved-reads"))]
-        if let Some(offset) = cell_below(
+        if let Some(offset) = usual_cell(
+            T::WIDTH,
             index.as_bytes(),
             0x1000 << (4 * u32::from(trie_type == TrieType::Fast)),
             FAST_TYPE_SHIFT,

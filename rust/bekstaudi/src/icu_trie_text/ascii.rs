@@ -3,7 +3,7 @@
 use crate::icu_trie::cptrie::CodePointTrie;
 use crate::icu_trie_core::value::TrieValue;
 use crate::icu_zerovec::ZeroSlice;
-use crate::support::cells::{cell_below, cell_of_first};
+use crate::support::cells::{cell_of_first, usual_cell};
 
 /// The number of ASCII code points.
 const ASCII_END: u32 = 0x80;
@@ -70,7 +70,7 @@ impl<'a, T: TrieValue> AsciiInPlace<'a, T> {
     /// Returns the value of the code point at index `place` in a block of 64.
     #[inline(always)]
     pub(crate) fn at(&self, block: u32, place: u32) -> T {
-        if let Some(offset) = cell_below(self.index.as_bytes(), self.blocks, 0, block) {
+        if let Some(offset) = usual_cell(T::WIDTH, self.index.as_bytes(), self.blocks, 0, block) {
             return self.values.at(offset as usize + place as usize);
         }
         self.trie.get32(block * 64 + place)

@@ -125,6 +125,14 @@ pub(crate) fn searched(
     }
 }
 
+/// Returns the cells of the numbers below `limit`, of which each `1 << shift` have a cell.
+#[allow(dead_code)] // Only the library uses it.
+#[inline(always)]
+fn cells_below(bytes: &[u8], limit: u32, shift: i32) -> &[[u8; 2]] {
+    let cells = bytes.as_chunks::<2>().0;
+    &cells[..cells.len().min((limit >> shift) as usize)]
+}
+
 /// Returns the cell of `c`, two bytes, as a number, or `None` if `c` is `limit` or greater. Below,
 /// each `1 << shift` numbers have a cell.
 ///
@@ -133,8 +141,26 @@ pub(crate) fn searched(
 #[allow(dead_code)] // Only the library uses it.
 #[inline(always)]
 pub(crate) fn cell_below(bytes: &[u8], limit: u32, shift: i32, c: u32) -> Option<u16> {
-    let cells = bytes.as_chunks::<2>().0;
-    let cells = &cells[..cells.len().min((limit >> shift) as usize)];
+    let cell = cells_below(bytes, limit, shift).get((c >> shift) as usize)?;
+    Some(u16::from_le_bytes(*cell))
+}
+
+/// Does the same for a trie whose values take `width` bytes. If these are one or two, the
+/// compiler takes most numbers for ones below the limit, and places their path first. With four
+/// bytes that takes longer: the high value is then read on a path of its own.
+#[allow(dead_code)] // Only the library uses it.
+#[inline(always)]
+pub(crate) fn usual_cell(
+    width: usize,
+    bytes: &[u8],
+    limit: u32,
+    shift: i32,
+    c: u32,
+) -> Option<u16> {
+    if width >= 4 {
+        return cell_below(bytes, limit, shift, c);
+    }
+    let cells = cells_below(bytes, limit, shift);
     let i = (c >> shift) as usize;
     if i < cells.len() {
         Some(u16::from_le_bytes(cells[i]))
