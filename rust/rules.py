@@ -227,13 +227,17 @@ EDITS = {
             1,
         ),
     ],
-    # Four bytes in one read: rustc splits the read of four bytes that are checked one by one.
+    # Four bytes in one read: rustc splits the read of four bytes that are checked one by one. All
+    # boundaries are packed by rust/support/boundaries.
     "icu_invlist/codepointinvlist/cpinvlist/packing": [
         (
             r"u32::from_le_bytes\(\[\s*bytes\[start\],(?:\s*bytes\[start \+ \d\],){3}\s*\]\)",
             "match bytes.get(start..start + 4).and_then(<[u8]>::first_chunk::<4>) {\n        Some(four) => u32::from_le_bytes(*four),\n        None => unreachable!(),\n    }",
             1,
         ),
+        (r"(?s)(?:\x01\d+\x03\n)+#\[inline\(always\)\]\nfn write\(.*?(?=(?:\x01\d+\x03\n)+pub\(super\) fn pack\()", "", 1),
+        (r"(?s)let size = ends\.len\(\) \* 3;.*?Ok\(bytes\)", "Ok(packed(ends)?)", 1),
+        (r"(?=use icu_zerovec)", "use crate::support::boundaries::packed;\n", 1),
     ],
     # A step of a listing of a unit trie. rustc makes a call of it, which takes longer than the step.
     "icu_char16trie/pending": [(r"(?m)^(?= +fn enter_part)", "    #[inline(always)]\n", 1)],
@@ -370,14 +374,13 @@ EDITS = {
             3,
         ),
         (r"(?m)^    (?=ends: ZeroVec<'data|size: u32,)", "    pub(crate) ", 2),
-        # All boundaries with one check of the vector's capacity.
+        # All boundaries by rust/support/boundaries.
         (
-            r"(?s)let packed = self\.ends\.as_slice\(\);\n( +)let count = packed\.len\(\);\n +ends\.try_room\(count - from\)\?;\n +for i in from\.\.count \{.*?\n\1\}",
-            r"let cells = self.ends.as_bytes()[3 * from..].as_chunks::<3>().0;\n"
-            r"\1ends.try_room(cells.len())?;\n"
-            r"\1ends.extend(cells.iter().map(|cell| u32::from_le_bytes([cell[0], cell[1], cell[2], 0])));",
+            r"(?s)let packed = self\.ends\.as_slice\(\);\n +let count = packed\.len\(\);\n.*?Ok\(\(\)\)",
+            "Ok(unpack(&self.ends.as_bytes()[3 * from..], ends)?)",
             1,
         ),
+        (r"(?m)^(?=use icu_zerovec::ule)", "use crate::support::boundaries::unpack;\n", 1),
     ],
     # A constant cannot read a value of any type, so the error value is not stored beside the data.
     "icu_trie/cptrie": [

@@ -1,6 +1,8 @@
 //! What Rattle's std has and Rust's has not: vectors, strings and maps that report failed
 //! allocations.
 
+#[allow(dead_code)] // Only the library uses it.
+pub(crate) mod boundaries;
 pub(crate) mod cells;
 #[cfg(not(feature = "alloc"))]
 mod empty;

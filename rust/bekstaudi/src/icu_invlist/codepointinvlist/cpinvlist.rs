@@ -12,6 +12,7 @@ use crate::icu_invlist::codepointinvlist::iter::{
 use crate::icu_invlist::codepointinvlist::sizes::{size_of, valid_size};
 use crate::icu_invlist::codepointinvlist::utils::{RangeOf, is_valid_slice};
 use crate::icu_zerovec::{CODE_POINT_LIMIT, MemoryError, PotentialCodePoint, ZeroSlice, ZeroVec};
+use crate::support::boundaries::unpack;
 use core::ops::RangeInclusive;
 use packing::{cut_to_points, pack, unpacked};
 
@@ -210,14 +211,7 @@ impl<'data> CodePointInversionList<'data> {
     /// fails.
     #[inline]
     pub(crate) fn push_ends(&self, ends: &mut Vec<u32>, from: usize) -> Result<(), MemoryError> {
-        let cells = self.ends.as_bytes()[3 * from..].as_chunks::<3>().0;
-        ends.try_room(cells.len())?;
-        ends.extend(
-            cells
-                .iter()
-                .map(|cell| u32::from_le_bytes([cell[0], cell[1], cell[2], 0])),
-        );
-        Ok(())
+        Ok(unpack(&self.ends.as_bytes()[3 * from..], ends)?)
     }
 
     /// Returns true if the set contains the code point `c`. Returns false for any number above

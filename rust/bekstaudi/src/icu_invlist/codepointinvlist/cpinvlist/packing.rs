@@ -1,6 +1,7 @@
 //! Packing and unpacking of boundaries.
 
 use crate::icu_zerovec::{MemoryError, PotentialCodePoint, ZeroVec};
+use crate::support::boundaries::packed;
 use crate::support::prelude::*;
 
 /// Copies packed boundaries into a vector.
@@ -14,36 +15,13 @@ pub(super) fn unpacked(
     Ok(points)
 }
 
-/// Writes the bytes to `out` from index `at` on.
-#[inline(always)]
-fn write(out: &mut [u8], at: usize, bytes: &[u8]) {
-    out[at..at + bytes.len()].copy_from_slice(bytes);
-}
-
-/// Writes the boundaries to `out`, packed in three bytes each, and one byte more.
-///
-/// Each write has four bytes, of which the next one overwrites the last: this takes one store per
-/// boundary.
-#[inline]
-fn pack_into(out: &mut [u8], ends: &[u32]) {
-    let mut at = 0;
-    for end in ends {
-        write(out, at, &end.to_le_bytes());
-        at += 3;
-    }
-}
-
 /// Returns the boundaries packed in three bytes each, lowest byte first. For no boundaries it
 /// allocates nothing.
 pub(super) fn pack(ends: &[u32]) -> Result<Vec<u8>, MemoryError> {
     if ends.is_empty() {
         return Ok(Vec::new());
     }
-    let size = ends.len() * 3;
-    let mut bytes = Vec::from_elem(0, size + 1)?;
-    pack_into(&mut bytes, ends);
-    bytes.truncate(size);
-    Ok(bytes)
+    Ok(packed(ends)?)
 }
 
 /// Returns the byte before cell `i` and the three bytes of the cell as a number, lowest byte first.
