@@ -322,6 +322,19 @@ EDITS = {
             r"for (value, byte) in values[j..j + 8].iter_mut().zip(bytes) {\n\1*value = trie.ascii(byte & 0x7F);",
             1,
         ),
+        (
+            r"(fn near\(&self, block: u32, place: u32\) -> T;\n)",
+            r"\1\n    /// Returns the same value, or `None` if the block is not one of [`blocks`](Self::blocks).\n"
+            r"    #[inline(always)]\n    fn near_below(&self, block: u32, place: u32) -> Option<T> {\n"
+            r"        if block >= self.blocks() {\n            return None;\n        }\n"
+            r"        Some(self.near(block, place))\n    }\n",
+            1,
+        ),
+        (
+            r"if block >= trie\.blocks\(\) \{\s*return None;\s*\}\s*Some\(trie\.near\((block, u32::from\(third\))\)\)",
+            r"trie.near_below(\1)",
+            1,
+        ),
     ],
     # A struct with a value of a type parameter is not copied from behind a reference in the source.
     "icu_collections_c/texts": [
@@ -331,6 +344,37 @@ EDITS = {
             1,
         ),
         (r"use crate::support::AllocError;\n", "", 1),
+    ],
+    # Values of one byte: those of ASCII are 128 bytes, so none is tested.
+    "icu_trie_text/copy": [
+        (
+            r"(    values: ZeroSlice<'a, T>,\n)",
+            r"\1    /// The first bytes of the data, which are the values of ASCII if `ascii_end` is not 0 and\n"
+            r"    /// each takes one byte.\n    ascii: &'a [u8; 0x80],\n",
+            1,
+        ),
+        (r"(            values,\n)", r"\1            ascii: first_bytes(values.as_bytes()),\n", 1),
+        (
+            r"self\.values\.at\(c as usize\)",
+            "if T::WIDTH == 1 && let Some(value) = byte_cell(self.ascii, c).and_then(T::from_unaligned) {\n"
+            "            return value;\n        }\n        self.values.at(c as usize)",
+            1,
+        ),
+        # One test finds out both whether a block is in the fast index and whether it has a cell.
+        (
+            r"(self\.values\.at\(offset as usize \+ place as usize\)\n    \}\n)",
+            '\\1\n    #[cfg(not(feature = "proved-reads"))]\n    #[inline(always)]\n'
+            "    fn near_below(&self, block: u32, place: u32) -> Option<T> {\n"
+            "        let offset = cell_below(self.index.as_bytes(), self.blocks, 0, block)?;\n"
+            "        Some(self.values.at(offset as usize + place as usize))\n    }\n",
+            1,
+        ),
+        (
+            r"(?=use icu_zerovec)",
+            '#[cfg(not(feature = "proved-reads"))]\nuse crate::support::cells::cell_below;\n'
+            "use crate::support::cells::{byte_cell, first_bytes};\n",
+            1,
+        ),
     ],
     # Two types that differ in lifetimes only may have different widths, so a vector of one must not
     # be accepted as a vector of the other.

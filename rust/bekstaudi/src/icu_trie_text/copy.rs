@@ -5,12 +5,18 @@ use crate::icu_trie_core::value::TrieValue;
 use crate::icu_trie_text::ascii::ascii_end;
 use crate::icu_trie_text::copy_parts::{Copied, PartValues, copy_parts};
 use crate::icu_zerovec::ZeroSlice;
+#[cfg(not(feature = "proved-reads"))]
+use crate::support::cells::cell_below;
+use crate::support::cells::{byte_cell, first_bytes};
 
 /// A trie with its cells at hand.
 struct TrieCells<'a, T: TrieValue> {
     trie: &'a CodePointTrie<'a, T>,
     index: ZeroSlice<'a, u16>,
     values: ZeroSlice<'a, T>,
+    /// The first bytes of the data, which are the values of ASCII if `ascii_end` is not 0 and
+    /// each takes one byte.
+    ascii: &'a [u8; 0x80],
     /// 0x80 if the data start with the values of ASCII, and otherwise 0.
     ascii_end: u8,
     /// The number of blocks of 64 code points in the fast index.
@@ -35,6 +41,7 @@ impl<'a, T: TrieValue> TrieCells<'a, T> {
             trie,
             index,
             values,
+            ascii: first_bytes(values.as_bytes()),
             ascii_end: ascii_end(index, values) as u8,
             blocks: header.trie_type.fast_index_len() as u32,
         }
@@ -54,6 +61,11 @@ impl<'a, T: TrieValue> PartValues<T> for TrieCells<'a, T> {
 
     #[inline(always)]
     fn ascii(&self, c: u8) -> T {
+        if T::WIDTH == 1
+            && let Some(value) = byte_cell(self.ascii, c).and_then(T::from_unaligned)
+        {
+            return value;
+        }
         self.values.at(c as usize)
     }
 
@@ -61,6 +73,13 @@ impl<'a, T: TrieValue> PartValues<T> for TrieCells<'a, T> {
     fn near(&self, block: u32, place: u32) -> T {
         let offset = self.index.at(block as usize);
         self.values.at(offset as usize + place as usize)
+    }
+
+    #[cfg(not(feature = "proved-reads"))]
+    #[inline(always)]
+    fn near_below(&self, block: u32, place: u32) -> Option<T> {
+        let offset = cell_below(self.index.as_bytes(), self.blocks, 0, block)?;
+        Some(self.values.at(offset as usize + place as usize))
     }
 
     #[inline(always)]

@@ -31,6 +31,15 @@ pub trait PartValues<T>: Copy {
     /// Returns the value of the code point at a position in a block of 64 code points.
     fn near(&self, block: u32, place: u32) -> T;
 
+    /// Returns the same value, or `None` if the block is not one of [`blocks`](Self::blocks).
+    #[inline(always)]
+    fn near_below(&self, block: u32, place: u32) -> Option<T> {
+        if block >= self.blocks() {
+            return None;
+        }
+        Some(self.near(block, place))
+    }
+
     /// Returns the value of any code point.
     fn far(&self, c: u32) -> T;
 
@@ -182,10 +191,7 @@ fn near_three<T, V: PartValues<T>>(trie: &V, bytes: &[u8]) -> Option<T> {
     } else if block < 0x380 {
         return None;
     }
-    if block >= trie.blocks() {
-        return None;
-    }
-    Some(trie.near(block, u32::from(third)))
+    trie.near_below(block, u32::from(third))
 }
 
 /// Returns the value of the four-byte character at the start of the bytes. `None` if there is none.

@@ -170,6 +170,21 @@ pub(crate) fn usual_cell(
     }
 }
 
+/// Returns the first 128 bytes, or zeros if there are fewer. Their number is known to the compiler,
+/// so an ASCII code point needs no test.
+#[allow(dead_code)] // Only the library uses it.
+#[inline(always)]
+pub(crate) fn first_bytes(bytes: &[u8]) -> &[u8; 0x80] {
+    bytes.first_chunk().unwrap_or(&[0; 0x80])
+}
+
+/// Returns the cell of one byte of an ASCII code point.
+#[allow(dead_code)] // Only the library uses it.
+#[inline(always)]
+pub(crate) fn byte_cell(bytes: &[u8; 0x80], c: u8) -> Option<&[u8]> {
+    bytes.get(usize::from(c & 0x7F)).map(core::slice::from_ref)
+}
+
 /// Tells the compiler that the path on which it is called is rare.
 #[allow(dead_code)]
 #[cold]
