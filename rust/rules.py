@@ -227,17 +227,25 @@ EDITS = {
             1,
         ),
     ],
-    # Four bytes in one read: rustc splits the read of four bytes that are checked one by one. All
-    # boundaries are packed by rust/support/boundaries.
+    # All boundaries are packed by rust/support/boundaries.
     "icu_invlist/codepointinvlist/cpinvlist/packing": [
-        (
-            r"u32::from_le_bytes\(\[\s*bytes\[start\],(?:\s*bytes\[start \+ \d\],){3}\s*\]\)",
-            "match bytes.get(start..start + 4).and_then(<[u8]>::first_chunk::<4>) {\n        Some(four) => u32::from_le_bytes(*four),\n        None => unreachable!(),\n    }",
-            1,
-        ),
+        (r"(?s)(?:\x01\d+\x03\n)+#\[inline\(always\)\]\npub\(super\) fn word_of.*?\n\}\n\n", "", 1),
         (r"(?s)(?:\x01\d+\x03\n)+#\[inline\(always\)\]\nfn write\(.*?(?=(?:\x01\d+\x03\n)+pub\(super\) fn pack\()", "", 1),
         (r"(?s)let size = ends\.len\(\) \* 3;.*?Ok\(bytes\)", "Ok(packed(ends)?)", 1),
         (r"(?=use icu_zerovec)", "use crate::support::boundaries::packed;\n", 1),
+    ],
+    # The words of three steps with four tests in place of six.
+    "icu_invlist/codepointinvlist/cpinvlist/places": [
+        (r"(?s)(?: +\x01\d+\x03\n)+ +#\[inline\(always\)\]\n +fn is_up_to.*?\n    \}\n\n", "", 1),
+        (
+            r"(?s)let first = self\.is_up_to\(low \+ step - 1, c\);.*?first as usize \+ second as usize \+ third as usize",
+            "let [first, second, third] = match last_words(self.ends.as_bytes(), low, step) {\n"
+            "            Some(words) => words,\n            None => unreachable!(),\n        };\n"
+            "        let limit = (c + 1) << 8;\n"
+            "        usize::from(first < limit) + usize::from(second < limit) + usize::from(third < limit)",
+            1,
+        ),
+        (r"use super::packing::word_of;", "use crate::support::boundaries::last_words;", 1),
     ],
     # A step of a listing of a unit trie. rustc makes a call of it, which takes longer than the step.
     "icu_char16trie/pending": [(r"(?m)^(?= +fn enter_part)", "    #[inline(always)]\n", 1)],

@@ -25,6 +25,30 @@ fn four_of(cells: &[[u8; 3]; 4]) -> [u32; 4] {
     ]
 }
 
+/// Returns the word that starts at index `at`, of the first `starts` indices. It takes one test: each
+/// of these indices has three more bytes after it.
+#[inline(always)]
+fn word_from(bytes: &[u8], starts: usize, at: usize) -> Option<u32> {
+    if at >= starts {
+        return None;
+    }
+    Some(u32::from_le_bytes(*bytes.get(at..)?.first_chunk()?))
+}
+
+/// Returns the words of the last boundary of each of three steps from boundary `low` on, of `step`
+/// boundaries each, or `None` if there are fewer. Such a word is a boundary's three bytes after the
+/// byte before them. That byte is the lowest, so comparisons do not depend on it.
+#[inline(always)]
+pub(crate) fn last_words(bytes: &[u8], low: usize, step: usize) -> Option<[u32; 3]> {
+    let starts = bytes.len().checked_sub(3)?;
+    let first = (3 * (low + step)).checked_sub(4)?;
+    Some([
+        word_from(bytes, starts, first)?,
+        word_from(bytes, starts, first + 3 * step)?,
+        word_from(bytes, starts, first + 6 * step)?,
+    ])
+}
+
 /// Returns the words of four boundaries, which are below 2^24.
 #[cfg(feature = "alloc")]
 #[inline(always)]

@@ -24,20 +24,6 @@ pub(super) fn pack(ends: &[u32]) -> Result<Vec<u8>, MemoryError> {
     Ok(packed(ends)?)
 }
 
-/// Returns the byte before cell `i` and the three bytes of the cell as a number, lowest byte first.
-/// It is a single read.
-#[inline(always)]
-pub(super) fn word_of(bytes: &[u8], i: usize) -> u32 {
-    let start = i * 3 - 1;
-    match bytes
-        .get(start..start + 4)
-        .and_then(<[u8]>::first_chunk::<4>)
-    {
-        Some(four) => u32::from_le_bytes(*four),
-        None => unreachable!(),
-    }
-}
-
 /// Copies the numbers, with 0xFFFFFF in place of any number that needs more than 24 bits. That is
 /// not a valid boundary either.
 pub(super) fn cut_to_points(ends: &[u32]) -> Result<Vec<PotentialCodePoint>, MemoryError> {

@@ -1,26 +1,19 @@
 //! Searches for a code point among the boundaries of a set.
 
 use super::CodePointInversionList;
-use super::packing::word_of;
+use crate::support::boundaries::last_words;
 
 impl<'data> CodePointInversionList<'data> {
-    /// Returns true if the boundary at index `i`, which is not the first, is at most `c`.
-    ///
-    /// A boundary and the byte before it are one number of four bytes, which takes one comparison
-    /// in memory. That byte is the lowest, so any value of it gives the same result.
-    #[inline(always)]
-    fn is_up_to(&self, i: usize, c: u32) -> bool {
-        word_of(self.ends.as_bytes(), i) < (c + 1) << 8
-    }
-
     /// Returns how many of the next three steps from `low` end at a boundary that is at most `c`.
     /// All boundaries before `low` must be at most `c`.
     #[inline(always)]
     fn steps_up_to(&self, low: usize, step: usize, c: u32) -> usize {
-        let first = self.is_up_to(low + step - 1, c);
-        let second = self.is_up_to(low + 2 * step - 1, c);
-        let third = self.is_up_to(low + 3 * step - 1, c);
-        first as usize + second as usize + third as usize
+        let [first, second, third] = match last_words(self.ends.as_bytes(), low, step) {
+            Some(words) => words,
+            None => unreachable!(),
+        };
+        let limit = (c + 1) << 8;
+        usize::from(first < limit) + usize::from(second < limit) + usize::from(third < limit)
     }
 
     /// Returns how many boundaries are at most `c`, given that the result is in `low..=low + size`
