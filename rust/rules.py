@@ -343,6 +343,12 @@ EDITS = {
             r"trie.near_below(\1)",
             1,
         ),
+        # From one number the compiler knows that a value has room.
+        (
+            r"(\n +)(while rest\.len\(\) >= BYTES_AHEAD && )values\.len\(\) - j >= ROOM_AHEAD \{",
+            r"\1let limit = values.len().saturating_sub(ROOM_AHEAD - 1);\1\2j < limit {",
+            2,
+        ),
     ],
     # A struct with a value of a type parameter is not copied from behind a reference in the source.
     "icu_collections_c/texts": [

@@ -263,7 +263,8 @@ fn copy_wide<T: Copy, V: PartValues<T>>(
 ) -> Copied {
     let mut rest = &bytes[front.bytes..];
     let mut j = front.values;
-    while rest.len() >= BYTES_AHEAD && values.len() - j >= ROOM_AHEAD {
+    let limit = values.len().saturating_sub(ROOM_AHEAD - 1);
+    while rest.len() >= BYTES_AHEAD && j < limit {
         let Some((value, size)) = wide_value(trie, rest) else {
             return Copied {
                 values: j,
@@ -296,7 +297,8 @@ fn starts_wide(bytes: &[u8]) -> bool {
 fn copy_front<T: Copy, V: PartValues<T>>(trie: &V, bytes: &[u8], values: &mut [T]) -> Copied {
     let mut rest = bytes;
     let mut j = 0;
-    while rest.len() >= BYTES_AHEAD && values.len() - j >= ROOM_AHEAD {
+    let limit = values.len().saturating_sub(ROOM_AHEAD - 1);
+    while rest.len() >= BYTES_AHEAD && j < limit {
         if rest[0] < 0x80 {
             let count = ascii_count(rest);
             if count == 8 {
