@@ -2,6 +2,7 @@ pub mod CallerLemmas
 mod CellBytesLemmas
 mod ConversionLemmas
 mod FastCells
+mod SmallPlaces
 pub mod IteratorLemmas
 pub mod SetLemmas
 pub mod JoinedLemmas

@@ -1,5 +1,5 @@
 //! The trie over packed vectors.
-ghost use Rattle.std.specs.Prelude.{◌≡◌, ℕ, ◌<◌, ◌≤◌, length, Some, None, IfOk, IfErr, is_some};
+ghost use Rattle.std.specs.Prelude.{◌≡◌, ℕ, ◌<◌, ◌≤◌, length, slice_get, Some, None, IfOk, IfErr, is_some};
 ghost use Rattle.std.specs.Option.{option_map};
 ghost use Rattle.icu_trie_core.specs.Format.{fast_limit};
 ghost use Rattle.icu_trie_core.specs.FastIndex.{passes_data, fast_index_len};
@@ -7,7 +7,7 @@ ghost use Rattle.icu_trie.specs.Parts.{parts_fault, last_cell, IsWhyNoTrie};
 ghost use Rattle.icu_zerovec.specs.Slice.{slice_values};
 
 use crate::error::PartsError;
-use crate::packed_cells::{look_up_fast_in, look_up_high_in, look_up_small_in};
+use crate::packed_cells::{fast_place_in, high_place_in, small_place_in};
 use icu_trie_core::error::CodePointTrieError;
 use icu_trie_core::header::{CodePointTrieHeader, TrieType};
 use icu_trie_core::impl_const::{CODE_POINT_MAX, FAST_TYPE_DATA_BLOCK_LENGTH};
@@ -154,39 +154,93 @@ impl<'trie, T: TrieValue> CodePointTrie<'trie, T> {
         Ok(trie)
     }
 
-    /// Returns the last cell, which is the error value. It is the value of all look-ups for which
-    /// the format has no cell.
-    ///
-    /// It is not inlined, and reads the cell instead of the field: the compiler would move a read
-    /// of the field into the common path. So that path has neither this read nor a jump.
+    /// Returns the position of the error value, the last cell, for a number above 0x10FFFF.
     #[cold]
     #[inline(never)]
-    fn without_answer(&self) -> T
-        ensures { Some result ≡ last_cell self.now.values }
+    #[tactic(auto, unfolding(icu_trie_core::specs::Format::answer))]
+    fn outside_place(&self, c: u32) -> usize
+        requires { 0x110000 ≤ c }
+        ensures inside { result < length self.now.values }
+        ensures value { slice_get self.now.values result ≡ trie_value self.now c }
     {
-        match self.data.last() {
-            Some(value) => value,
-            None => unreachable!(),
-        }
+        let _ = c;
+        self.data.len() - 1
     }
 
-    /// Returns the value of `c` through the three stages of the index, with a bounds check for each
-    /// read.
+    /// Returns the position of the value of `c` through the three stages of the index, with a
+    /// bounds check for each read.
     ///
-    /// It is cold and not inlined, so that the short paths stay short and keep all they need in
-    /// registers.
-    #[cold]
+    /// It is not inlined, so that the short paths stay short. It takes the index, since LLVM reads
+    /// an address once before a loop only if two paths use it. It is not marked as cold: a loop
+    /// over code points above the fast limit would then store its registers around each call.
     #[inline(never)]
-    fn small_value(&self, c: u32) -> T
+    #[tactic(auto, using(crate::proofs::SmallPlaces::value_inside, crate::proofs::SmallPlaces::value_none))]
+    fn small_place(&self, index: ZeroSlice<'_, u16>, c: u32) -> usize
+        requires index { slice_values index ≡ self.now.index }
         requires from { fast_limit self.now.header.trie_type ≤ c }
         requires below { c < self.now.header.high_start }
         requires within { c < 0x110000 }
-        ensures { Some result ≡ trie_value self.now c }
+        ensures inside { result < length self.now.values }
+        ensures value { slice_get self.now.values result ≡ trie_value self.now c }
     {
-        match look_up_small_in(&self.header, self.index.as_slice(), self.data.as_slice(), c) {
-            Some(value) => value,
-            None => self.without_answer(),
+        let data = self.data.as_slice();
+        let Some(place) = small_place_in(self.header.trie_type, index, data, c) else {
+            return data.len() - 1;
+        };
+        if place < data.len() {
+            place
+        } else {
+            data.len() - 1
         }
+    }
+
+    /// Returns the position of the value of a code point from the fast limit on.
+    #[inline(always)]
+    fn far_place(&self, index: ZeroSlice<'_, u16>, c: u32) -> usize
+        requires index { slice_values index ≡ self.now.index }
+        requires from { fast_limit self.now.header.trie_type ≤ c }
+        requires within { c < 0x110000 }
+        ensures inside { result < length self.now.values }
+        ensures value { slice_get self.now.values result ≡ trie_value self.now c }
+    {
+        if c >= self.header.high_start {
+            return high_place_in(&self.header, index, self.data.as_slice(), c);
+        }
+        self.small_place(index, c)
+    }
+
+    /// Returns the position of the value of `c` in a trie of this type. All cases share the read of
+    /// the value that follows, so that the compiler keeps the address of the data in a register.
+    #[inline(always)]
+    fn place_by_type(&self, trie_type: TrieType, c: u32) -> usize
+        requires { self.now.header.trie_type ≡ trie_type }
+        ensures inside { result < length self.now.values }
+        ensures value { slice_get self.now.values result ≡ trie_value self.now c }
+    {
+        let (index, data) = (self.index.as_slice(), self.data.as_slice());
+        if c < trie_type.fast_limit() {
+            return fast_place_in(&self.header, index, data, c);
+        }
+        if c > CODE_POINT_MAX {
+            return self.outside_place(c);
+        }
+        self.far_place(index, c)
+    }
+
+    /// Returns the position of the value of the character `c` in a trie of this type. No character
+    /// is above 0x10FFFF.
+    #[inline(always)]
+    fn character_place(&self, trie_type: TrieType, c: char) -> usize
+        requires { self.now.header.trie_type ≡ trie_type }
+        ensures inside { result < length self.now.values }
+        ensures value { slice_get self.now.values result ≡ trie_value self.now c }
+    {
+        let c = c as u32;
+        let (index, data) = (self.index.as_slice(), self.data.as_slice());
+        if c < trie_type.fast_limit() {
+            return fast_place_in(&self.header, index, data, c);
+        }
+        self.far_place(index, c)
     }
 
     /// Returns the value of a code point below the fast limit, in two reads.
@@ -195,20 +249,8 @@ impl<'trie, T: TrieValue> CodePointTrie<'trie, T> {
         requires { c < fast_limit self.now.header.trie_type }
         ensures { Some result ≡ trie_value self.now c }
     {
-        look_up_fast_in(&self.header, self.index.as_slice(), self.data.as_slice(), c)
-    }
-
-    /// Returns the value of a code point from the fast limit on.
-    #[inline(always)]
-    fn far_value(&self, c: u32) -> T
-        requires from { fast_limit self.now.header.trie_type ≤ c }
-        requires within { c < 0x110000 }
-        ensures { Some result ≡ trie_value self.now c }
-    {
-        if c >= self.header.high_start {
-            return look_up_high_in(&self.header, self.index.as_slice(), self.data.as_slice(), c);
-        }
-        self.small_value(c)
+        let (index, data) = (self.index.as_slice(), self.data.as_slice());
+        data.at(fast_place_in(&self.header, index, data, c))
     }
 
     /// Returns the value of `c` in a trie of this type.
@@ -217,40 +259,18 @@ impl<'trie, T: TrieValue> CodePointTrie<'trie, T> {
         requires { self.now.header.trie_type ≡ trie_type }
         ensures { Some result ≡ trie_value self.now c }
     {
-        let (index, data) = (self.index.as_slice(), self.data.as_slice());
-        if c < trie_type.fast_limit() {
-            return look_up_fast_in(&self.header, index, data, c);
-        }
-        if c > CODE_POINT_MAX {
-            return self.outside_value(c);
-        }
-        self.far_value(c)
+        let place = self.place_by_type(trie_type, c);
+        self.data.as_slice().at(place)
     }
 
-    /// Returns the error value, for a number above 0x10FFFF.
-    #[inline(always)]
-    #[tactic(auto, unfolding(icu_trie_core::specs::Format::answer))]
-    fn outside_value(&self, c: u32) -> T
-        requires { 0x110000 ≤ c }
-        ensures { Some result ≡ trie_value self.now c }
-    {
-        let _ = c;
-        self.without_answer()
-    }
-
-    /// Returns the value of the character `c` in a trie of this type. No character is above
-    /// 0x10FFFF.
+    /// Returns the value of the character `c` in a trie of this type.
     #[inline(always)]
     pub(crate) fn character_by_type(&self, trie_type: TrieType, c: char) -> T
         requires { self.now.header.trie_type ≡ trie_type }
         ensures { Some result ≡ trie_value self.now c }
     {
-        let c = c as u32;
-        let (index, data) = (self.index.as_slice(), self.data.as_slice());
-        if c < trie_type.fast_limit() {
-            return look_up_fast_in(&self.header, index, data, c);
-        }
-        self.far_value(c)
+        let place = self.character_place(trie_type, c);
+        self.data.as_slice().at(place)
     }
 
     /// Returns the value of the code point `c`, or the error value if `c` is above 0x10FFFF or if

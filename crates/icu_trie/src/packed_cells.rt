@@ -1,15 +1,17 @@
 //! The cells of two packed vectors, and the functions of the format that read only these.
-ghost use Rattle.std.specs.Prelude.{◌≡◌, ℕ, ◌<◌, ◌≤◌, List, length, Some, IfSome, IfNone, IsSomeAnd, false};
+ghost use Rattle.std.specs.Prelude.{◌≡◌, ℕ, ◌+◌, ◌%◌, ◌<◌, ◌≤◌, List, length, slice_get, Some, IfSome, IfNone, IsSomeAnd, false};
+ghost use Rattle.std.specs.Option.{option_and_then};
 ghost use Rattle.icu_trie_core.specs.Coherence.{IsCoherent};
 ghost use Rattle.icu_trie_core.specs.FastIndex.{IsWhole};
-ghost use Rattle.icu_trie_core.specs.Format.{answer, fast_limit};
+ghost use Rattle.icu_trie_core.specs.Format.{answer, fast_limit, small_offset};
 ghost use Rattle.icu_trie_core.specs.Range.{GivesWalk, last_of};
 ghost use Rattle.icu_trie_core.specs.Runs.{LongestRun};
 ghost use Rattle.icu_trie.specs.Parts.{cells_in};
+ghost use Rattle.icu_zerovec.specs.Slice.{slice_values};
 
 use icu_trie_core::cells::{Cells, Steps};
-use icu_trie_core::header::CodePointTrieHeader;
-use icu_trie_core::lookup::{look_up_fast, look_up_high, look_up_small};
+use icu_trie_core::header::{CodePointTrieHeader, TrieType};
+use icu_trie_core::lookup::{fast_place_of, high_place_of, small_place_of};
 use icu_trie_core::range::CodePointMapRange;
 use icu_trie_core::value::TrieValue;
 use icu_trie_core::walk::walk;
@@ -65,54 +67,58 @@ impl<'a, T: TrieValue, L: Ledger> Cells<T> for PackedCells<'a, T, L> {
     }
 }
 
-/// `look_up_fast` over packed vectors, counting in the ledger of `blank`.
+/// `fast_place_of` over packed vectors, counting in the ledger of `blank`.
 #[inline(always)]
-fn look_up_fast_counted<T: TrieValue, L: Ledger>(
+fn fast_place_counted<T: TrieValue, L: Ledger>(
     header: &CodePointTrieHeader,
     index: ZeroSlice<'_, u16>,
     values: ZeroSlice<'_, T>,
     c: u32,
     blank: Blank,
-) -> T
+) -> usize
     requires name { blank.name ≡ L.name }
     requires parts { blank.parts ≡ L.parts }
     requires some { 0 < blank.parts }
     requires whole { IsWhole header.now.trie_type (cells_in index values) }
     requires below { c < fast_limit header.now.trie_type }
-    ensures { answer header.now (cells_in index.entry values.entry) c ≡ Some result }
+    ensures inside { result < length (slice_values values.entry) }
+    ensures answer { answer header.now (cells_in index.entry values.entry) c
+        ≡ slice_get (slice_values values.entry) result }
 {
     let mut cells = PackedCells {
         index,
         values,
         reads: Steps::<L>::new(blank),
     };
-    look_up_fast(header, &mut cells, c)
+    fast_place_of(header, &mut cells, c)
 }
 
-/// `look_up_fast` over packed vectors. It counts in its own ledger, which it then drops.
+/// `fast_place_of` over packed vectors. It counts in its own ledger, which it then drops.
 #[inline(always)]
-pub(crate) fn look_up_fast_in<T: TrieValue>(
+pub(crate) fn fast_place_in<T: TrieValue>(
     header: &CodePointTrieHeader,
     index: ZeroSlice<'_, u16>,
     values: ZeroSlice<'_, T>,
     c: u32,
-) -> T
+) -> usize
     requires whole { IsWhole header.now.trie_type (cells_in index values) }
     requires below { c < fast_limit header.now.trie_type }
-    ensures { answer header.now (cells_in index.entry values.entry) c ≡ Some result }
+    ensures inside { result < length (slice_values values.entry) }
+    ensures answer { answer header.now (cells_in index.entry values.entry) c
+        ≡ slice_get (slice_values values.entry) result }
 {
-    look_up_fast_counted::<T, Brand>(header, index, values, c, Blank::new(1))
+    fast_place_counted::<T, Brand>(header, index, values, c, Blank::new(1))
 }
 
-/// `look_up_high` over packed vectors, counting in the ledger of `blank`.
+/// `high_place_of` over packed vectors, with the ledger of `blank`.
 #[inline(always)]
-fn look_up_high_counted<T: TrieValue, L: Ledger>(
+fn high_place_counted<T: TrieValue, L: Ledger>(
     header: &CodePointTrieHeader,
     index: ZeroSlice<'_, u16>,
     values: ZeroSlice<'_, T>,
     c: u32,
     blank: Blank,
-) -> T
+) -> usize
     requires name { blank.name ≡ L.name }
     requires parts { blank.parts ≡ L.parts }
     requires some { 0 < blank.parts }
@@ -120,72 +126,74 @@ fn look_up_high_counted<T: TrieValue, L: Ledger>(
     requires from { fast_limit header.now.trie_type ≤ c }
     requires high { header.now.high_start ≤ c }
     requires within { c < 0x110000 }
-    ensures { answer header.now (cells_in index.entry values.entry) c ≡ Some result }
+    ensures inside { result < length (slice_values values.entry) }
+    ensures answer { answer header.now (cells_in index.entry values.entry) c
+        ≡ slice_get (slice_values values.entry) result }
 {
-    let mut cells = PackedCells {
+    let cells = PackedCells {
         index,
         values,
         reads: Steps::<L>::new(blank),
     };
-    look_up_high(header, &mut cells, c)
+    high_place_of(header, &cells, c)
 }
 
-/// `look_up_high` over packed vectors. It counts in its own ledger, which it then drops.
+/// `high_place_of` over packed vectors. It counts in its own ledger, which it then drops.
 #[inline(always)]
-pub(crate) fn look_up_high_in<T: TrieValue>(
+pub(crate) fn high_place_in<T: TrieValue>(
     header: &CodePointTrieHeader,
     index: ZeroSlice<'_, u16>,
     values: ZeroSlice<'_, T>,
     c: u32,
-) -> T
+) -> usize
     requires whole { IsWhole header.now.trie_type (cells_in index values) }
     requires from { fast_limit header.now.trie_type ≤ c }
     requires high { header.now.high_start ≤ c }
     requires within { c < 0x110000 }
-    ensures { answer header.now (cells_in index.entry values.entry) c ≡ Some result }
+    ensures inside { result < length (slice_values values.entry) }
+    ensures answer { answer header.now (cells_in index.entry values.entry) c
+        ≡ slice_get (slice_values values.entry) result }
 {
-    look_up_high_counted::<T, Brand>(header, index, values, c, Blank::new(1))
+    high_place_counted::<T, Brand>(header, index, values, c, Blank::new(1))
 }
 
-/// `look_up_small` over packed vectors, counting in the ledger of `blank`.
+/// `small_place_of` over packed vectors, counting in the ledger of `blank`.
 #[inline(always)]
-fn look_up_small_counted<T: TrieValue, L: Ledger>(
-    header: &CodePointTrieHeader,
+fn small_place_counted<T: TrieValue, L: Ledger>(
+    trie_type: TrieType,
     index: ZeroSlice<'_, u16>,
     values: ZeroSlice<'_, T>,
     c: u32,
     blank: Blank,
-) -> Option<T>
+) -> Option<usize>
     requires name { blank.name ≡ L.name }
     requires parts { blank.parts ≡ L.parts }
     requires some { 0 < blank.parts }
-    requires from { fast_limit header.now.trie_type ≤ c }
-    requires below { c < header.now.high_start }
-    requires within { c < 0x110000 }
-    ensures { result ≡ answer header.now (cells_in index.entry values.entry) c }
+    ensures { result
+        ≡ option_and_then (λ offset. Some (offset + c % 16))
+        (small_offset trie_type (slice_values index.entry) c) }
 {
     let mut cells = PackedCells {
         index,
         values,
         reads: Steps::<L>::new(blank),
     };
-    look_up_small(header, &mut cells, c)
+    small_place_of(trie_type, &mut cells, c)
 }
 
-/// `look_up_small` over packed vectors. It counts in its own ledger, which it then drops.
+/// `small_place_of` over packed vectors. It counts in its own ledger, which it then drops.
 #[inline(always)]
-pub(crate) fn look_up_small_in<T: TrieValue>(
-    header: &CodePointTrieHeader,
+pub(crate) fn small_place_in<T: TrieValue>(
+    trie_type: TrieType,
     index: ZeroSlice<'_, u16>,
     values: ZeroSlice<'_, T>,
     c: u32,
-) -> Option<T>
-    requires from { fast_limit header.now.trie_type ≤ c }
-    requires below { c < header.now.high_start }
-    requires within { c < 0x110000 }
-    ensures { result ≡ answer header.now (cells_in index.entry values.entry) c }
+) -> Option<usize>
+    ensures { result
+        ≡ option_and_then (λ offset. Some (offset + c % 16))
+        (small_offset trie_type (slice_values index.entry) c) }
 {
-    look_up_small_counted::<T, Brand>(header, index, values, c, Blank::new(1))
+    small_place_counted::<T, Brand>(trie_type, index, values, c, Blank::new(1))
 }
 
 /// `walk` over packed vectors, counting in the ledger of `blank`.

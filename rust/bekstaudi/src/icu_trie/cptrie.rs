@@ -1,7 +1,7 @@
 //! The trie over packed vectors.
 
 use crate::icu_trie::error::PartsError;
-use crate::icu_trie::packed_cells::{look_up_fast_in, look_up_high_in, look_up_small_in};
+use crate::icu_trie::packed_cells::{fast_place_in, high_place_in, small_place_in};
 use crate::icu_trie_core::error::CodePointTrieError;
 use crate::icu_trie_core::header::{CodePointTrieHeader, TrieType};
 use crate::icu_trie_core::impl_const::{CODE_POINT_MAX, FAST_TYPE_DATA_BLOCK_LENGTH};
@@ -137,52 +137,46 @@ impl<'trie, T: TrieValue> CodePointTrie<'trie, T> {
         Ok(trie)
     }
 
-    /// Returns the last cell, which is the error value. It is the value of all look-ups for which
-    /// the format has no cell.
-    ///
-    /// It is not inlined, and reads the cell instead of the field: the compiler would move a read
-    /// of the field into the common path. So that path has neither this read nor a jump.
+    /// Returns the position of the error value, the last cell, for a number above 0x10FFFF.
     #[cold]
     #[inline(never)]
-    fn without_answer(&self) -> T {
-        match self.data.last() {
-            Some(value) => value,
-            None => unreachable!(),
+    fn outside_place(&self, c: u32) -> usize {
+        let _ = c;
+        self.data.len() - 1
+    }
+
+    /// Returns the position of the value of `c` through the three stages of the index, with a
+    /// bounds check for each read.
+    ///
+    /// It is not inlined, so that the short paths stay short. It takes the index, since LLVM reads
+    /// an address once before a loop only if two paths use it. It is not marked as cold: a loop
+    /// over code points above the fast limit would then store its registers around each call.
+    #[inline(never)]
+    fn small_place(&self, index: ZeroSlice<'_, u16>, c: u32) -> usize {
+        let data = self.data.as_slice();
+        let Some(place) = small_place_in(self.header.trie_type, index, data, c) else {
+            return data.len() - 1;
+        };
+        if place < data.len() {
+            place
+        } else {
+            data.len() - 1
         }
     }
 
-    /// Returns the value of `c` through the three stages of the index, with a bounds check for each
-    /// read.
-    ///
-    /// It is cold and not inlined, so that the short paths stay short and keep all they need in
-    /// registers.
-    #[cold]
-    #[inline(never)]
-    fn small_value(&self, c: u32) -> T {
-        match look_up_small_in(&self.header, self.index.as_slice(), self.data.as_slice(), c) {
-            Some(value) => value,
-            None => self.without_answer(),
-        }
-    }
-
-    /// Returns the value of a code point below the fast limit, in two reads.
+    /// Returns the position of the value of a code point from the fast limit on.
     #[inline(always)]
-    pub(crate) fn fast_value(&self, c: u32) -> T {
-        look_up_fast_in(&self.header, self.index.as_slice(), self.data.as_slice(), c)
-    }
-
-    /// Returns the value of a code point from the fast limit on.
-    #[inline(always)]
-    fn far_value(&self, c: u32) -> T {
+    fn far_place(&self, index: ZeroSlice<'_, u16>, c: u32) -> usize {
         if c >= self.header.high_start {
-            return look_up_high_in(&self.header, self.index.as_slice(), self.data.as_slice(), c);
+            return high_place_in(&self.header, index, self.data.as_slice(), c);
         }
-        self.small_value(c)
+        self.small_place(index, c)
     }
 
-    /// Returns the value of `c` in a trie of this type.
+    /// Returns the position of the value of `c` in a trie of this type. All cases share the read of
+    /// the value that follows, so that the compiler keeps the address of the data in a register.
     #[inline(always)]
-    pub(crate) fn value_by_type(&self, trie_type: TrieType, c: u32) -> T {
+    fn place_by_type(&self, trie_type: TrieType, c: u32) -> usize {
         let (index, data) = (self.index.as_slice(), self.data.as_slice());
         #[cfg(not(feature = "proved-reads"))]
         if let Some(offset) = usual_cell(
@@ -192,29 +186,22 @@ impl<'trie, T: TrieValue> CodePointTrie<'trie, T> {
             FAST_TYPE_SHIFT,
             c,
         ) {
-            return data.at(offset as usize + (c & FAST_TYPE_DATA_MASK) as usize);
+            return offset as usize + (c & FAST_TYPE_DATA_MASK) as usize;
         }
         #[cfg(feature = "proved-reads")]
         if c < trie_type.fast_limit() {
-            return look_up_fast_in(&self.header, index, data, c);
+            return fast_place_in(&self.header, index, data, c);
         }
         if c > CODE_POINT_MAX {
-            return self.outside_value(c);
+            return self.outside_place(c);
         }
-        self.far_value(c)
+        self.far_place(index, c)
     }
 
-    /// Returns the error value, for a number above 0x10FFFF.
+    /// Returns the position of the value of the character `c` in a trie of this type. No character
+    /// is above 0x10FFFF.
     #[inline(always)]
-    fn outside_value(&self, c: u32) -> T {
-        let _ = c;
-        self.without_answer()
-    }
-
-    /// Returns the value of the character `c` in a trie of this type. No character is above
-    /// 0x10FFFF.
-    #[inline(always)]
-    pub(crate) fn character_by_type(&self, trie_type: TrieType, c: char) -> T {
+    fn character_place(&self, trie_type: TrieType, c: char) -> usize {
         let c = c as u32;
         let (index, data) = (self.index.as_slice(), self.data.as_slice());
         #[cfg(not(feature = "proved-reads"))]
@@ -224,13 +211,34 @@ impl<'trie, T: TrieValue> CodePointTrie<'trie, T> {
             FAST_TYPE_SHIFT,
             c,
         ) {
-            return data.at(offset as usize + (c & FAST_TYPE_DATA_MASK) as usize);
+            return offset as usize + (c & FAST_TYPE_DATA_MASK) as usize;
         }
         #[cfg(feature = "proved-reads")]
         if c < trie_type.fast_limit() {
-            return look_up_fast_in(&self.header, index, data, c);
+            return fast_place_in(&self.header, index, data, c);
         }
-        self.far_value(c)
+        self.far_place(index, c)
+    }
+
+    /// Returns the value of a code point below the fast limit, in two reads.
+    #[inline(always)]
+    pub(crate) fn fast_value(&self, c: u32) -> T {
+        let (index, data) = (self.index.as_slice(), self.data.as_slice());
+        data.at(fast_place_in(&self.header, index, data, c))
+    }
+
+    /// Returns the value of `c` in a trie of this type.
+    #[inline(always)]
+    pub(crate) fn value_by_type(&self, trie_type: TrieType, c: u32) -> T {
+        let place = self.place_by_type(trie_type, c);
+        self.data.as_slice().at(place)
+    }
+
+    /// Returns the value of the character `c` in a trie of this type.
+    #[inline(always)]
+    pub(crate) fn character_by_type(&self, trie_type: TrieType, c: char) -> T {
+        let place = self.character_place(trie_type, c);
+        self.data.as_slice().at(place)
     }
 
     /// Returns the value of the code point `c`, or the error value if `c` is above 0x10FFFF or if
@@ -306,7 +314,7 @@ impl<'trie, T: TrieValue> CodePointTrie<'trie, T> {
     #[must_use]
     #[inline]
     pub fn error_value(&self) -> T {
-        self.without_answer()
+        self.data.as_slice().at(self.data.len() - 1)
     }
 
     /// Returns the null value: the value whose number is in the header. For a built trie it is

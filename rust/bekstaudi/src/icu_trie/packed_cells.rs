@@ -1,8 +1,8 @@
 //! The cells of two packed vectors, and the functions of the format that read only these.
 
 use crate::icu_trie_core::cells::Cells;
-use crate::icu_trie_core::header::CodePointTrieHeader;
-use crate::icu_trie_core::lookup::{look_up_fast, look_up_high, look_up_small};
+use crate::icu_trie_core::header::{CodePointTrieHeader, TrieType};
+use crate::icu_trie_core::lookup::{fast_place_of, high_place_of, small_place_of};
 use crate::icu_trie_core::range::CodePointMapRange;
 use crate::icu_trie_core::value::TrieValue;
 use crate::icu_trie_core::walk::walk;
@@ -46,40 +46,40 @@ impl<'a, T: TrieValue> Cells<T> for PackedCells<'a, T> {
     }
 }
 
-/// `look_up_fast` over packed vectors.
+/// `fast_place_of` over packed vectors.
 #[inline(always)]
-pub(crate) fn look_up_fast_in<T: TrieValue>(
+pub(crate) fn fast_place_in<T: TrieValue>(
     header: &CodePointTrieHeader,
     index: ZeroSlice<'_, u16>,
     values: ZeroSlice<'_, T>,
     c: u32,
-) -> T {
+) -> usize {
     let mut cells = PackedCells { index, values };
-    look_up_fast(header, &mut cells, c)
+    fast_place_of(header, &mut cells, c)
 }
 
-/// `look_up_high` over packed vectors.
+/// `high_place_of` over packed vectors.
 #[inline(always)]
-pub(crate) fn look_up_high_in<T: TrieValue>(
+pub(crate) fn high_place_in<T: TrieValue>(
     header: &CodePointTrieHeader,
     index: ZeroSlice<'_, u16>,
     values: ZeroSlice<'_, T>,
     c: u32,
-) -> T {
-    let mut cells = PackedCells { index, values };
-    look_up_high(header, &mut cells, c)
+) -> usize {
+    let cells = PackedCells { index, values };
+    high_place_of(header, &cells, c)
 }
 
-/// `look_up_small` over packed vectors.
+/// `small_place_of` over packed vectors.
 #[inline(always)]
-pub(crate) fn look_up_small_in<T: TrieValue>(
-    header: &CodePointTrieHeader,
+pub(crate) fn small_place_in<T: TrieValue>(
+    trie_type: TrieType,
     index: ZeroSlice<'_, u16>,
     values: ZeroSlice<'_, T>,
     c: u32,
-) -> Option<T> {
+) -> Option<usize> {
     let mut cells = PackedCells { index, values };
-    look_up_small(header, &mut cells, c)
+    small_place_of(trie_type, &mut cells, c)
 }
 
 /// `walk` over packed vectors.

@@ -105,8 +105,8 @@ pub fn look_up<T, C: Cells<T>>(header: &CodePointTrieHeader, cells: &mut C, c: u
     look_up_far(header, cells, c)
 }
 
-/// Returns the cell of `c`, in two reads. `c` must be below the fast limit, and the fast index must
-/// be whole.
+/// Returns the data position of the cell of `c`, in one read. `c` must be below the fast limit, and
+/// the fast index must be whole.
 ///
 /// The fast index is whole if it has a cell for each block of 64 below the fast limit, and all
 /// these blocks are inside the data. Then no bounds check is needed, and there always is a cell.
@@ -114,26 +114,35 @@ pub fn look_up<T, C: Cells<T>>(header: &CodePointTrieHeader, cells: &mut C, c: u
 ///
 /// Public for the crates that build on this one.
 #[inline(always)]
-pub(crate) fn look_up_fast<T, C: Cells<T>>(_: &CodePointTrieHeader, cells: &mut C, c: u32) -> T {
+pub(crate) fn fast_place_of<T, C: Cells<T>>(
+    _: &CodePointTrieHeader,
+    cells: &mut C,
+    c: u32,
+) -> usize {
     let offset = cells.index_at((c >> FAST_TYPE_SHIFT) as usize);
-    cells.data_at(offset as usize + (c & FAST_TYPE_DATA_MASK) as usize)
+    offset as usize + (c & FAST_TYPE_DATA_MASK) as usize
 }
 
-/// Returns the high value, which must exist.
+/// Returns the cell of `c`, in two reads. `c` must be below the fast limit, and the fast index must
+/// be whole, as for [`fast_place_of`]. Public for the crates that build on this one.
 #[inline(always)]
-fn high_value_of<T, C: Cells<T>>(cells: &mut C) -> T {
-    let place = cells.data_len() - HIGH_VALUE_NEG_DATA_OFFSET as usize;
+pub(crate) fn look_up_fast<T, C: Cells<T>>(
+    header: &CodePointTrieHeader,
+    cells: &mut C,
+    c: u32,
+) -> T {
+    let place = fast_place_of(header, cells, c);
     cells.data_at(place)
 }
 
-/// Returns the high value, which is the cell of `c`, in one read. `c` must be at or above the fast
-/// limit and the high start, and at most 0x10FFFF.
+/// Returns the data position of the high value, which is the cell of `c`. `c` must be at or above
+/// the fast limit and the high start, and at most 0x10FFFF.
 ///
-/// The fast index must be whole, which implies that the data have a high value. Public for the
-/// crates that build on this one.
+/// The fast index must be whole, which implies that the data have a high value. Reads nothing.
+/// Public for the crates that build on this one.
 #[inline(always)]
-pub(crate) fn look_up_high<T, C: Cells<T>>(_: &CodePointTrieHeader, cells: &mut C, _: u32) -> T {
-    high_value_of(cells)
+pub(crate) fn high_place_of<T, C: Cells<T>>(_: &CodePointTrieHeader, cells: &C, _: u32) -> usize {
+    cells.data_len() - HIGH_VALUE_NEG_DATA_OFFSET as usize
 }
 
 /// Returns what [`look_up`] returns for `c`, which is at or above the fast limit.

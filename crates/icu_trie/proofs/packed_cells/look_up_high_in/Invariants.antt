@@ -1,4 +1,0 @@
-use Rattle.icu_trie.proofs.packed_cells.look_up_high_in.Given as goal
-
-abbrev pub ghosts-look_up_high_counted : goal.ghosts-look_up_high_counted
-ghosts-look_up_high_counted g a = record { name = a.blank.name; parts = a.blank.parts }
