@@ -457,7 +457,26 @@ EDITS = {
             r'\1#[cfg(feature = "proved-reads")]\n\1',
             2,
         ),
-        (r"(?s)(fn value_by_type.*?)cell_below\(", r"\1usual_cell(T::WIDTH, ", 1),
+        (r"(?s)(fn place_by_type.*?)cell_below\(", r"\1usual_cell(T::WIDTH, ", 1),
+        (
+            r"let \(index, data\) = \((self\.index\.as_slice\(\)), self\.data\.as_slice\(\)\);(?=\n +#\[cfg\(not)",
+            r"let index = \1;",
+            2,
+        ),
+        (r"(return fast_place_in\(&self\.header, index, )data, c", r"\1self.data.as_slice(), c", 2),
+        # Nor is a position tested twice: the read of the value tests it.
+        (
+            r"( +)if place < data\.len\(\) \{\n +place\n",
+            r'\1if cfg!(not(feature = "proved-reads")) || place < data.len() {\n\1    place\n',
+            1,
+        ),
+        (
+            r"( +)(?=self\.data\.as_slice\(\)\.at\(place\)\n)",
+            r'\1#[cfg(not(feature = "proved-reads"))]\n'
+            r"\1if let Some(value) = self.data.get(place) {\n\1    return value;\n\1}\n"
+            r'\1#[cfg(not(feature = "proved-reads"))]\n\1let place = self.outside_place(u32::MAX);\n\1',
+            2,
+        ),
         (
             r"(?=use icu_trie_core::error)",
             r'#[cfg(not(feature = "proved-reads"))]\nuse crate::support::cells::{cell_below, usual_cell};\n'

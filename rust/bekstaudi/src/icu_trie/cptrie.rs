@@ -157,7 +157,7 @@ impl<'trie, T: TrieValue> CodePointTrie<'trie, T> {
         let Some(place) = small_place_in(self.header.trie_type, index, data, c) else {
             return data.len() - 1;
         };
-        if place < data.len() {
+        if cfg!(not(feature = "proved-reads")) || place < data.len() {
             place
         } else {
             data.len() - 1
@@ -177,7 +177,7 @@ impl<'trie, T: TrieValue> CodePointTrie<'trie, T> {
     /// the value that follows, so that the compiler keeps the address of the data in a register.
     #[inline(always)]
     fn place_by_type(&self, trie_type: TrieType, c: u32) -> usize {
-        let (index, data) = (self.index.as_slice(), self.data.as_slice());
+        let index = self.index.as_slice();
         #[cfg(not(feature = "proved-reads"))]
         if let Some(offset) = usual_cell(
             T::WIDTH,
@@ -190,7 +190,7 @@ impl<'trie, T: TrieValue> CodePointTrie<'trie, T> {
         }
         #[cfg(feature = "proved-reads")]
         if c < trie_type.fast_limit() {
-            return fast_place_in(&self.header, index, data, c);
+            return fast_place_in(&self.header, index, self.data.as_slice(), c);
         }
         if c > CODE_POINT_MAX {
             return self.outside_place(c);
@@ -203,7 +203,7 @@ impl<'trie, T: TrieValue> CodePointTrie<'trie, T> {
     #[inline(always)]
     fn character_place(&self, trie_type: TrieType, c: char) -> usize {
         let c = c as u32;
-        let (index, data) = (self.index.as_slice(), self.data.as_slice());
+        let index = self.index.as_slice();
         #[cfg(not(feature = "proved-reads"))]
         if let Some(offset) = cell_below(
             index.as_bytes(),
@@ -215,7 +215,7 @@ impl<'trie, T: TrieValue> CodePointTrie<'trie, T> {
         }
         #[cfg(feature = "proved-reads")]
         if c < trie_type.fast_limit() {
-            return fast_place_in(&self.header, index, data, c);
+            return fast_place_in(&self.header, index, self.data.as_slice(), c);
         }
         self.far_place(index, c)
     }
@@ -231,6 +231,12 @@ impl<'trie, T: TrieValue> CodePointTrie<'trie, T> {
     #[inline(always)]
     pub(crate) fn value_by_type(&self, trie_type: TrieType, c: u32) -> T {
         let place = self.place_by_type(trie_type, c);
+        #[cfg(not(feature = "proved-reads"))]
+        if let Some(value) = self.data.get(place) {
+            return value;
+        }
+        #[cfg(not(feature = "proved-reads"))]
+        let place = self.outside_place(u32::MAX);
         self.data.as_slice().at(place)
     }
 
@@ -238,6 +244,12 @@ impl<'trie, T: TrieValue> CodePointTrie<'trie, T> {
     #[inline(always)]
     pub(crate) fn character_by_type(&self, trie_type: TrieType, c: char) -> T {
         let place = self.character_place(trie_type, c);
+        #[cfg(not(feature = "proved-reads"))]
+        if let Some(value) = self.data.get(place) {
+            return value;
+        }
+        #[cfg(not(feature = "proved-reads"))]
+        let place = self.outside_place(u32::MAX);
         self.data.as_slice().at(place)
     }
 
