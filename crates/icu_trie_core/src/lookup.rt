@@ -14,6 +14,7 @@ use crate::impl_const::{
 use icu_zerovec::CODE_POINT_LIMIT;
 
 /// Returns the index-2 cell of a code point, in at most two reads.
+#[inline]
 pub(crate) fn index2_cell_of<T, C: Cells<T>>(
     trie_type: TrieType,
     cells: &mut C,
@@ -42,6 +43,7 @@ fn long_offset_of(high: u16, low: u16, place: u32) -> u32
 
 /// Returns data offset number `place`, one of 32, of the index-3 block that an index-2 cell names.
 /// Takes at most two reads.
+#[inline]
 pub(crate) fn offset_of<T, C: Cells<T>>(cells: &mut C, index2_cell: u16, place: u32) -> Option<u32>
     requires { place < 32 }
     ensures offset { result ≡ offset_in_block (C.contents cells.old).index index2_cell place }
@@ -64,7 +66,7 @@ pub(crate) fn offset_of<T, C: Cells<T>>(cells: &mut C, index2_cell: u16, place: 
 /// through the three stages of the index. Returns `None` if a cell of the index is missing.
 ///
 /// Takes at most four reads. Public for the crates that build on this one.
-#[inline]
+#[inline(always)]
 #[tactic(auto, unfolding(crate::specs::Format::small_offset))]
 pub fn small_place_of<T, C: Cells<T>>(trie_type: TrieType, cells: &mut C, c: u32) -> Option<usize>
     ensures place { result
@@ -154,9 +156,9 @@ pub fn fast_place_of<T, C: Cells<T>>(header: &CodePointTrieHeader, cells: &mut C
 }
 
 /// Returns the cell of `c`, in two reads. `c` must be below the fast limit, and the fast index must
-/// be whole, as for [`fast_place_of`]. Public for the crates that build on this one.
+/// be whole, as for [`fast_place_of`].
 #[inline(always)]
-pub fn look_up_fast<T, C: Cells<T>>(header: &CodePointTrieHeader, cells: &mut C, c: u32) -> T
+fn look_up_fast<T, C: Cells<T>>(header: &CodePointTrieHeader, cells: &mut C, c: u32) -> T
     requires whole { IsWhole header.now.trie_type (C.contents cells.old) }
     requires below { c < fast_limit header.now.trie_type }
     ensures answer { answer header.now (C.contents cells.old) c ≡ Some result }
@@ -192,7 +194,7 @@ pub fn high_place_of<T, C: Cells<T>>(header: &CodePointTrieHeader, cells: &C, c:
 /// extra test and jump.
 #[inline(always)]
 #[tactic(auto, unfolding(crate::specs::Format::answer))]
-pub fn look_up_far<T, C: Cells<T>>(header: &CodePointTrieHeader, cells: &mut C, c: u32) -> Option<T>
+fn look_up_far<T, C: Cells<T>>(header: &CodePointTrieHeader, cells: &mut C, c: u32) -> Option<T>
     requires { fast_limit header.now.trie_type ≤ c }
     ensures answer { result ≡ answer header.now (C.contents cells.old) c }
     ensures reads { C.reads cells.new ≤ C.reads cells.old + 5 }
@@ -209,15 +211,10 @@ pub fn look_up_far<T, C: Cells<T>>(header: &CodePointTrieHeader, cells: &mut C, 
 }
 
 /// Returns what [`look_up`] returns for `c`, which is at or above the fast limit and below the high
-/// start. Reads through the three stages of the index. Public for the crates that build on this
-/// one.
+/// start. Reads through the three stages of the index.
 #[inline(always)]
 #[tactic(auto, unfolding(crate::specs::Format::answer))]
-pub fn look_up_small<T, C: Cells<T>>(
-    header: &CodePointTrieHeader,
-    cells: &mut C,
-    c: u32,
-) -> Option<T>
+fn look_up_small<T, C: Cells<T>>(header: &CodePointTrieHeader, cells: &mut C, c: u32) -> Option<T>
     requires from { fast_limit header.now.trie_type ≤ c }
     requires below { c < header.now.high_start }
     requires within { c < 0x110000 }
