@@ -44,8 +44,8 @@ RENAMED = {
 # Functions with a `requires` that only a proof can check. They are private.
 INSIDE = (
     "PotentialCodePoint::from_u24 ZeroSlice::at ZeroVec::try_into_converted"
-    " CodePointInversionList::from_valid_slice look_up_far look_up_fast fast_place_of"
-    " high_place_of look_up_small look_up_whole NumberMap::set_range NumberMap::repeats NumberMap::copy_block"
+    " CodePointInversionList::from_valid_slice fast_place_of"
+    " high_place_of look_up_whole NumberMap::set_range NumberMap::repeats NumberMap::copy_block"
     " NumberMap::get NumberMap::find_other CellStore::new CellStore::find CellStore::place build_index"
     " copy_characters"
 ).split() + ["trait PartValues::ascii", "trait PartValues::near"]
@@ -452,12 +452,11 @@ EDITS = {
         (
             r"( +)(?=if c < trie_type\.fast_limit\(\) \{\n)",
             r'\1#[cfg(not(feature = "proved-reads"))]\n'
-            r"\1if let Some(offset) = cell_below(index.as_bytes(), 0x1000 << (4 * u32::from(trie_type == TrieType::Fast)), FAST_TYPE_SHIFT, c) {\n"
+            r"\1if let Some(offset) = usual_cell(T::WIDTH, index.as_bytes(), 0x1000 << (4 * u32::from(trie_type == TrieType::Fast)), FAST_TYPE_SHIFT, c) {\n"
             r"\1    return offset as usize + (c & FAST_TYPE_DATA_MASK) as usize;\n\1}\n"
             r'\1#[cfg(feature = "proved-reads")]\n\1',
             2,
         ),
-        (r"(?s)(fn place_by_type.*?)cell_below\(", r"\1usual_cell(T::WIDTH, ", 1),
         (
             r"let \(index, data\) = \((self\.index\.as_slice\(\)), self\.data\.as_slice\(\)\);(?=\n +#\[cfg\(not)",
             r"let index = \1;",
@@ -479,7 +478,7 @@ EDITS = {
         ),
         (
             r"(?=use icu_trie_core::error)",
-            r'#[cfg(not(feature = "proved-reads"))]\nuse crate::support::cells::{cell_below, usual_cell};\n'
+            r'#[cfg(not(feature = "proved-reads"))]\nuse crate::support::cells::usual_cell;\n'
             r'#[cfg(not(feature = "proved-reads"))]\n'
             r"use icu_trie_core::impl_const::{FAST_TYPE_DATA_MASK, FAST_TYPE_SHIFT};\n",
             1,

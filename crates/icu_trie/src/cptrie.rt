@@ -170,10 +170,9 @@ impl<'trie, T: TrieValue> CodePointTrie<'trie, T> {
     /// Returns the position of the value of `c` through the three stages of the index, with a
     /// bounds check for each read.
     ///
-    /// It is not inlined, so that the short paths stay short. It takes the index, since LLVM reads
-    /// an address once before a loop only if two paths use it. It is not marked as cold: a loop
-    /// over code points above the fast limit would then store its registers around each call.
-    #[inline(never)]
+    /// It takes the index, since LLVM reads an address once before a loop only if two paths use it.
+    /// A call would cost a loop over code points above the fast limit half as much time again.
+    #[inline(always)]
     #[tactic(auto, using(crate::proofs::SmallPlaces::value_inside, crate::proofs::SmallPlaces::value_none))]
     fn small_place(&self, index: ZeroSlice<'_, u16>, c: u32) -> usize
         requires index { slice_values index ≡ self.now.index }
@@ -281,7 +280,7 @@ impl<'trie, T: TrieValue> CodePointTrie<'trie, T> {
     /// let trie = builder.build()?;
     /// // trie.get32(0x10FFFF) is 0, the default, and trie.get32(u32::MAX) is 9, the error value
     /// ```
-    #[inline]
+    #[inline(always)]
     pub fn get32(&self, c: u32) -> T
         ensures { Some result ≡ trie_value self.now c }
     {
@@ -289,7 +288,7 @@ impl<'trie, T: TrieValue> CodePointTrie<'trie, T> {
     }
 
     /// Returns the value of the character `c`.
-    #[inline]
+    #[inline(always)]
     pub fn get(&self, c: char) -> T
         ensures { Some result ≡ trie_value self.now c }
     {

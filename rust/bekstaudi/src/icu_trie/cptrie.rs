@@ -10,7 +10,7 @@ use crate::icu_trie_core::impl_const::{FAST_TYPE_DATA_MASK, FAST_TYPE_SHIFT};
 use crate::icu_trie_core::value::TrieValue;
 use crate::icu_zerovec::{MemoryError, ZeroSlice, ZeroVec};
 #[cfg(not(feature = "proved-reads"))]
-use crate::support::cells::{cell_below, usual_cell};
+use crate::support::cells::usual_cell;
 
 /// Returns true if the fast index names a block of 64 that ends outside data of length `len`. The
 /// index must have all cells of the fast index.
@@ -148,10 +148,9 @@ impl<'trie, T: TrieValue> CodePointTrie<'trie, T> {
     /// Returns the position of the value of `c` through the three stages of the index, with a
     /// bounds check for each read.
     ///
-    /// It is not inlined, so that the short paths stay short. It takes the index, since LLVM reads
-    /// an address once before a loop only if two paths use it. It is not marked as cold: a loop
-    /// over code points above the fast limit would then store its registers around each call.
-    #[inline(never)]
+    /// It takes the index, since LLVM reads an address once before a loop only if two paths use it.
+    /// A call would cost a loop over code points above the fast limit half as much time again.
+    #[inline(always)]
     fn small_place(&self, index: ZeroSlice<'_, u16>, c: u32) -> usize {
         let data = self.data.as_slice();
         let Some(place) = small_place_in(self.header.trie_type, index, data, c) else {
@@ -205,7 +204,8 @@ impl<'trie, T: TrieValue> CodePointTrie<'trie, T> {
         let c = c as u32;
         let index = self.index.as_slice();
         #[cfg(not(feature = "proved-reads"))]
-        if let Some(offset) = cell_below(
+        if let Some(offset) = usual_cell(
+            T::WIDTH,
             index.as_bytes(),
             0x1000 << (4 * u32::from(trie_type == TrieType::Fast)),
             FAST_TYPE_SHIFT,
@@ -264,14 +264,14 @@ impl<'trie, T: TrieValue> CodePointTrie<'trie, T> {
     /// assert_eq!(trie.get32(u32::MAX), 9);
     /// ```
     #[must_use]
-    #[inline]
+    #[inline(always)]
     pub fn get32(&self, c: u32) -> T {
         self.value_by_type(self.header.trie_type, c)
     }
 
     /// Returns the value of the character `c`.
     #[must_use]
-    #[inline]
+    #[inline(always)]
     pub fn get(&self, c: char) -> T {
         self.character_by_type(self.header.trie_type, c)
     }

@@ -54,7 +54,7 @@ pub(crate) fn offset_of<T, C: Cells<T>>(
 /// through the three stages of the index. Returns `None` if a cell of the index is missing.
 ///
 /// Takes at most four reads. Public for the crates that build on this one.
-#[inline]
+#[inline(always)]
 pub fn small_place_of<T, C: Cells<T>>(trie_type: TrieType, cells: &mut C, c: u32) -> Option<usize> {
     let index2_cell = index2_cell_of(trie_type, cells, c)?;
     let offset = offset_of(cells, index2_cell, (c >> SHIFT_3) & INDEX_3_MASK)?;
@@ -124,13 +124,9 @@ pub(crate) fn fast_place_of<T, C: Cells<T>>(
 }
 
 /// Returns the cell of `c`, in two reads. `c` must be below the fast limit, and the fast index must
-/// be whole, as for [`fast_place_of`]. Public for the crates that build on this one.
+/// be whole, as for [`fast_place_of`].
 #[inline(always)]
-pub(crate) fn look_up_fast<T, C: Cells<T>>(
-    header: &CodePointTrieHeader,
-    cells: &mut C,
-    c: u32,
-) -> T {
+fn look_up_fast<T, C: Cells<T>>(header: &CodePointTrieHeader, cells: &mut C, c: u32) -> T {
     let place = fast_place_of(header, cells, c);
     cells.data_at(place)
 }
@@ -150,11 +146,7 @@ pub(crate) fn high_place_of<T, C: Cells<T>>(_: &CodePointTrieHeader, cells: &C, 
 /// Each case reads its own data cell, since one shared read at the end would cost each case an
 /// extra test and jump.
 #[inline(always)]
-pub(crate) fn look_up_far<T, C: Cells<T>>(
-    header: &CodePointTrieHeader,
-    cells: &mut C,
-    c: u32,
-) -> Option<T> {
+fn look_up_far<T, C: Cells<T>>(header: &CodePointTrieHeader, cells: &mut C, c: u32) -> Option<T> {
     if c > CODE_POINT_MAX {
         return None;
     }
@@ -166,14 +158,9 @@ pub(crate) fn look_up_far<T, C: Cells<T>>(
 }
 
 /// Returns what [`look_up`] returns for `c`, which is at or above the fast limit and below the high
-/// start. Reads through the three stages of the index. Public for the crates that build on this
-/// one.
+/// start. Reads through the three stages of the index.
 #[inline(always)]
-pub(crate) fn look_up_small<T, C: Cells<T>>(
-    header: &CodePointTrieHeader,
-    cells: &mut C,
-    c: u32,
-) -> Option<T> {
+fn look_up_small<T, C: Cells<T>>(header: &CodePointTrieHeader, cells: &mut C, c: u32) -> Option<T> {
     let place = small_place_of(header.trie_type, cells, c)?;
     cells.data_cell(place)
 }
