@@ -542,13 +542,34 @@ static inline bool bks_is_high(const bks_trie *trie, uint32_t c) {
     return c >= trie->high_start && c <= 0x10FFFF && trie->fast_limit != 0;
 }
 
-/* [inline] bks_trie8_get: two reads below the fast limit, one from the high start on, and a call to
- * the library between them. Unspecified (but memory-safe) for a trie of another width. Code points
- * below the high start have a separate test, so that a compiler does not join three tests into a
- * slow one. ICU: ucptrie_get. */
+/* [inline] Returns the index of the value of c in the data, in cells, through the stages of the
+ * index. c has to be from the fast limit on and below the high start. Each read is tested: returns
+ * SIZE_MAX if the trie lacks a cell of the index, if the offset has 18 bits, and above 0x10FFFF. */
+static inline size_t bks_small_place(const bks_trie *trie, uint32_t c) {
+    size_t cells = trie->index_size / 2, low_cells = cells < 0x8000 ? cells : 0x8000;
+    size_t place = (c >> 14) + (trie->fast_limit == 0x1000 ? 64 : 1020);
+    uint16_t cell;
+    if (c > 0x10FFFF || place >= cells) return SIZE_MAX;
+    memcpy(&cell, trie->index + 2 * place, sizeof cell);
+    place = (size_t)cell + (c >> 9 & 31);
+    if (place >= cells) return SIZE_MAX;
+    memcpy(&cell, trie->index + 2 * place, sizeof cell);
+    place = (size_t)cell + (c >> 4 & 31);
+    if (place >= low_cells) return SIZE_MAX;
+    memcpy(&cell, trie->index + 2 * place, sizeof cell);
+    return (size_t)cell + (c & 15);
+}
+
+/* [inline] bks_trie8_get: two reads below the fast limit, four up to the high start, and then one.
+ * It calls the library where bks_small_place returns none. Unspecified (but memory-safe) for a trie
+ * of another width. Code points below the high start have a separate test, so that a compiler does
+ * not join three tests into a slow one. ICU: ucptrie_get. */
 static inline uint8_t bks_get8(const bks_trie *trie, uint32_t c) {
     if (c < trie->fast_limit) return trie->values[bks_fast_place(trie, c)];
-    if (c < trie->high_start) return bks_trie8_get(trie, c);
+    if (c < trie->high_start) {
+        size_t place = bks_small_place(trie, c);
+        return place < trie->values_size ? trie->values[place] : bks_trie8_get(trie, c);
+    }
     if (bks_is_high(trie, c)) return trie->values[trie->values_size - 2];
     return bks_trie8_get(trie, c);
 }
@@ -557,14 +578,18 @@ static inline uint8_t bks_get8(const bks_trie *trie, uint32_t c) {
  * inside the trie. ICU: ucptrie_get. */
 static inline uint16_t bks_get16(const bks_trie *trie, uint32_t c) {
     uint16_t value;
+    size_t place;
     if (trie->width != sizeof value) return bks_trie16_get(trie, c);
     if (c < trie->fast_limit) {
-        memcpy(&value, trie->values + sizeof value * bks_fast_place(trie, c), sizeof value);
-        return value;
+        place = bks_fast_place(trie, c);
+    } else if (c < trie->high_start) {
+        place = bks_small_place(trie, c);
+        if (place >= trie->values_size / sizeof value) return bks_trie16_get(trie, c);
+    } else {
+        if (!bks_is_high(trie, c)) return bks_trie16_get(trie, c);
+        place = trie->values_size / sizeof value - 2;
     }
-    if (c < trie->high_start) return bks_trie16_get(trie, c);
-    if (!bks_is_high(trie, c)) return bks_trie16_get(trie, c);
-    memcpy(&value, trie->values + trie->values_size - 2 * sizeof value, sizeof value);
+    memcpy(&value, trie->values + sizeof value * place, sizeof value);
     return value;
 }
 
@@ -572,14 +597,18 @@ static inline uint16_t bks_get16(const bks_trie *trie, uint32_t c) {
  * inside the trie. ICU: ucptrie_get. */
 static inline uint32_t bks_get32(const bks_trie *trie, uint32_t c) {
     uint32_t value;
+    size_t place;
     if (trie->width != sizeof value) return bks_trie32_get(trie, c);
     if (c < trie->fast_limit) {
-        memcpy(&value, trie->values + sizeof value * bks_fast_place(trie, c), sizeof value);
-        return value;
+        place = bks_fast_place(trie, c);
+    } else if (c < trie->high_start) {
+        place = bks_small_place(trie, c);
+        if (place >= trie->values_size / sizeof value) return bks_trie32_get(trie, c);
+    } else {
+        if (!bks_is_high(trie, c)) return bks_trie32_get(trie, c);
+        place = trie->values_size / sizeof value - 2;
     }
-    if (c < trie->high_start) return bks_trie32_get(trie, c);
-    if (!bks_is_high(trie, c)) return bks_trie32_get(trie, c);
-    memcpy(&value, trie->values + trie->values_size - 2 * sizeof value, sizeof value);
+    memcpy(&value, trie->values + sizeof value * place, sizeof value);
     return value;
 }
 
