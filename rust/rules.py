@@ -47,7 +47,6 @@ INSIDE = (
     " CodePointInversionList::from_valid_slice fast_place_of"
     " high_place_of look_up_whole NumberMap::set_range NumberMap::repeats NumberMap::copy_block"
     " NumberMap::get NumberMap::find_other CellStore::new CellStore::find CellStore::place build_index"
-    " copy_characters"
 ).split() + ["trait PartValues::ascii", "trait PartValues::near"]
 # Functions whose `requires` need not hold: an iterator without an end runs until an allocation
 # fails, and a closure that does not return does not return here either.
@@ -330,6 +329,20 @@ EDITS = {
             r"for (value, byte) in values[j..j + 8].iter_mut().zip(bytes) {\n\1*value = trie.ascii(byte & 0x7F);",
             1,
         ),
+        # rustc knows that no write changes the table, so it needs no loop that reads a copy of it.
+        (r"(?s) +if are_ascii\(rest\) \{\n.*?(?= +continue;)", "", 1),
+        (
+            r"(?s)(?:\x01\d+\x03\n)+#\[inline\(always\)\]\nfn are_ascii.*?"
+            r"(?=(?:\x01\d+\x03\n)+#\[inline\(always\)\]\npub\(crate\) fn put_eight)",
+            "",
+            1,
+        ),
+        (
+            r"(?s)(?:\x01\d+\x03\n)+#\[inline\(never\)\]\npub\(crate\) fn copy_ascii.*?"
+            r"(?=(?:\x01\d+\x03\n)+#\[inline\(always\)\]\nfn first_character)",
+            "",
+            1,
+        ),
         (
             r"(fn near\(&self, block: u32, place: u32\) -> T;\n)",
             r"\1\n    /// Returns the same value, or `None` if the block is not one of [`blocks`](Self::blocks).\n"
@@ -339,15 +352,9 @@ EDITS = {
             1,
         ),
         (
-            r"if block >= trie\.blocks\(\) \{\s*return None;\s*\}\s*Some\(trie\.near\((block, u32::from\(third\))\)\)",
+            r"if block >= trie\.blocks\(\) \{\s*return None;\s*\}\s*Some\(trie\.near\((block, third)\)\)",
             r"trie.near_below(\1)",
             1,
-        ),
-        # From one number the compiler knows that a value has room.
-        (
-            r"(\n +)(while rest\.len\(\) >= BYTES_AHEAD && )values\.len\(\) - j >= ROOM_AHEAD \{",
-            r"\1let limit = values.len().saturating_sub(ROOM_AHEAD - 1);\1\2j < limit {",
-            2,
         ),
     ],
     # A struct with a value of a type parameter is not copied from behind a reference in the source.
@@ -529,7 +536,7 @@ EDITS = {
         ),
     ],
     "icu_trie/lib": [(r"(?m)^(?=pub use icu_trie_core::\{)", "#[allow(unused_imports)] // Tests use them.\n", 1)],
-    "icu_trie_text/lib": [(r"(?m)^(?=(?:pub )?mod (?:copy_)?characters;)", "#[allow(dead_code)] // The C library uses it.\n", 2)],
+    "icu_trie_text/lib": [(r"(?m)^(?=(?:pub )?mod characters;)", "#[allow(dead_code)] // The C library uses it.\n", 1)],
     "icu_trie_binary/binary": [(r"\(\((high_start) \+ 0xfff\) / (0x1000)\)", r"\1.div_ceil(\2)", 1)],
     "icu_char16trie_builder/sorted": [(r"key: \*key,", "key,", 1)],
     "icu_trie_compaction/blocks": [(r"&(stored\[stored\.len\(\) - common\.\.\]) == &", r"\1 == ", 1)],

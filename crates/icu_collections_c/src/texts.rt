@@ -17,7 +17,6 @@ use crate::status::Refusal;
 use crate::tries::{Trie, header_of, value_of};
 use crate::well_formed::{count_of_characters, is_utf8};
 use icu_trie_core::header::CodePointTrieHeader;
-use icu_trie_text::copy_characters::copy_characters;
 use icu_trie_text::copy_parts::{Copied, PartValues, copy_parts};
 use icu_trie_text::first_utf16::first_code_point;
 use icu_zerovec::CODE_POINT_LIMIT;
@@ -174,7 +173,7 @@ fn text_values<'a, T: UnsignedValue>(trie: &Trie<'a>, none: T) -> TextValues<'a,
 
 /// Writes the values of the parts of a text to the start of a buffer, as many as fit. The value is
 /// `none` if the trie has no cell at all.
-#[inline(always)]
+#[inline(never)]
 fn copy_text<T: UnsignedValue>(trie: &Trie<'_>, text: &[u8], values: &mut [T], none: T) -> Copied
     ensures { IsCopiedText
         (λ c. unwrap_or (trie_value (parts_in T.unpack T.WIDTH trie.now) c) none)
@@ -182,19 +181,6 @@ fn copy_text<T: UnsignedValue>(trie: &Trie<'_>, text: &[u8], values: &mut [T], n
 {
     let parts = text_values(trie, none);
     copy_parts(&parts, text, values)
-}
-
-/// Writes the values of the characters of a text to the start of a buffer, as many as fit. The
-/// value is `none` if the trie has no cell at all.
-#[inline(always)]
-fn copy_utf8<T: UnsignedValue>(trie: &Trie<'_>, text: &[u8], values: &mut [T], none: T) -> Copied
-    requires { IsUtf8 text.now }
-    ensures { IsCopiedText
-        (λ c. unwrap_or (trie_value (parts_in T.unpack T.WIDTH trie.now) c) none)
-        text.now values.old values.new result.values result.bytes }
-{
-    let parts = text_values(trie, none);
-    copy_characters(&parts, text, values)
 }
 
 /// Writes the values of the parts of a text to the start of a buffer, as many as fit. Returns how
@@ -228,7 +214,7 @@ fn write_text<T: UnsignedValue>(trie: &Trie<'_>, text: &[u8], values: &mut [T], 
         (map (λ c. unwrap_or (trie_value (parts_in T.unpack T.WIDTH trie.now) c) none)
         (chars text.now)) values.old }
 {
-    let copied = copy_utf8(trie, text, values, none);
+    let copied = copy_text(trie, text, values, none);
     if copied.bytes < text.len() {
         return count_of_characters(text);
     }

@@ -19,7 +19,7 @@ pub struct Copied {
 
 /// The values of characters and of ill-formed parts, for [`copy_parts`].
 ///
-/// It is `Copy`, since [`copy_ascii`] reads a copy that no write to the buffer can change.
+/// It is `Copy`, so that a loop can read a copy that no write to the buffer can change.
 ///
 /// Public for the crates that build on this one.
 pub trait PartValues<T>: Copy {
@@ -140,7 +140,8 @@ pub(crate) fn copy_ascii<T: Copy, V: PartValues<T>>(
     requires ascii { V.end_of_ascii trie.now ≡ 0x80 }
     requires bytes { front.bytes ≤ length bytes.now }
     requires room { front.values ≤ length values.old }
-    ensures more { front.bytes ≤ result.bytes }
+    ensures more { front.values ≤ result.values }
+    ensures within { result.bytes ≤ length bytes.now }
     ensures copied { (old : _) → AreCopiedParts (V.gives trie.now) bytes.now old values.old
         front.bytes front.values
         → AreCopiedParts (V.gives trie.now) bytes.now old values.new result.bytes result.values }
@@ -205,10 +206,11 @@ fn first_value<T, V: PartValues<T>>(trie: &V, bytes: &[u8]) -> (T, usize)
 
 /// Returns the six bits of a trail byte. For any other byte it returns 64 or more.
 #[inline(always)]
-fn trail_of(byte: u8) -> u8
-    ensures { result < 64 → byte ≡ 0x80 + result }
+fn trail_of(byte: u8) -> u32
+    ensures bound { result < 0x100 }
+    ensures byte { result < 64 → byte ≡ 0x80 + result }
 {
-    byte.wrapping_sub(0x80)
+    u32::from(byte.wrapping_sub(0x80))
 }
 
 /// Returns the value of the two-byte character at the start of the bytes. `None` if there is none.
@@ -224,7 +226,7 @@ fn near_two<T, V: PartValues<T>>(trie: &V, bytes: &[u8]) -> Option<T>
     if second >= 0x40 {
         return None;
     }
-    Some(trie.near(u32::from(bytes[0] - 0xC0), u32::from(second)))
+    Some(trie.near(u32::from(bytes[0]) - 0xC0, second))
 }
 
 /// Returns the value of the three-byte character at the start of the bytes, in two reads.
@@ -241,7 +243,7 @@ fn near_three<T, V: PartValues<T>>(trie: &V, bytes: &[u8]) -> Option<T>
     if second | third >= 0x40 {
         return None;
     }
-    let block = u32::from(bytes[0] - 0xE0) * 64 + u32::from(second);
+    let block = (u32::from(bytes[0]) - 0xE0) * 64 + second;
     // Two comparisons for most characters. LLVM computes all three of `is_high_of_three`.
     if block < 0x360 {
         if block < 0x20 {
@@ -253,12 +255,11 @@ fn near_three<T, V: PartValues<T>>(trie: &V, bytes: &[u8]) -> Option<T>
     if block >= trie.blocks() {
         return None;
     }
-    Some(trie.near(block, u32::from(third)))
+    Some(trie.near(block, third))
 }
 
 /// Returns the value of the four-byte character at the start of the bytes. `None` if there is none.
-/// It is a call, so that the loop over characters of two and three bytes keeps its registers.
-#[inline(never)]
+#[inline(always)]
 fn near_four<T, V: PartValues<T>>(trie: &V, bytes: &[u8]) -> Option<T>
     requires bytes { 4 ≤ length bytes.now }
     requires from { 0xF0 ≤ slice_index bytes.now 0 }
@@ -270,15 +271,15 @@ fn near_four<T, V: PartValues<T>>(trie: &V, bytes: &[u8]) -> Option<T>
     if second | third | fourth >= 0x40 {
         return None;
     }
-    let high = u32::from(bytes[0] - 0xF0) * 64 + u32::from(second);
+    let high = (u32::from(bytes[0]) - 0xF0) * 64 + second;
     if !is_high_of_four(high) {
         return None;
     }
-    Some(trie.far(high * 4096 + u32::from(third) * 64 + u32::from(fourth)))
+    Some(trie.far(high * 4096 + third * 64 + fourth))
 }
 
 /// Returns the value of the first part of the bytes, and its size in bytes. There are at least four
-/// bytes. Each size of a character has its own look-up.
+/// bytes. Characters of two and three bytes have look-ups of their own.
 #[inline(always)]
 fn near_value<T, V: PartValues<T>>(trie: &V, bytes: &[u8]) -> (T, usize)
     requires bytes { 4 ≤ length bytes.now }
@@ -286,17 +287,15 @@ fn near_value<T, V: PartValues<T>>(trie: &V, bytes: &[u8]) -> (T, usize)
     ensures { HasFirstValue (V.gives trie.now) bytes.now result.0 result.1 }
 {
     let lead = bytes[0];
-    if lead >= 0xF0 {
-        if let Some(value) = near_four(trie, bytes) {
-            return (value, 4);
+    if lead < 0xE0 {
+        if lead >= 0xC2 {
+            if let Some(value) = near_two(trie, bytes) {
+                return (value, 2);
+            }
         }
-    } else if lead >= 0xE0 {
+    } else if lead < 0xF0 {
         if let Some(value) = near_three(trie, bytes) {
             return (value, 3);
-        }
-    } else if lead >= 0xC2 {
-        if let Some(value) = near_two(trie, bytes) {
-            return (value, 2);
         }
     }
     first_value(trie, bytes)
@@ -348,7 +347,8 @@ fn copy_wide<T: Copy, V: PartValues<T>>(
 {
     let mut rest = &bytes[front.bytes..];
     let mut j = front.values;
-    while rest.len() >= BYTES_AHEAD && values.len() - j >= ROOM_AHEAD {
+    let limit = values.len().saturating_sub(ROOM_AHEAD - 1);
+    while rest.len() >= BYTES_AHEAD && j < limit {
         let Some((value, size)) = wide_value(trie, rest) else {
             return Copied {
                 values: j,
@@ -386,13 +386,23 @@ fn copy_front<T: Copy, V: PartValues<T>>(trie: &V, bytes: &[u8], values: &mut [T
 {
     let mut rest = bytes;
     let mut j = 0;
-    while rest.len() >= BYTES_AHEAD && values.len() - j >= ROOM_AHEAD {
+    let limit = values.len().saturating_sub(ROOM_AHEAD - 1);
+    while rest.len() >= BYTES_AHEAD && j < limit {
         if rest[0] < 0x80 {
             let count = ascii_count(rest);
             if count == 8 {
                 put_eight(trie, rest, values, j);
                 rest = &rest[8..];
                 j += 8;
+                if are_ascii(rest) {
+                    let front = Copied {
+                        values: j,
+                        bytes: bytes.len() - rest.len(),
+                    };
+                    let ahead = copy_ascii(trie, bytes, values, front);
+                    rest = &bytes[ahead.bytes..];
+                    j = ahead.values;
+                }
                 continue;
             }
             put_eight(trie, rest, values, j);

@@ -15,14 +15,12 @@
 //! - `copy`: the values of bytes that may be ill-formed UTF-8, copied to a buffer
 //! - `copy_parts`: the loop of `copy`, over values from anywhere, for the crates that build on this
 //!   one; [`Copied`](copy_parts::Copied), what it returns
-//! - `copy_characters`: the same loop for bytes that are known to be UTF-8
 //! - `ascii`: tries whose data start with the values of ASCII
 #![tactic(auto)]
 
 mod ascii;
 pub mod characters;
 mod copy;
-pub mod copy_characters;
 pub mod copy_parts;
 mod find;
 mod first;

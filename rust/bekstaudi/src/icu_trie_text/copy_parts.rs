@@ -15,7 +15,7 @@ pub struct Copied {
 
 /// The values of characters and of ill-formed parts, for [`copy_parts`].
 ///
-/// It is `Copy`, since [`copy_ascii`] reads a copy that no write to the buffer can change.
+/// It is `Copy`, so that a loop can read a copy that no write to the buffer can change.
 ///
 /// Public for the crates that build on this one.
 pub trait PartValues<T>: Copy {
@@ -76,14 +76,6 @@ pub(crate) fn ascii_count(bytes: &[u8]) -> usize {
     high.trailing_zeros() as usize / 8
 }
 
-/// Returns true if the first sixteen bytes are ASCII.
-#[inline(always)]
-fn are_ascii(bytes: &[u8]) -> bool {
-    let first = word_of(bytes) & HIGH_BITS;
-    let second = word_of(&bytes[8..]) & HIGH_BITS;
-    first | second == 0
-}
-
 /// Writes eight values from index `j` on: those of the first eight bytes that are ASCII.
 #[inline(always)]
 pub(crate) fn put_eight<T: Copy, V: PartValues<T>>(
@@ -94,37 +86,6 @@ pub(crate) fn put_eight<T: Copy, V: PartValues<T>>(
 ) {
     for (value, byte) in values[j..j + 8].iter_mut().zip(bytes) {
         *value = trie.ascii(byte & 0x7F);
-    }
-}
-
-/// Writes more values, as long as sixteen bytes at a time are ASCII and much of the buffer is left.
-/// It is a call, so that it keeps its registers.
-#[inline(never)]
-pub(crate) fn copy_ascii<T: Copy, V: PartValues<T>>(
-    trie: &V,
-    bytes: &[u8],
-    values: &mut [T],
-    front: Copied,
-) -> Copied {
-    // LLVM reads the addresses in a copy once: no write to the buffer can change it.
-    let table = *trie;
-    let mut i = front.bytes;
-    let mut j = front.values;
-    while bytes.len() - i >= BYTES_AHEAD + 8 && values.len() - j >= ROOM_AHEAD + 8 {
-        if !are_ascii(&bytes[i..]) {
-            return Copied {
-                values: j,
-                bytes: i,
-            };
-        }
-        put_eight(&table, &bytes[i..], values, j);
-        put_eight(&table, &bytes[i + 8..], values, j + 8);
-        i += 16;
-        j += 16;
-    }
-    Copied {
-        values: j,
-        bytes: i,
     }
 }
 
@@ -159,8 +120,8 @@ fn first_value<T, V: PartValues<T>>(trie: &V, bytes: &[u8]) -> (T, usize) {
 
 /// Returns the six bits of a trail byte. For any other byte it returns 64 or more.
 #[inline(always)]
-fn trail_of(byte: u8) -> u8 {
-    byte.wrapping_sub(0x80)
+fn trail_of(byte: u8) -> u32 {
+    u32::from(byte.wrapping_sub(0x80))
 }
 
 /// Returns the value of the two-byte character at the start of the bytes. `None` if there is none.
@@ -170,7 +131,7 @@ fn near_two<T, V: PartValues<T>>(trie: &V, bytes: &[u8]) -> Option<T> {
     if second >= 0x40 {
         return None;
     }
-    Some(trie.near(u32::from(bytes[0] - 0xC0), u32::from(second)))
+    Some(trie.near(u32::from(bytes[0]) - 0xC0, second))
 }
 
 /// Returns the value of the three-byte character at the start of the bytes, in two reads.
@@ -182,7 +143,7 @@ fn near_three<T, V: PartValues<T>>(trie: &V, bytes: &[u8]) -> Option<T> {
     if second | third >= 0x40 {
         return None;
     }
-    let block = u32::from(bytes[0] - 0xE0) * 64 + u32::from(second);
+    let block = (u32::from(bytes[0]) - 0xE0) * 64 + second;
     // Two comparisons for most characters. LLVM computes all three of `is_high_of_three`.
     if block < 0x360 {
         if block < 0x20 {
@@ -191,12 +152,11 @@ fn near_three<T, V: PartValues<T>>(trie: &V, bytes: &[u8]) -> Option<T> {
     } else if block < 0x380 {
         return None;
     }
-    trie.near_below(block, u32::from(third))
+    trie.near_below(block, third)
 }
 
 /// Returns the value of the four-byte character at the start of the bytes. `None` if there is none.
-/// It is a call, so that the loop over characters of two and three bytes keeps its registers.
-#[inline(never)]
+#[inline(always)]
 fn near_four<T, V: PartValues<T>>(trie: &V, bytes: &[u8]) -> Option<T> {
     let second = trail_of(bytes[1]);
     let third = trail_of(bytes[2]);
@@ -204,29 +164,27 @@ fn near_four<T, V: PartValues<T>>(trie: &V, bytes: &[u8]) -> Option<T> {
     if second | third | fourth >= 0x40 {
         return None;
     }
-    let high = u32::from(bytes[0] - 0xF0) * 64 + u32::from(second);
+    let high = (u32::from(bytes[0]) - 0xF0) * 64 + second;
     if !is_high_of_four(high) {
         return None;
     }
-    Some(trie.far(high * 4096 + u32::from(third) * 64 + u32::from(fourth)))
+    Some(trie.far(high * 4096 + third * 64 + fourth))
 }
 
 /// Returns the value of the first part of the bytes, and its size in bytes. There are at least four
-/// bytes. Each size of a character has its own look-up.
+/// bytes. Characters of two and three bytes have look-ups of their own.
 #[inline(always)]
 fn near_value<T, V: PartValues<T>>(trie: &V, bytes: &[u8]) -> (T, usize) {
     let lead = bytes[0];
-    if lead >= 0xF0 {
-        if let Some(value) = near_four(trie, bytes) {
-            return (value, 4);
+    if lead < 0xE0 {
+        if lead >= 0xC2 {
+            if let Some(value) = near_two(trie, bytes) {
+                return (value, 2);
+            }
         }
-    } else if lead >= 0xE0 {
+    } else if lead < 0xF0 {
         if let Some(value) = near_three(trie, bytes) {
             return (value, 3);
-        }
-    } else if lead >= 0xC2 {
-        if let Some(value) = near_two(trie, bytes) {
-            return (value, 2);
         }
     }
     first_value(trie, bytes)

@@ -6,7 +6,7 @@ abbrev pub invariant-loop-i : goal.invariant-loop-i
 invariant-loop-i g l = record {
   inside : l.i ≤ length l.bytes;
   room : l.j ≤ length l.values;
-  more : l.fn.front.bytes ≤ l.i;
+  more : l.fn.front.values ≤ l.j;
   copied : (old : _)
       → AreCopiedParts (g.V.PartValues.gives l.trie) l.bytes old l.initial.values l.fn.front.bytes l.fn.front.values
       → AreCopiedParts (g.V.PartValues.gives l.trie) l.bytes old l.values l.i l.j;

@@ -1,4 +1,4 @@
-use Rattle.std.proofs.Common.{◌-◌, ◌≤◌, length}
+use Rattle.std.proofs.Common.{◌≡◌, ◌-◌, ◌≤◌, length}
 use Rattle.icu_trie_text.specs.CopiedParts.{AreCopiedParts}
 use Rattle.icu_trie_text.proofs.CopiedLemmas.{AreCopiedUpTo}
 use Rattle.icu_trie_text.proofs.copy_parts.copy_wide.Given as goal
@@ -6,6 +6,7 @@ use Rattle.icu_trie_text.proofs.copy_parts.copy_wide.Given as goal
 abbrev pub invariant-loop-rest : goal.invariant-loop-rest
 invariant-loop-rest g l = record {
   inside : length l.rest ≤ length l.bytes;
+  size : length l.values ≡ length l.initial.values;
   room : l.j ≤ length l.values;
   more : l.fn.front.values ≤ l.j;
   copied : (old : _)

@@ -1,4 +1,4 @@
-use Rattle.std.proofs.Common.{◌≡◌, ℕ, ◌+◌, ◌*◌, ◌<◌, get_or, bit_or, Some, arith}
+use Rattle.std.proofs.Common.{◌≡◌, ℕ, ◌+◌, ◌-◌, ◌*◌, ◌<◌, get_or, bit_or, Some, arith}
 use Rattle.std.proofs.lemmas.Nat.{le_or_l, le_or_r}
 use Rattle.icu_trie_text.specs.Inside.Trails.{IsTrail}
 use Rattle.icu_trie_text.proofs.Utf8Parts.{four_found}
@@ -6,10 +6,7 @@ use Rattle.icu_trie_text.proofs.copy_parts.near_four.Goals as goal
 
 pub returns : goal.returns
 returns g c =
-    let a : ℕ = c.from.result in
-    let b : ℕ = c.from-2.result in
-    let d : ℕ = c.from-3.result in
-    let f : ℕ = c.from-4.result in
+    let a : ℕ = c.from.result - 240 in
     let bytes = c.args.bytes.now in
     let s : ℕ = c.trail_of-second.result in
     let t : ℕ = c.trail_of-third.result in
@@ -19,20 +16,20 @@ returns g c =
     let small_too : t < 64 = omega (arith, le_or_r s t, both, c.if-second-third-ge64.false) in
     let small_last : u < 64 = omega (arith, le_or_r (bit_or s t) u, c.if-second-third-ge64.false) in
     let lead : get_or bytes 0 0 ≡ 240 + a = omega (arith, c.from.ensures, c.requires.from) in
-    let second : IsTrail bytes 1 b = record {
+    let second : IsTrail bytes 1 s = record {
       there = omega arith;
-      byte = omega (arith, c.from-2.ensures, c.trail_of-second.ensures small);
-      six = omega (arith, c.from-2.ensures, small);
+      byte = omega (arith, c.trail_of-second.ensures.byte small);
+      six = small;
     } in
-    let third : IsTrail bytes 2 d = record {
+    let third : IsTrail bytes 2 t = record {
       there = omega arith;
-      byte = omega (arith, c.from-3.ensures, c.trail_of-third.ensures small_too);
-      six = omega (arith, c.from-3.ensures, small_too);
+      byte = omega (arith, c.trail_of-third.ensures.byte small_too);
+      six = small_too;
     } in
-    let fourth : IsTrail bytes 3 f = record {
+    let fourth : IsTrail bytes 3 u = record {
       there = omega arith;
-      byte = omega (arith, c.from-4.ensures, c.trail_of-fourth.ensures small_last);
-      six = omega (arith, c.from-4.ensures, small_last);
+      byte = omega (arith, c.trail_of-fourth.ensures.byte small_last);
+      six = small_last;
     } in
     let high = c.is_high_of_four.ensures.0 c.if-not-is_high_of_four.false in
-    (Some ((a * 64 + b) * 4096 + d * 64 + f), four_found bytes a b d f lead second high third fourth, c.far.ensures)
+    (Some ((a * 64 + s) * 4096 + t * 64 + u), four_found bytes a s t u lead second high third fourth, c.far.ensures)

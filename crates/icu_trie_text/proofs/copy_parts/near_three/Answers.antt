@@ -1,4 +1,4 @@
-use Rattle.std.proofs.Common.{◌≡◌, ℕ, ◌+◌, ◌*◌, ◌<◌, get_or, Some, arith, inl, inr}
+use Rattle.std.proofs.Common.{◌≡◌, ℕ, ◌+◌, ◌-◌, ◌*◌, ◌<◌, get_or, Some, arith, inl, inr}
 use Rattle.std.proofs.lemmas.Nat.{le_or_l, le_or_r}
 use Rattle.icu_trie_text.specs.Inside.Trails.{IsHighOfThree, IsTrail}
 use Rattle.icu_trie_text.proofs.Utf8Parts.{three_found}
@@ -7,34 +7,32 @@ use Rattle.icu_trie_text.proofs.copy_parts.near_three.Goals.{then-block-lt864+el
 
 pub near-requires-clause-place : goal.near-requires-clause-place
 near-requires-clause-place g c =
-    omega (arith, c.from-3.ensures, le_or_r c.trail_of-second.result c.trail_of-third.result, c.if-second-third-ge64.false)
+    omega (arith, le_or_r c.trail_of-second.result c.trail_of-third.result, c.if-second-third-ge64.false)
 
 pub returns : goal.returns
 returns g c =
-    let a : ℕ = c.from.result in
-    let b : ℕ = c.from-2.result in
-    let d : ℕ = c.from-3.result in
+    let a : ℕ = c.from.result - 224 in
     let bytes = c.args.bytes.now in
     let s : ℕ = c.trail_of-second.result in
     let t : ℕ = c.trail_of-third.result in
     let small : s < 64 = omega (arith, le_or_l s t, c.if-second-third-ge64.false) in
     let small_too : t < 64 = omega (arith, le_or_r s t, c.if-second-third-ge64.false) in
     let lead : get_or bytes 0 0 ≡ 224 + a = omega (arith, c.from.ensures, c.requires.from) in
-    let second : IsTrail bytes 1 b = record {
+    let second : IsTrail bytes 1 s = record {
       there = omega arith;
-      byte = omega (arith, c.from-2.ensures, c.trail_of-second.ensures small);
-      six = omega (arith, c.from-2.ensures, small);
+      byte = omega (arith, c.trail_of-second.ensures.byte small);
+      six = small;
     } in
-    let third : IsTrail bytes 2 d = record {
+    let third : IsTrail bytes 2 t = record {
       there = omega arith;
-      byte = omega (arith, c.from-3.ensures, c.trail_of-third.ensures small_too);
-      six = omega (arith, c.from-3.ensures, small_too);
+      byte = omega (arith, c.trail_of-third.ensures.byte small_too);
+      six = small_too;
     } in
-    let high : IsHighOfThree (a * 64 + b) = elim c.if-block-lt864.branch [
+    let high : IsHighOfThree (a * 64 + s) = elim c.if-block-lt864.branch [
       | then-block-lt864+else-block-lt32 w ↦ (omega (arith, w.if-block-lt32.false), inl (omega (arith, w.if-block-lt864.true)))
       | else-block-lt864+else-block-lt896 w ↦ (omega (arith, w.if-block-lt864.false), inr (omega (arith, w.if-block-lt896.false)))
     ] in (
-      Some ((a * 64 + b) * 64 + d),
-      three_found bytes a b d lead (omega (arith, lead, c.requires.to)) second high third,
+      Some ((a * 64 + s) * 64 + t),
+      three_found bytes a s t lead (omega (arith, lead, c.requires.to)) second high third,
       c.near.ensures,
     )
