@@ -439,13 +439,20 @@ EDITS = {
             3,
         ),
         (r"(?m)^    (?=ends: ZeroVec<'data|size: u32,)", "    pub(crate) ", 2),
+        # The sizes of the ranges before one are added four boundaries at a time.
+        (
+            r"(?s)let mut before = 0;\n +let mut i = 0;\n +while i \+ 1 < place \{.*?\n        \}\n        Some\(before \+ \(c - self\.end_at\(i\)\) as usize\)",
+            "let start = place - 1;\n        let before = sum_of_sizes(&self.ends.as_bytes()[..3 * start]);\n"
+            "        Some(before + (c - self.end_at(start)) as usize)",
+            1,
+        ),
         # All boundaries by rust/support/boundaries.
         (
             r"(?s)let packed = self\.ends\.as_slice\(\);\n +let count = packed\.len\(\);\n.*?Ok\(\(\)\)",
             "Ok(unpack(&self.ends.as_bytes()[3 * from..], ends)?)",
             1,
         ),
-        (r"(?m)^(?=use icu_zerovec::ule)", "use crate::support::boundaries::unpack;\n", 1),
+        (r"(?m)^(?=use icu_zerovec::ule)", "use crate::support::boundaries::{sum_of_sizes, unpack};\n", 1),
     ],
     # A constant cannot read a value of any type, so the error value is not stored beside the data.
     "icu_trie/cptrie": [

@@ -25,6 +25,24 @@ fn four_of(cells: &[[u8; 3]; 4]) -> [u32; 4] {
     ]
 }
 
+/// Returns the sum of the sizes of the ranges between these boundaries.
+#[inline(always)]
+pub(crate) fn sum_of_sizes(bytes: &[u8]) -> usize {
+    if bytes.is_empty() {
+        return 0;
+    }
+    let (fours, last) = bytes.as_chunks::<3>().0.as_chunks::<4>();
+    let mut sum = 0;
+    for four in fours {
+        let [a, b, c, d] = four_of(four);
+        sum += (b - a) as usize + (d - c) as usize;
+    }
+    if let [[a, b, c], [d, e, f]] = last {
+        sum += (u32::from_le_bytes([*d, *e, *f, 0]) - u32::from_le_bytes([*a, *b, *c, 0])) as usize;
+    }
+    sum
+}
+
 /// Returns the word that starts at index `at`, of the first `starts` indices. It takes one test: each
 /// of these indices has three more bytes after it.
 #[inline(always)]

@@ -12,7 +12,7 @@ use crate::icu_invlist::codepointinvlist::iter::{
 use crate::icu_invlist::codepointinvlist::sizes::{size_of, valid_size};
 use crate::icu_invlist::codepointinvlist::utils::{RangeOf, is_valid_slice};
 use crate::icu_zerovec::{CODE_POINT_LIMIT, MemoryError, PotentialCodePoint, ZeroSlice, ZeroVec};
-use crate::support::boundaries::unpack;
+use crate::support::boundaries::{sum_of_sizes, unpack};
 use core::ops::RangeInclusive;
 use packing::{cut_to_points, pack, unpacked};
 
@@ -280,13 +280,9 @@ impl<'data> CodePointInversionList<'data> {
         if place.is_multiple_of(2) {
             return None;
         }
-        let mut before = 0;
-        let mut i = 0;
-        while i + 1 < place {
-            before += (self.end_at(i + 1) - self.end_at(i)) as usize;
-            i += 2;
-        }
-        Some(before + (c - self.end_at(i)) as usize)
+        let start = place - 1;
+        let before = sum_of_sizes(&self.ends.as_bytes()[..3 * start]);
+        Some(before + (c - self.end_at(start)) as usize)
     }
 
     /// Returns the number of code points in the set, including surrogates. The number is stored, so
