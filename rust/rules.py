@@ -228,8 +228,8 @@ EDITS = {
     ],
     # All boundaries are packed by rust/support/boundaries.
     "icu_invlist/codepointinvlist/cpinvlist/packing": [
+        (r"(?s)(?:\x01\d+\x03\n)+pub\(super\) fn with_ends\(.*?(?=(?:\x01\d+\x03\n)+pub\(super\) fn pack\()", "", 1),
         (r"(?s)(?:\x01\d+\x03\n)+#\[inline\(always\)\]\npub\(super\) fn word_of.*?\n\}\n\n", "", 1),
-        (r"(?s)(?:\x01\d+\x03\n)+#\[inline\(always\)\]\nfn write\(.*?(?=(?:\x01\d+\x03\n)+pub\(super\) fn pack\()", "", 1),
         (r"(?s)let size = ends\.len\(\) \* 3;.*?Ok\(bytes\)", "Ok(packed(ends)?)", 1),
         (r"(?=use icu_zerovec)", "use crate::support::boundaries::packed;\n", 1),
     ],
@@ -448,11 +448,13 @@ EDITS = {
         ),
         # All boundaries by rust/support/boundaries.
         (
-            r"(?s)let packed = self\.ends\.as_slice\(\);\n +let count = packed\.len\(\);\n.*?Ok\(\(\)\)",
+            r"(?s)let packed = self\.ends\.as_slice\(\);\n +ends\.\w+\(packed.*?Ok\(\(\)\)",
             "Ok(unpack(&self.ends.as_bytes()[3 * from..], ends)?)",
             1,
         ),
         (r"(?m)^(?=use icu_zerovec::ule)", "use crate::support::boundaries::{sum_of_sizes, unpack};\n", 1),
+        (r", with_ends\b", "", 1),
+        (r"(?m)^use (?:std|core)::mem;\n", "", 1),
     ],
     # A constant cannot read a value of any type, so the error value is not stored beside the data.
     "icu_trie/cptrie": [

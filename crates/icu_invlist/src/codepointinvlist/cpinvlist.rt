@@ -21,9 +21,10 @@ use crate::codepointinvlist::sizes::{size_of, valid_size};
 use crate::codepointinvlist::utils::{RangeOf, is_valid_slice};
 use icu_zerovec::ule::AsULE;
 use icu_zerovec::{CODE_POINT_LIMIT, MemoryError, PotentialCodePoint, ZeroSlice, ZeroVec};
-use packing::{cut_to_points, pack, unpacked};
+use packing::{cut_to_points, pack, unpacked, with_ends};
 use std::alloc::Global;
 use std::marker::Model;
+use std::mem;
 use std::ops::RangeInclusive;
 
 /// An immutable set of code points, which may include surrogates. It borrows or owns the list of
@@ -251,11 +252,9 @@ impl<'data> CodePointInversionList<'data> {
         ensures err { OnErr result (ends.new.items ≡ ends.old.items) }
     {
         let packed = self.ends.as_slice();
-        let count = packed.len();
-        ends.reserve(count - from)?;
-        for i in from..count {
-            ends.push_reserved(u32::from(packed.at(i)));
-        }
+        ends.reserve(packed.len() - from)?;
+        let taken = mem::try_take(ends)?;
+        *ends = with_ends(taken, packed, from);
         Ok(())
     }
 

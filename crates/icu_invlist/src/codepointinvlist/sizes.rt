@@ -37,10 +37,8 @@ pub(crate) fn size_of(ends: &[u32]) -> u32
     ensures { result ≡ members_below ends.now code_point_limit }
 {
     let mut size = 0;
-    let mut i = 0;
-    while i + 1 < ends.len() {
-        size += ends[i + 1] - ends[i];
-        i += 2;
+    for i in 0..ends.len() / 2 {
+        size += ends[2 * i + 1] - ends[2 * i];
     }
     size
 }

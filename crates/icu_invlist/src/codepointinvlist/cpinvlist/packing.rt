@@ -1,11 +1,13 @@
 //! Packing and unpacking of boundaries.
-ghost use Rattle.std.specs.Prelude.{◌≡◌, ◌+◌, ◌*◌, ◌/◌, ◌^◌, ◌<◌, ◌≤◌, ◌++◌, length, take, map, min, IfOk};
+ghost use Rattle.std.specs.Prelude.{◌≡◌, ◌+◌, ◌-◌, ◌*◌, ◌/◌, ◌^◌, ◌<◌, ◌≤◌, ◌++◌, length, take, drop, map, min, vec_len, IfOk};
 ghost use Rattle.std.specs.List.{flat_map};
+ghost use Rattle.std.specs.Vec.{vec_capacity};
 ghost use Rattle.icu_zerovec.specs.Cells.{cell};
 ghost use Rattle.icu_zerovec.specs.PackedBytes.{low_bytes, number_of};
+ghost use Rattle.icu_zerovec.specs.Slice.{slice_values};
 ghost use Rattle.icu_invlist.specs.InversionList.{IsValid};
 
-use icu_zerovec::{MemoryError, PotentialCodePoint, ZeroVec};
+use icu_zerovec::{MemoryError, PotentialCodePoint, ZeroSlice, ZeroVec};
 use std::alloc::Global;
 
 /// Copies packed boundaries into a vector.
@@ -20,6 +22,25 @@ pub(super) fn unpacked(
         points.push(end)?;
     }
     Ok(points)
+}
+
+/// Returns `ends` with the boundaries of `packed` from index `from` on appended. There is room for
+/// them.
+///
+/// The vector is passed by value, so the loop keeps its fields in registers.
+pub(super) fn with_ends(
+    mut ends: Vec<u32>,
+    packed: ZeroSlice<'_, PotentialCodePoint>,
+    from: usize,
+) -> Vec<u32>
+    requires from { from ≤ length (slice_values packed) }
+    requires room { vec_len ends + (length (slice_values packed) - from) ≤ vec_capacity ends }
+    ensures { result.items ≡ ends.items ++ drop from (slice_values packed.entry) }
+{
+    for i in from..packed.len() {
+        ends.push_reserved(u32::from(packed.at(i)));
+    }
+    ends
 }
 
 /// Writes the bytes to `out` from index `at` on.

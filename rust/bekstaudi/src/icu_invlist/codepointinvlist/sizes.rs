@@ -28,10 +28,8 @@ pub(crate) fn valid_size(ends: &ZeroVec<'_, PotentialCodePoint>) -> Option<u32> 
 #[inline]
 pub(crate) fn size_of(ends: &[u32]) -> u32 {
     let mut size = 0;
-    let mut i = 0;
-    while i + 1 < ends.len() {
-        size += ends[i + 1] - ends[i];
-        i += 2;
+    for i in 0..ends.len() / 2 {
+        size += ends[2 * i + 1] - ends[2 * i];
     }
     size
 }

@@ -1,4 +1,4 @@
-use Rattle.std.proofs.Common.{◌≡◌, ◌∙◌, ◌+◌, suc, [], arith, sym, drop}
+use Rattle.std.proofs.Common.{◌≡◌, ◌∙◌, ℕ, ◌+◌, ◌*◌, suc, [], ap, arith, sym, drop}
 use Rattle.std.proofs.lemmas.List.{drop_all}
 use Rattle.icu_zerovec.specs.CodePoints.{code_point_limit}
 use Rattle.icu_invlist.proofs.MemberLemmas.{total, total-more, total-le, size-valid}
@@ -7,13 +7,22 @@ use Rattle.icu_invlist.proofs.codepointinvlist.sizes.size_of.Goals as goal
 
 pub overflow_add-size-in-loop-i : goal.overflow_add-size-in-loop-i
 overflow_add-size-in-loop-i c =
-    let t = total-more c.args.ends.now c.loop-i.i c.loop-i.invariant.even (omega (arith, c.loop-i-test.true)) in
+    let t = total-more c.args.ends.now (2 * c.loop-i.i) (omega arith) (omega (arith, c.loop-i-test.true)) in
     let b = total-le 0 (suc code_point_limit) c.args.ends.now (omega arith) (run_from_valid _ c.requires) in
     omega (arith, c.loop-i.invariant.so_far)
 
+pub loop-i-preserved : goal.loop-i-preserved
+loop-i-preserved c =
+    let xs = c.args.ends.now in
+    let i : ℕ = 2 * c.loop-i.i in
+    let t = total-more xs i (omega arith) (omega (arith, c.loop-i-test.true)) in
+    let n : 2 * (c.loop-i.i + 1) ≡ i + 2 = omega arith in
+    let k = ap (λ (n : ℕ). total (drop n xs)) n in
+    record { so_far = omega (arith, c.loop-i.invariant.so_far, t, k) }
+
 pub returns : goal.returns
 returns c =
-    let e : drop c.loop-i.i c.args.ends.now ≡ [] =
-    drop_all c.loop-i.i c.args.ends.now (omega (arith, c.loop-i-test.false, c.requires.even, c.loop-i.invariant.even)) in
+    let e : drop (2 * c.loop-i.i) c.args.ends.now ≡ [] =
+    drop_all (2 * c.loop-i.i) c.args.ends.now (omega (arith, c.loop-i-test.false, c.requires.even)) in
     let s : c.loop-i.size + total [] ≡ total c.args.ends.now = rw e at c.loop-i.invariant.so_far in
     (let z : c.loop-i.size ≡ total c.args.ends.now = omega arith in z) ∙ sym (size-valid c.args.ends.now c.requires)
