@@ -6,7 +6,7 @@ ghost use Rattle.std.specs.Str.{StartsWithNoChar};
 ghost use Rattle.icu_trie_text.specs.CopiedParts.{AreCopiedParts, HasCopiedParts, HasFirstValue};
 ghost use Rattle.icu_trie_text.specs.Utf8.{IsFirstPart};
 
-use crate::first_utf8::{ill_formed_size, is_high_of_four, of_four, of_three, of_two};
+use crate::first_utf8::{ill_formed_size, is_high_of_four, of_four, of_three, of_two, trail_of};
 
 /// How many values a function copied to a buffer, and how many bytes of the text they stand for.
 #[derive(Clone, Copy, Debug)]
@@ -202,15 +202,6 @@ fn first_value<T, V: PartValues<T>>(trie: &V, bytes: &[u8]) -> (T, usize)
         Some((c, size)) => (trie.far(c), size),
         None => (trie.error(), ill_formed_size(bytes)),
     }
-}
-
-/// Returns the six bits of a trail byte. For any other byte it returns 64 or more.
-#[inline(always)]
-fn trail_of(byte: u8) -> u32
-    ensures bound { result < 0x100 }
-    ensures byte { result < 64 → byte ≡ 0x80 + result }
-{
-    u32::from(byte.wrapping_sub(0x80))
 }
 
 /// Returns the value of the two-byte character at the start of the bytes. `None` if there is none.

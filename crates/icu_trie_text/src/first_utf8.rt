@@ -1,23 +1,30 @@
 //! The first part of bytes that may be ill-formed UTF-8.
-ghost use Rattle.std.specs.Prelude.{◌≡◌, ◌+◌, ◌*◌, ◌^◌, ◌<◌, ◌≤◌, ◌↔◌, Some, IsTrue, length, slice_index};
+ghost use Rattle.std.specs.Prelude.{◌≡◌, ◌+◌, ◌*◌, ◌/◌, ◌^◌, ◌<◌, ◌≤◌, ◌↔◌, ◌⊎◌, Some, IsTrue, length, slice_index};
 ghost use Rattle.std.specs.Option.{MatchOption};
 ghost use Rattle.std.specs.Str.{StartsWithNoChar};
-ghost use Rattle.icu_trie_text.specs.Inside.Trails.{IsHighOfFour, IsHighOfThree, IsNoTrail, IsTrail};
+ghost use Rattle.icu_trie_text.specs.Inside.Trails.{IsHighOfFour, IsHighOfThree, IsNoTrail, IsTrail, LacksTrail};
 ghost use Rattle.icu_trie_text.specs.Utf8.{IsFirstPart, IsIllFormedPart};
+
+/// Returns the six bits of a trail byte. For any other byte it returns 64 or more.
+#[inline(always)]
+pub(crate) fn trail_of(byte: u8) -> u32
+    ensures bound { result < 0x100 }
+    ensures byte { result < 64 → byte ≡ 0x80 + result }
+    ensures other { 64 ≤ result → (byte < 0x80) ⊎ (0xC0 ≤ byte) }
+{
+    u32::from(byte.wrapping_sub(0x80))
+}
 
 /// Returns the six bits of the trail byte at `place`, or `None` if there is no trail byte.
 #[inline(always)]
 fn trail_bits(bytes: &[u8], place: usize) -> Option<u32>
     ensures { MatchOption result (IsNoTrail bytes.now place) (IsTrail bytes.now place) }
 {
-    let byte = u32::from(*bytes.get(place)?);
-    if byte < 0x80 {
+    let bits = trail_of(*bytes.get(place)?);
+    if bits >= 0x40 {
         return None;
     }
-    if byte >= 0xC0 {
-        return None;
-    }
-    Some(byte - 0x80)
+    Some(bits)
 }
 
 /// Returns the block of 64 code points and the index in it of the character at the start of the
@@ -49,6 +56,22 @@ pub(crate) fn of_two(bytes: &[u8]) -> Option<char>
     char::from_u32(block * 64 + place)
 }
 
+/// Returns the six bits of each of the two bytes after the first, or `None` if one of them is no
+/// trail byte. It takes one test.
+#[inline(always)]
+fn two_trails(bytes: &[u8]) -> Option<(u32, u32)>
+    requires { 3 ≤ length bytes.now }
+    ensures { MatchOption result (LacksTrail bytes.now)
+        (λ found. IsTrail bytes.now 1 found.0 × IsTrail bytes.now 2 found.1) }
+{
+    let second = trail_of(bytes[1]);
+    let third = trail_of(bytes[2]);
+    if second | third >= 0x40 {
+        return None;
+    }
+    Some((second, third))
+}
+
 /// Returns the block of 64 code points and the index in it of the character at the start of the
 /// bytes, or `None` if there is none. The first byte is the lead byte of three. Overlong sequences
 /// and surrogates are not characters. The length is checked once, for all reads.
@@ -63,11 +86,10 @@ pub(crate) fn place_of_three(bytes: &[u8]) -> Option<(u32, u32)>
     if bytes.len() < 3 {
         return None;
     }
+    let (second, third) = two_trails(bytes)?;
     let first = u32::from(bytes[0]) - 0xE0;
-    let second = trail_bits(bytes, 1)?;
-    let third = trail_bits(bytes, 2)?;
     let block = first * 64 + second;
-    if !is_high_of_three(block) {
+    if !is_high_after(first, block) {
         return None;
     }
     Some((block, third))
@@ -118,6 +140,24 @@ pub(crate) fn is_high_of_three(high: u32) -> bool
     ensures { IsTrue result ↔ IsHighOfThree high }
 {
     0x20 <= high && (high < 0x360 || 0x380 <= high)
+}
+
+/// The lead bytes of three after which not every trail byte can follow, 0xE0 and 0xED: bit `n` is
+/// that of `0xE0 + n`.
+const PARTIAL_LEADS: u32 = 0x2001;
+
+/// Returns the same as `is_high_of_three` of ten bits whose upper four are `first`. For most lead
+/// bytes it takes one test.
+#[inline(always)]
+fn is_high_after(first: u32, high: u32) -> bool
+    requires lead { first < 16 }
+    requires high { high / 64 ≡ first }
+    ensures { IsTrue result ↔ IsHighOfThree high }
+{
+    if (PARTIAL_LEADS >> first) & 1 == 0 {
+        return true;
+    }
+    is_high_of_three(high)
 }
 
 /// Returns true if these can be the upper nine bits of a four-byte character, which its first two

@@ -12,6 +12,11 @@ abbrev pub IsNoTrail : List ℕ → ℕ → Type 0
 IsNoTrail bytes place =
     place < length bytes → (slice_index bytes place < 0x80) ⊎ (0xC0 ≤ slice_index bytes place)
 
+-- The second or the third byte is not a trail byte, and the third is asked about only if the second
+-- is one.
+abbrev pub LacksTrail : List ℕ → Type 0
+LacksTrail bytes = IsNoTrail bytes 1 ⊎ ((bits : ℕ) × IsTrail bytes 1 bits × IsNoTrail bytes 2)
+
 -- These can be the upper ten bits of a three-byte character, which its first two bytes contain:
 -- they are not those of an overlong sequence or a surrogate.
 abbrev pub IsHighOfThree : ℕ → Type 0

@@ -1,7 +1,7 @@
 //! The values of the parts of bytes that may be ill-formed UTF-8, written to a buffer.
 
 use crate::icu_trie_text::first_utf8::{
-    ill_formed_size, is_high_of_four, of_four, of_three, of_two,
+    ill_formed_size, is_high_of_four, of_four, of_three, of_two, trail_of,
 };
 
 /// How many values a function copied to a buffer, and how many bytes of the text they stand for.
@@ -116,12 +116,6 @@ fn first_value<T, V: PartValues<T>>(trie: &V, bytes: &[u8]) -> (T, usize) {
         Some((c, size)) => (trie.far(c), size),
         None => (trie.error(), ill_formed_size(bytes)),
     }
-}
-
-/// Returns the six bits of a trail byte. For any other byte it returns 64 or more.
-#[inline(always)]
-fn trail_of(byte: u8) -> u32 {
-    u32::from(byte.wrapping_sub(0x80))
 }
 
 /// Returns the value of the two-byte character at the start of the bytes. `None` if there is none.
