@@ -233,11 +233,12 @@ fn copy_wide<T: Copy, V: PartValues<T>>(
     }
 }
 
-/// Returns true if the bytes start with one that is not ASCII.
+/// Returns true if the bytes start with four that are not ASCII. In texts with few such bytes in a
+/// row, as in most Latin ones, that is rare.
 #[inline(always)]
 fn starts_wide(bytes: &[u8]) -> bool {
-    match bytes.first() {
-        Some(lead) => *lead >= 0x80,
+    match bytes.first_chunk::<4>() {
+        Some(four) => u32::from_le_bytes(*four) & 0x8080_8080 == 0x8080_8080,
         None => false,
     }
 }
