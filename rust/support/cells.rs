@@ -1,4 +1,6 @@
 //! Reads of cells in packed bytes, in forms that rustc optimizes well.
+#[cfg(not(feature = "proved-reads"))]
+use core::cmp::Ordering;
 
 /// Returns cell `i` of cells of `width` bytes, or `None` if there is none. Checks only the index.
 #[inline(always)]
@@ -82,22 +84,53 @@ pub(crate) fn cell_of_first(bytes: &[u8], width: usize, count: usize, i: usize) 
     cell(&bytes[..bytes.len().min(count * width)], width, i)
 }
 
-/// Searches ascending cells as std searches a slice, without a test of each index. Returns `None` if
-/// cells of this width are not searched so.
+/// Searches ascending cells as `binary_search_by` of a slice does. Returns `None` if cells of this width
+/// are not searched so.
 #[cfg(not(feature = "proved-reads"))]
 #[allow(dead_code)] // Only the library uses it.
 #[inline(always)]
 pub(crate) fn searched(
     bytes: &[u8],
     width: usize,
-    mut compare: impl FnMut(&[u8]) -> core::cmp::Ordering,
+    compare: impl Fn(&[u8]) -> Ordering,
 ) -> Option<Result<usize, usize>> {
     match width {
-        1 => Some(bytes.as_chunks::<1>().0.binary_search_by(|cell| compare(cell))),
-        2 => Some(bytes.as_chunks::<2>().0.binary_search_by(|cell| compare(cell))),
-        3 => Some(bytes.as_chunks::<3>().0.binary_search_by(|cell| compare(cell))),
-        4 => Some(bytes.as_chunks::<4>().0.binary_search_by(|cell| compare(cell))),
+        1 => Some(searched_in(bytes.as_chunks::<1>().0, compare)),
+        2 => Some(searched_in(bytes.as_chunks::<2>().0, compare)),
+        3 => Some(searched_in(bytes.as_chunks::<3>().0, compare)),
+        4 => Some(searched_in(bytes.as_chunks::<4>().0, compare)),
         _ => None,
+    }
+}
+
+/// Searches ascending cells. Each step leaves a quarter, and adds up comparisons. An index past the end
+/// ends a loop: with a panic, its jumps take longer.
+#[cfg(not(feature = "proved-reads"))]
+#[inline(always)]
+fn searched_in<const WIDTH: usize>(
+    cells: &[[u8; WIDTH]],
+    compare: impl Fn(&[u8]) -> Ordering,
+) -> Result<usize, usize> {
+    let at_most = |cell: &[u8; WIDTH]| usize::from(compare(cell).is_le());
+    let mut low = 0;
+    let mut size = cells.len();
+    while size > 3 {
+        let step = size / 4;
+        let Some(third) = cells.get(low + 3 * step) else { break };
+        let Some(second) = cells.get(low + 2 * step) else { break };
+        let Some(first) = cells.get(low + step) else { break };
+        low += step * (at_most(first) + at_most(second) + at_most(third));
+        size -= 3 * step;
+    }
+    while size > 1 {
+        let Some(next) = cells.get(low + 1) else { break };
+        low += at_most(next);
+        size -= 1;
+    }
+    match cells.get(low).map_or(Ordering::Greater, |cell| compare(cell)) {
+        Ordering::Less => Err(low + 1),
+        Ordering::Equal => Ok(low),
+        Ordering::Greater => Err(low),
     }
 }
 
