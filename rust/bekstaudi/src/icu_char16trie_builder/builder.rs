@@ -38,20 +38,15 @@ pub struct Char16TrieBuilder {
     entries: BTreeMap<Vec<u16>, i32>,
 }
 
-/// Returns true if the map contains the key.
-#[inline]
-fn has_key(entries: &BTreeMap<Vec<u16>, i32>, key: &[u16]) -> bool {
-    entries.contains_key(key)
-}
-
 /// Adds an entry to a map, which takes ownership of the key. On an error the map is unchanged.
 #[inline]
 fn insert_key(
     entries: &mut BTreeMap<Vec<u16>, i32>,
+    place: (usize, usize),
     key: Vec<u16>,
     value: i32,
 ) -> Result<(), AllocError> {
-    entries.try_insert(key, value)?;
+    entries.try_insert_at(place, key, value)?;
     Ok(())
 }
 
@@ -59,11 +54,12 @@ fn insert_key(
 #[inline]
 fn insert(
     entries: &mut BTreeMap<Vec<u16>, i32>,
+    place: (usize, usize),
     key: &[u16],
     value: i32,
 ) -> Result<(), AllocError> {
     let key = Vec::from_slice(key)?;
-    insert_key(entries, key, value)
+    insert_key(entries, place, key, value)
 }
 
 /// Returns the entries of a map, in their order.
@@ -154,10 +150,10 @@ impl Char16TrieBuilder {
         if key.len() > LONGEST_KEY {
             return Err(AddError::KeyTooLong);
         }
-        if has_key(&self.entries, key) {
+        let Err(place) = self.entries.place_of(key) else {
             return Err(AddError::Duplicate);
-        }
-        match insert(&mut self.entries, key, value) {
+        };
+        match insert(&mut self.entries, place, key, value) {
             Ok(()) => Ok(()),
             Err(_) => Err(AddError::Memory),
         }
@@ -188,10 +184,10 @@ impl Char16TrieBuilder {
         let Ok(units) = units_of_text(key) else {
             return Err(AddError::Memory);
         };
-        if has_key(&self.entries, units.as_slice()) {
+        let Err(place) = self.entries.place_of(units.as_slice()) else {
             return Err(AddError::Duplicate);
-        }
-        match insert_key(&mut self.entries, units, value) {
+        };
+        match insert_key(&mut self.entries, place, units, value) {
             Ok(()) => Ok(()),
             Err(_) => Err(AddError::Memory),
         }

@@ -37,7 +37,7 @@ impl<K: Ord, V> BTreeMap<K, V> {
     }
 
     /// Returns the part and the position of a key, or as `Err` those where it would be inserted.
-    fn place_of<Q: Ord + ?Sized>(&self, key: &Q) -> Result<(usize, usize), (usize, usize)>
+    pub fn place_of<Q: Ord + ?Sized>(&self, key: &Q) -> Result<(usize, usize), (usize, usize)>
     where
         K: Borrow<Q>,
     {
@@ -83,13 +83,25 @@ impl<K: Ord, V> BTreeMap<K, V> {
 
     /// Inserts an entry, and returns the value that the key had.
     pub fn try_insert(&mut self, key: K, value: V) -> Result<Option<V>, AllocError> {
-        let (mut part, mut place) = match self.place_of(&key) {
+        match self.place_of(&key) {
             Ok((part, place)) => {
                 let old = core::mem::replace(&mut self.parts[part][place].1, value);
-                return Ok(Some(old));
+                Ok(Some(old))
             }
-            Err(found) => found,
-        };
+            Err(found) => {
+                self.try_insert_at(found, key, value)?;
+                Ok(None)
+            }
+        }
+    }
+
+    /// Inserts an entry whose key is not in the map, where `place_of` said.
+    pub fn try_insert_at(
+        &mut self,
+        (mut part, mut place): (usize, usize),
+        key: K,
+        value: V,
+    ) -> Result<(), AllocError> {
         if self
             .parts
             .get(part)
@@ -104,7 +116,7 @@ impl<K: Ord, V> BTreeMap<K, V> {
         // Each part was made with a capacity of PART entries.
         self.parts[part].insert(place, (key, value));
         self.count += 1;
-        Ok(None)
+        Ok(())
     }
 
     /// Returns the number of entries.
