@@ -79,17 +79,17 @@ fn count_below(ends: &[u32], c: u32) -> usize
 }
 
 /// Returns how many boundaries are below `c`, given that at least `from` are. It is fast if there
-/// are exactly `from`.
+/// are exactly `from`, as when a range is added after all others.
 fn count_below_from(ends: &[u32], from: usize, c: u32) -> usize
     requires rises { Run 0 (suc code_point_limit) ends.now }
     requires from { from ≤ ends_below ends.now c }
     ensures count { result ≡ ends_below ends.now c }
     ensures within { result ≤ length ends.now }
 {
-    if from < ends.len() && c <= ends[from] {
-        return from;
+    if from < ends.len() && ends[from] < c {
+        return count_below(ends, c);
     }
-    count_below(ends, c)
+    from
 }
 
 /// Replaces the boundaries at indices `lower..upper` by `start` if `first` is true and `end` if
