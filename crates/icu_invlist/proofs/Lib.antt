@@ -6,6 +6,7 @@ pub mod Splices
 pub mod EmptySets
 mod EqualSets
 pub mod PlaceLemmas
+pub mod StretchLemmas
 pub mod PackedEnds
 pub mod CheckedLists
 pub mod Toggles

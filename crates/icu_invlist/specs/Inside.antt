@@ -3,3 +3,4 @@ pub mod Places
 pub mod Merging
 pub mod StillGiven
 pub mod GivenEnds
+pub mod Stretches

@@ -13,6 +13,7 @@ ghost use Rattle.icu_invlist.specs.Refusals.{IsRefusedList, IsRefusedSlice};
 
 mod packing;
 mod places;
+mod stretches;
 mod subsets;
 
 use crate::codepointinvlist::error::{InvalidSetError, SetError};
@@ -26,6 +27,7 @@ use std::alloc::Global;
 use std::marker::Model;
 use std::mem;
 use std::ops::RangeInclusive;
+use stretches::Stretch;
 
 /// An immutable set of code points, which may include surrogates. It borrows or owns the list of
 /// its boundaries.
@@ -438,17 +440,21 @@ impl<'data> CodePointInversionList<'data> {
     /// set, or all outside it if `held` is false.
     ///
     /// The result is a character boundary, so `&text[set.span(text, true)..]` is the rest of the
-    /// text.
+    /// text. A character in the same range as the one before it takes no search.
     pub fn span(&self, text: &str, held: bool) -> usize
         ensures place { result
             ≡ length (encode_utf8_all
             (take_while (λ c. beq (holds self.now c) held) (chars text.now))) }
         ensures boundary { IsCharBoundary text.now result }
     {
+        let mut stretch = Stretch::none();
         let mut length = 0;
         for c in text.chars() {
-            if self.contains(c) != held {
-                return length;
+            if !stretch.has(c) {
+                let Some(found) = self.stretch_at(c, held) else {
+                    return length;
+                };
+                stretch = found;
             }
             length += c.len_utf8();
         }
@@ -467,11 +473,15 @@ impl<'data> CodePointInversionList<'data> {
             ≡ length text.now }
         ensures boundary { IsCharBoundary text.now result }
     {
+        let mut stretch = Stretch::none();
         let mut start = text.len();
         for c in text.chars().rev() {
             c.shown();
-            if self.contains(c) != held {
-                return start;
+            if !stretch.has(c) {
+                let Some(found) = self.stretch_at(c, held) else {
+                    return start;
+                };
+                stretch = found;
             }
             start -= c.len_utf8();
         }

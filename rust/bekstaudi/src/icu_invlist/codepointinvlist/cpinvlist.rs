@@ -3,6 +3,7 @@
 use crate::support::prelude::*;
 mod packing;
 mod places;
+mod stretches;
 mod subsets;
 
 use crate::icu_invlist::codepointinvlist::error::{InvalidSetError, SetError};
@@ -15,6 +16,7 @@ use crate::icu_zerovec::{CODE_POINT_LIMIT, MemoryError, PotentialCodePoint, Zero
 use crate::support::boundaries::{sum_of_sizes, unpack};
 use core::ops::RangeInclusive;
 use packing::{cut_to_points, pack, unpacked};
+use stretches::Stretch;
 
 /// An immutable set of code points, which may include surrogates. It borrows or owns the list of
 /// its boundaries.
@@ -357,14 +359,17 @@ impl<'data> CodePointInversionList<'data> {
     /// set, or all outside it if `held` is false.
     ///
     /// The result is a character boundary, so `&text[set.span(text, true)..]` is the rest of the
-    /// text.
+    /// text. A character in the same range as the one before it takes no search.
     #[must_use]
-    #[inline]
     pub fn span(&self, text: &str, held: bool) -> usize {
+        let mut stretch = Stretch::none();
         let mut length = 0;
         for c in text.chars() {
-            if self.contains(c) != held {
-                return length;
+            if !stretch.has(c) {
+                let Some(found) = self.stretch_at(c, held) else {
+                    return length;
+                };
+                stretch = found;
             }
             length += c.len_utf8();
         }
@@ -377,12 +382,15 @@ impl<'data> CodePointInversionList<'data> {
     /// The result is a character boundary, so `&text[..set.span_back(text, true)]` is the text
     /// before that suffix.
     #[must_use]
-    #[inline]
     pub fn span_back(&self, text: &str, held: bool) -> usize {
+        let mut stretch = Stretch::none();
         let mut start = text.len();
         for c in text.chars().rev() {
-            if self.contains(c) != held {
-                return start;
+            if !stretch.has(c) {
+                let Some(found) = self.stretch_at(c, held) else {
+                    return start;
+                };
+                stretch = found;
             }
             start -= c.len_utf8();
         }

@@ -1,19 +1,32 @@
 use Rattle.std.proofs.Common.{arith}
-use Rattle.icu_invlist.proofs.SpanLemmas.{is_unwanted, is_wanted, span_start, span_past, span_room, span_stops}
+use Rattle.icu_invlist.proofs.SpanLemmas.{span_start, span_past, span_room, span_stops}
+use Rattle.icu_invlist.proofs.codepointinvlist.cpinvlist.CodePointInversionList.span.Goals.{then-not-has+in-Some-stretch_at, else-not-has}
 use Rattle.icu_invlist.proofs.codepointinvlist.cpinvlist.CodePointInversionList.span.Goals as goal
 
 pub loop-c-init : goal.loop-c-init
-loop-c-init c = span_start _ c.args.text.now _ c.utf8.text (cc)
+loop-c-init c = record {
+  passed = span_start _ c.args.text.now _ c.utf8.text (cc);
+  stretch = λ n low high. absurd (let e = c.none-stretch.ensures in omega (arith, high));
+}
 
 pub overflow_add-length : goal.overflow_add-length
 overflow_add-length c =
-    let r = span_room c.loop-c.invariant _ _ c.in-Some.ensures.steps.0 in
+    let r = span_room c.loop-c.invariant.passed _ _ c.in-Some.ensures.steps.0 in
     omega (arith, c.len_utf8-length.ensures.len, c.type_inv.text)
 
 pub loop-c-preserved : goal.loop-c-preserved
-loop-c-preserved c = rw c.len_utf8-length.ensures.len
-    (span_past c.loop-c.invariant _ _ c.in-Some.ensures.steps.0 (is_wanted _ c.contains.ensures c.if-contains-held.false))
+loop-c-preserved c = record {
+  passed = rw c.len_utf8-length.ensures.len
+      (span_past c.loop-c.invariant.passed _ _ c.in-Some.ensures.steps.0 (elim c.if-not-has.branch [
+        | then-not-has+in-Some-stretch_at w ↦ w.in-Some-stretch_at.ensures.0
+        | else-not-has w ↦ (let h = c.has.ensures.0 w.if-not-has.false in c.loop-c.invariant.stretch c.in-Some.c h.0 h.1)
+      ]));
+  stretch = elim c.if-not-has.branch [
+    | then-not-has+in-Some-stretch_at w ↦ rw w.stretch-is w.in-Some-stretch_at.ensures.1
+    | else-not-has w ↦ rw w.stretch-is c.loop-c.invariant.stretch
+  ];
+}
 
-pub returns-then-contains-held-clause-place : goal.returns-then-contains-held-clause-place
-returns-then-contains-held-clause-place c =
-    span_stops c.loop-c.invariant _ _ c.in-Some.ensures.steps.0 (is_unwanted _ c.contains.ensures c.if-contains-held.true)
+pub returns-in_default-clause-place : goal.returns-in_default-clause-place
+returns-in_default-clause-place c =
+    span_stops c.loop-c.invariant.passed _ _ c.in-Some.ensures.steps.0 c.in_default.ensures
