@@ -1,7 +1,7 @@
 -- Lemmas about blocks of 16 code points.
 use Rattle.std.proofs.Common.{◌≡◌, ◌≢◌, ℕ, ◌+◌, ◌*◌, ◌/◌, ◌%◌, ◌<◌, ◌≤◌, ◌⊎◌, inl, inr, Bool, true, false, List, [], ◌∷◌, ◌++◌, length, get_or, set, replicate, take, drop, refl, sym, ◌∙◌, ap, arith, ◌-◌}
 use Rattle.std.proofs.lemmas.Bool.{cases_lt, cases_eq, cases_Bool, false≢true}
-use Rattle.std.proofs.lemmas.List.{get_or-set_same, get_or-set_other, length-set, get_or_default, get_or_past, same_lists, length-take, length-drop, get_or-take, get_or-drop, length-replicate, get_or-replicate, get_or_append_left, get_or_push, take-replicate, drop-replicate, drop-drop}
+use Rattle.std.proofs.lemmas.List.{get_or-set_same, get_or-set_other, length-set, get_or_default, get_or_past, same_lists, length-take, length-take-le, length-drop, get_or-take, get_or-drop, length-replicate, get_or-replicate, get_or_append_left, get_or_push, take-replicate, drop-replicate, drop-drop}
 use Rattle.std.proofs.Math.Seq.{take-add}
 use Rattle.std.proofs.Math.Nat.{mul_assoc, mul-add, zero-mul}
 use Rattle.std.proofs.lemmas.List.FromFn.{length-map-range_with_len, get_or-map-range_with_len}
@@ -198,6 +198,23 @@ number-in xs ys n c held e = let at : c ≡ 16 * n + c % 16 = omega (arith, e) i
 
 pub number-in-one : (xs : List ℕ) (n c v : ℕ) → replicate 16 v ≡ block 16 xs n → c / 16 ≡ n → get_or xs c 0 ≡ v
 number-in-one xs n c v held e = number-in xs (replicate 16 v) n c held e ∙ get_or-replicate 16 (c % 16) v 0 (omega arith)
+
+-- The number of a code point in a part of the blocks, none of which is mixed and all of which have this number.
+pub number-in-part : (m : List Bool) (n : List ℕ) (cs : List (List ℕ)) (first size c v : ℕ) → first + size ≤ 0x11000
+    → length n ≡ 0x11000
+    → ((i : ℕ) → i < length (take size (drop first n))
+    → (is_mixed (take size (drop first m)) i ≡ false) × (get_or (take size (drop first n)) i 0 ≡ v))
+    → 16 * first ≤ c → c < 16 * (first + size) → get_or (all_numbers (number_at m n cs)) c 0 ≡ v
+number-in-part m n cs first size c v there len given low high =
+    let j : ℕ = c / 16 in let i : ℕ = j - first in
+    let at : first + i ≡ j = omega (arith, low) in let in_part : i < size = omega (arith, low, high) in
+    let long : length (take size (drop first n)) ≡ size
+    = length-take-le size (drop first n) (omega (arith, length-drop first n, len, there)) in
+    let h = given i (omega (arith, long, in_part)) in
+    let whole : is_mixed m j ≡ false = ap (λ x. is_mixed m x) (sym at) ∙ sym (get_or-drop first m i false)
+    ∙ sym (get_or-take size (drop first m) i false in_part) ∙ h.0 in
+    number-in-one (all_numbers (number_at m n cs)) j c (get_or n j 0) (holds-one m n cs j (omega (arith, high, there)) whole) refl
+    ∙ ap (λ x. get_or n x 0) (sym at) ∙ sym (get_or-drop first n i 0) ∙ sym (get_or-take size (drop first n) i 0 in_part) ∙ h.1
 
 -- The numbers of some blocks, and of one more.
 pub window-on : (xs : List ℕ) (first i : ℕ) → first ≤ i

@@ -1,5 +1,5 @@
 //! The numbers of all code points, in blocks of 16.
-ghost use Rattle.std.specs.Prelude.{◌≡◌, ◌≢◌, ℕ, ◌+◌, ◌-◌, ◌*◌, ◌/◌, ◌<◌, ◌≤◌, [], ◌∷◌, ◌++◌, true, replicate, slice_index, slice_index_or, length, IsTrue, OnOk, OnErr, IfOk};
+ghost use Rattle.std.specs.Prelude.{◌≡◌, ◌≢◌, ℕ, ◌+◌, ◌-◌, ◌*◌, ◌/◌, ◌<◌, ◌≤◌, [], ◌∷◌, ◌++◌, false, true, replicate, slice_index, slice_index_or, length, IsTrue, OnOk, OnErr, IfOk};
 ghost use Rattle.icu_zerovec.specs.CodePoints.{code_point_limit};
 ghost use Rattle.icu_trie_core.specs.Blocks.{block, window};
 ghost use Rattle.icu_trie_map.specs.NumberMap.{code_points};
@@ -11,6 +11,9 @@ use std::marker::Model;
 
 /// The number of blocks of 16 code points.
 const BLOCK_COUNT: usize = CODE_POINT_LIMIT as usize / 16;
+
+/// The number of blocks that a search from the end looks at together. It divides `BLOCK_COUNT`.
+const GROUP: usize = 64;
 
 /// Below this block number, four blocks become mixed together.
 const FIRST_SINGLE: usize = 0x1000;
@@ -84,6 +87,21 @@ fn fill_range(cells: &mut [u32; 16], start: usize, end: usize, number: u32)
     for i in start..end {
         cells[i] = number;
     }
+}
+
+/// Returns true if none of these blocks is mixed and all have this number. No jump depends on the
+/// blocks, so LLVM makes vector instructions of the loop.
+#[inline(always)]
+fn are_one(mixed: &[bool], places: &[u32], number: u32) -> bool
+    requires { length places.now ≤ length mixed.now }
+    ensures { IsTrue result → (i : ℕ) → i < length places.now
+        → (is_mixed mixed.now i ≡ false) × (slice_index places.now i ≡ number) }
+{
+    let mut all = true;
+    for i in 0..places.len() {
+        all &= !mixed[i] & (places[i] == number);
+    }
+    all
 }
 
 impl Blocks {
@@ -265,6 +283,31 @@ impl Blocks {
         CODE_POINT_LIMIT as usize
     }
 
+    /// Returns true if no block of a group is mixed and all have this number. The first of them is
+    /// block number `first`.
+    #[inline(always)]
+    fn is_group_of(&self, first: usize, number: u32) -> bool
+        requires { first + 64 ≤ block_count }
+        ensures { IsTrue result → (c : ℕ) → 16 * first ≤ c → c < 16 * (first + 64)
+            → slice_index self.now.numbers c ≡ number }
+    {
+        let end = first + GROUP;
+        are_one(&self.mixed[first..end], &self.places[first..end], number)
+    }
+
+    /// Returns a number of blocks after which all have this number. It goes by groups of blocks.
+    fn used_groups(&self, number: u32) -> usize
+        ensures within { result ≤ block_count }
+        ensures after { (c : ℕ) → 16 * result ≤ c → c < code_point_limit
+            → slice_index self.now.numbers c ≡ number }
+    {
+        let mut count = BLOCK_COUNT;
+        while count >= GROUP && self.is_group_of(count - GROUP, number) {
+            count -= GROUP;
+        }
+        count
+    }
+
     /// Returns the number of blocks up to and including the last one that does not have this number
     /// throughout.
     pub(crate) fn used(&self, number: u32) -> usize
@@ -274,7 +317,7 @@ impl Blocks {
         ensures last { 0 < result → (c : ℕ) × (16 * (result - 1) ≤ c) × (c < 16 * result)
             × (slice_index self.now.numbers c ≢ number) }
     {
-        let mut count = BLOCK_COUNT;
+        let mut count = self.used_groups(number);
         while count > 0 {
             if self.other_in_block(count - 1, 0, number) < 16 {
                 return count;

@@ -7,6 +7,9 @@ use crate::support::prelude::*;
 /// The number of blocks of 16 code points.
 const BLOCK_COUNT: usize = CODE_POINT_LIMIT as usize / 16;
 
+/// The number of blocks that a search from the end looks at together. It divides `BLOCK_COUNT`.
+const GROUP: usize = 64;
+
 /// Below this block number, four blocks become mixed together.
 const FIRST_SINGLE: usize = 0x1000;
 
@@ -57,6 +60,17 @@ fn fill_range(cells: &mut [u32; 16], start: usize, end: usize, number: u32) {
     for i in start..end {
         cells[i] = number;
     }
+}
+
+/// Returns true if none of these blocks is mixed and all have this number. No jump depends on the
+/// blocks, so LLVM makes vector instructions of the loop.
+#[inline(always)]
+fn are_one(mixed: &[bool], places: &[u32], number: u32) -> bool {
+    let mut all = true;
+    for i in 0..places.len() {
+        all &= !mixed[i] & (places[i] == number);
+    }
+    all
 }
 
 impl Blocks {
@@ -207,11 +221,29 @@ impl Blocks {
         CODE_POINT_LIMIT as usize
     }
 
+    /// Returns true if no block of a group is mixed and all have this number. The first of them is
+    /// block number `first`.
+    #[inline(always)]
+    fn is_group_of(&self, first: usize, number: u32) -> bool {
+        let end = first + GROUP;
+        are_one(&self.mixed[first..end], &self.places[first..end], number)
+    }
+
+    /// Returns a number of blocks after which all have this number. It goes by groups of blocks.
+    #[inline]
+    fn used_groups(&self, number: u32) -> usize {
+        let mut count = BLOCK_COUNT;
+        while count >= GROUP && self.is_group_of(count - GROUP, number) {
+            count -= GROUP;
+        }
+        count
+    }
+
     /// Returns the number of blocks up to and including the last one that does not have this number
     /// throughout.
     #[inline]
     pub(crate) fn used(&self, number: u32) -> usize {
-        let mut count = BLOCK_COUNT;
+        let mut count = self.used_groups(number);
         while count > 0 {
             if self.other_in_block(count - 1, 0, number) < 16 {
                 return count;
