@@ -1,10 +1,10 @@
 -- Setting blocks of the tables.
-use Rattle.std.proofs.Common.{◌≡◌, ◌∙◌, ℕ, ◌+◌, ◌-◌, ◌/◌, ◌%◌, ◌^◌, ◌<◌, ◌≤◌, List, [], ◌∷◌, length, get_or, set, replicate, refl, ap, sym, arith, zero, suc, zero-add, Bool, true, false, cond, inl, inr}
+use Rattle.std.proofs.Common.{◌≡◌, ◌∙◌, ℕ, ◌+◌, ◌-◌, ◌/◌, ◌%◌, ◌^◌, ◌<◌, ◌≤◌, List, [], ◌∷◌, ◌++◌, ◌*◌, length, take, drop, get_or, set, replicate, refl, ap, sym, arith, zero, suc, zero-add, Bool, true, false, cond, inl, inr}
 use Rattle.std.specs.Int.{bit_at}
 use Rattle.std.specs.Prelude.{nat_eq, ◌||◌}
 use Rattle.std.proofs.lemmas.Bool.{cases_eq, cases_lt}
 use Rattle.std.proofs.lemmas.Grind.{get_or-set_at}
-use Rattle.std.proofs.lemmas.List.{length-set, length-replicate, get_or_default, get_or_past, get_or-replicate, get_or-set_other}
+use Rattle.std.proofs.lemmas.List.{length-set, length-replicate, length-take-le, get_or-take, get_or-drop, get_or_append_left, get_or-append_right, get_or_default, get_or_past, get_or-replicate, get_or-set_other}
 use Rattle.std.proofs.lemmas.Nat.Bits.{bit_at_ones, bit_at-zero}
 use Rattle.icu_invlist.specs.InversionList.{between}
 use Rattle.icu_frozen_sets.specs.CodePointBits.{BitTables, has_bit, word_with}
@@ -170,18 +170,23 @@ empty_tables index words e w =
     }
 
 -- ---- the words of the first code points
--- One more word is copied.
-pub words_more : (t : BitTables) (words : List ℕ) (k first word : ℕ) → AreTables t → length words ≡ 32 → k < 32 → 8 ≤ length t.index
-    → first ≡ get_or t.index (k / 4) first → word ≡ get_or t.words (first + k % 4) word
-    → ((c : ℕ) → c / 64 < k → get_or words (c / 64) 0 ≡ word_with t c)
-    → (c : ℕ) → c / 64 < k + 1 → get_or (set words k word) (c / 64) 0 ≡ word_with t c
-words_more t words k first word a n h l f w same c m = elim (cases_eq (c / 64) k) [
-  | inl q ↦
-      let p = a.placed (k / 4) (omega arith) in
-      let place : first ≡ get_or t.index (k / 4) 0 = f ∙ get_or_default t.index (k / 4) first 0 (omega arith) in
-      let block : get_or t.index (k / 4) 0 ≡ get_or t.index (c / 256) 0 = ap (λ (b : ℕ). get_or t.index b 0) (omega arith) in
-      let at : first + k % 4 ≡ get_or t.index (c / 256) 0 + c / 64 % 4 = omega (arith, place, block, q) in
-      get_or-set_at words k (c / 64) word 0 q (omega (arith, n))
-      ∙ (w ∙ (get_or_default t.words (first + k % 4) word 0 (omega (arith, p, place)) ∙ ap (λ (j : ℕ). get_or t.words j 0) at))
-  | inr q ↦ get_or-set_other words k (c / 64) word 0 q ∙ same c (omega arith)
-]
+-- The four words of one more block are copied.
+pub words_more : (t : BitTables) (words more : List ℕ) (k first size : ℕ) → AreTables t → length words ≡ 32 → k < 8 → 8 ≤ length t.index
+    → first ≡ get_or t.index k first → size ≡ 4 → take (4 * k + 4) more ≡ take (4 * k) words ++ take size (drop first t.words)
+    → ((c : ℕ) → c / 256 < k → get_or words (c / 64) 0 ≡ word_with t c)
+    → (c : ℕ) → c / 256 < k + 1 → get_or more (c / 64) 0 ≡ word_with t c
+words_more t words more k first size a n h l f four put same c m =
+    let low : length (take (4 * k) words) ≡ 4 * k = length-take-le (4 * k) words (omega (arith, n)) in
+    let given : get_or more (c / 64) 0 ≡ get_or (take (4 * k) words ++ take size (drop first t.words)) (c / 64) 0
+    = sym (get_or-take (4 * k + 4) more (c / 64) 0 (omega (arith, m))) ∙ ap (λ (ws : List ℕ). get_or ws (c / 64) 0) put in
+    elim (cases_lt (c / 256) k) [
+      | inl q ↦ given ∙ get_or_append_left (take (4 * k) words) (take size (drop first t.words)) 0 (c / 64) (omega (arith, low, q))
+          ∙ get_or-take (4 * k) words (c / 64) 0 (omega (arith, q)) ∙ same c q
+      | inr q ↦
+          let place : first ≡ get_or t.index k 0 = f ∙ get_or_default t.index k first 0 (omega arith) in
+          let block : get_or t.index k 0 ≡ get_or t.index (c / 256) 0 = ap (λ (b : ℕ). get_or t.index b 0) (omega (arith, m, q)) in
+          given ∙ get_or-append_right (take (4 * k) words) (take size (drop first t.words)) (4 * k) (c / 64) 0 low (omega (arith, q))
+          ∙ get_or-take size (drop first t.words) (c / 64 - 4 * k) 0 (omega (arith, m, q, four))
+          ∙ get_or-drop first t.words (c / 64 - 4 * k) 0
+          ∙ ap (λ (j : ℕ). get_or t.words j 0) (omega (arith, m, q, place, block))
+    ]

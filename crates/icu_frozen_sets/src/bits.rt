@@ -1,5 +1,5 @@
 //! A bit for each code point, in two stages, so that each look-up takes two loads.
-ghost use Rattle.std.specs.Prelude.{◌≡◌, ℕ, ◌+◌, ◌*◌, ◌/◌, ◌<◌, ◌≤◌, ◌↔◌, ◌||◌, Bool, true, false, length, slice_index, IfOk, OnOk, IsTrue, if◌then◌else◌};
+ghost use Rattle.std.specs.Prelude.{◌≡◌, ℕ, ◌+◌, ◌*◌, ◌/◌, ◌<◌, ◌≤◌, ◌↔◌, ◌||◌, ◌++◌, Bool, true, false, length, take, slice_index, IfOk, OnOk, IsTrue, if◌then◌else◌};
 ghost use Rattle.std.specs.Int.{bit_at};
 ghost use Rattle.icu_invlist.specs.InversionList.{between};
 ghost use Rattle.icu_frozen_sets.specs.CodePointBits.{has_bit};
@@ -57,6 +57,17 @@ fn is_all(block: &[u64; 4], word: u64) -> bool
     ensures { IsTrue result ↔ ((k : ℕ) → k < 4 → slice_index block.now k ≡ word) }
 {
     block[0] == word && block[1] == word && block[2] == word && block[3] == word
+}
+
+/// Writes four words to `out` from index `at` on.
+#[inline(always)]
+fn put_four(out: &mut [u64], at: usize, words: &[u64])
+    requires within { at + 4 ≤ length out.old }
+    requires four { length words.now ≡ 4 }
+    ensures written { take (at + 4) out.new ≡ take at out.old ++ words.now }
+    ensures len { length out.new ≡ length out.old }
+{
+    out[at..at + 4].copy_from_slice(words);
 }
 
 /// Returns the number of consecutive ones in the word from bit `place` on.
@@ -182,9 +193,9 @@ impl CodePointBits {
         ensures { (c : ℕ) → c < 2048 → bit_among result c ≡ has_bit self.now c }
     {
         let mut words = [0; 32];
-        for k in 0..32 {
-            let first = self.index[k / 4] as usize;
-            words[k] = self.words[first + k % 4];
+        for k in 0..8 {
+            let first = self.index[k] as usize;
+            put_four(&mut words, 4 * k, &self.words[first..first + 4]);
         }
         words
     }

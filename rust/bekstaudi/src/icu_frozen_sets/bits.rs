@@ -42,6 +42,12 @@ fn is_all(block: &[u64; 4], word: u64) -> bool {
     block[0] == word && block[1] == word && block[2] == word && block[3] == word
 }
 
+/// Writes four words to `out` from index `at` on.
+#[inline(always)]
+fn put_four(out: &mut [u64], at: usize, words: &[u64]) {
+    out[at..at + 4].copy_from_slice(words);
+}
+
 /// Returns the number of consecutive ones in the word from bit `place` on.
 #[inline(always)]
 fn ones_from(word: u64, place: u32) -> u32 {
@@ -129,9 +135,9 @@ impl CodePointBits {
     #[inline]
     pub(crate) fn first_words(&self) -> [u64; 32] {
         let mut words = [0; 32];
-        for k in 0..32 {
-            let first = self.index[k / 4] as usize;
-            words[k] = self.words[first + k % 4];
+        for k in 0..8 {
+            let first = self.index[k] as usize;
+            put_four(&mut words, 4 * k, &self.words[first..first + 4]);
         }
         words
     }
