@@ -27,6 +27,11 @@ pub made_character : (bytes : List ℕ) (made : Option ℕ) (c size : ℕ) → S
 made_character bytes None c size m p = absurd (m p.0)
 made_character bytes (Some d) c size m p = rw m.1 p
 
+-- A number below 64 that makes the byte at the index a trail byte.
+pub trail_at : (bytes : List ℕ) (place bits : ℕ) → place < length bytes → get_or bytes place 0 ≡ 128 + bits → bits < 64
+    → IsTrail bytes place bits
+trail_at bytes place bits there byte six = record { there = there; byte = byte; six = six }
+
 pub part_of_ascii : (bytes : List ℕ) → 0 < length bytes → get_or bytes 0 0 < 128 → IsFirstPart bytes (Some (get_or bytes 0 0)) 1
 part_of_ascii [] n h = absurd (omega arith)
 part_of_ascii (x ∷ rest) n h = let f = found x (x ∷ []) rest (one x h) in (f.0, sym f.1, f.2)

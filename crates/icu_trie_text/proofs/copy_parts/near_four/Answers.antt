@@ -1,7 +1,6 @@
 use Rattle.std.proofs.Common.{◌≡◌, ℕ, ◌+◌, ◌-◌, ◌*◌, ◌<◌, get_or, bit_or, Some, arith}
 use Rattle.std.proofs.lemmas.Nat.{le_or_l, le_or_r}
-use Rattle.icu_trie_text.specs.Inside.Trails.{IsTrail}
-use Rattle.icu_trie_text.proofs.Utf8Parts.{four_found}
+use Rattle.icu_trie_text.proofs.Utf8Parts.{four_found, trail_at}
 use Rattle.icu_trie_text.proofs.copy_parts.near_four.Goals as goal
 
 pub returns : goal.returns
@@ -16,20 +15,8 @@ returns g c =
     let small_too : t < 64 = omega (arith, le_or_r s t, both, c.if-second-third-ge64.false) in
     let small_last : u < 64 = omega (arith, le_or_r (bit_or s t) u, c.if-second-third-ge64.false) in
     let lead : get_or bytes 0 0 ≡ 240 + a = omega (arith, c.from.ensures, c.requires.from) in
-    let second : IsTrail bytes 1 s = record {
-      there = omega arith;
-      byte = omega (arith, c.trail_of-second.ensures.byte small);
-      six = small;
-    } in
-    let third : IsTrail bytes 2 t = record {
-      there = omega arith;
-      byte = omega (arith, c.trail_of-third.ensures.byte small_too);
-      six = small_too;
-    } in
-    let fourth : IsTrail bytes 3 u = record {
-      there = omega arith;
-      byte = omega (arith, c.trail_of-fourth.ensures.byte small_last);
-      six = small_last;
-    } in
+    let second = trail_at bytes 1 s (omega arith) (omega (arith, c.trail_of-second.ensures.byte small)) small in
+    let third = trail_at bytes 2 t (omega arith) (omega (arith, c.trail_of-third.ensures.byte small_too)) small_too in
+    let fourth = trail_at bytes 3 u (omega arith) (omega (arith, c.trail_of-fourth.ensures.byte small_last)) small_last in
     let high = c.is_high_of_four.ensures.0 c.if-not-is_high_of_four.false in
     (Some ((a * 64 + s) * 4096 + t * 64 + u), four_found bytes a s t u lead second high third fourth, c.far.ensures)

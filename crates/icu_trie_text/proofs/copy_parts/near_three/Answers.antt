@@ -1,7 +1,7 @@
 use Rattle.std.proofs.Common.{◌≡◌, ℕ, ◌+◌, ◌-◌, ◌*◌, ◌<◌, get_or, Some, arith, inl, inr}
 use Rattle.std.proofs.lemmas.Nat.{le_or_l, le_or_r}
-use Rattle.icu_trie_text.specs.Inside.Trails.{IsHighOfThree, IsTrail}
-use Rattle.icu_trie_text.proofs.Utf8Parts.{three_found}
+use Rattle.icu_trie_text.specs.Inside.Trails.{IsHighOfThree}
+use Rattle.icu_trie_text.proofs.Utf8Parts.{three_found, trail_at}
 use Rattle.icu_trie_text.proofs.copy_parts.near_three.Goals as goal
 use Rattle.icu_trie_text.proofs.copy_parts.near_three.Goals.{then-block-lt864+else-block-lt32, else-block-lt864+else-block-lt896}
 
@@ -18,16 +18,8 @@ returns g c =
     let small : s < 64 = omega (arith, le_or_l s t, c.if-second-third-ge64.false) in
     let small_too : t < 64 = omega (arith, le_or_r s t, c.if-second-third-ge64.false) in
     let lead : get_or bytes 0 0 ≡ 224 + a = omega (arith, c.from.ensures, c.requires.from) in
-    let second : IsTrail bytes 1 s = record {
-      there = omega arith;
-      byte = omega (arith, c.trail_of-second.ensures.byte small);
-      six = small;
-    } in
-    let third : IsTrail bytes 2 t = record {
-      there = omega arith;
-      byte = omega (arith, c.trail_of-third.ensures.byte small_too);
-      six = small_too;
-    } in
+    let second = trail_at bytes 1 s (omega arith) (omega (arith, c.trail_of-second.ensures.byte small)) small in
+    let third = trail_at bytes 2 t (omega arith) (omega (arith, c.trail_of-third.ensures.byte small_too)) small_too in
     let high : IsHighOfThree (a * 64 + s) = elim c.if-block-lt864.branch [
       | then-block-lt864+else-block-lt32 w ↦ (omega (arith, w.if-block-lt32.false), inl (omega (arith, w.if-block-lt864.true)))
       | else-block-lt864+else-block-lt896 w ↦ (omega (arith, w.if-block-lt864.false), inr (omega (arith, w.if-block-lt896.false)))
