@@ -98,7 +98,7 @@ pub(crate) fn unpack(bytes: &[u8], ends: &mut Vec<u32>) -> Result<(), AllocError
 
 /// Returns the bytes of these boundaries, which are below 2^24.
 #[cfg(feature = "alloc")]
-#[inline]
+#[inline(always)]
 pub(crate) fn packed(ends: &[u32]) -> Result<Vec<u8>, AllocError> {
     let (fours, rest) = ends.as_chunks::<4>();
     let mut words = Vec::with_room(ends.len().div_ceil(4) * 3)?;

@@ -56,17 +56,18 @@ fn count_below(ends: &[u32], c: u32) -> usize {
 }
 
 /// Returns how many boundaries are below `c`, given that at least `from` are. It is fast if there
-/// are exactly `from`.
-#[inline]
+/// are exactly `from`, as when a range is added after all others.
+#[inline(always)]
 fn count_below_from(ends: &[u32], from: usize, c: u32) -> usize {
-    if from < ends.len() && c <= ends[from] {
-        return from;
+    if from < ends.len() && ends[from] < c {
+        return count_below(ends, c);
     }
-    count_below(ends, c)
+    from
 }
 
 /// Replaces the boundaries at indices `lower..upper` by `start` if `first` is true and `end` if
 /// `second` is true.
+#[inline(always)]
 fn overwrite(
     ends: &mut Vec<u32>,
     lower: usize,

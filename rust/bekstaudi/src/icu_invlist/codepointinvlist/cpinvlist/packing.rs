@@ -17,6 +17,7 @@ pub(super) fn unpacked(
 
 /// Returns the boundaries packed in three bytes each, lowest byte first. For no boundaries it
 /// allocates nothing.
+#[inline(always)]
 pub(super) fn pack(ends: &[u32]) -> Result<Vec<u8>, MemoryError> {
     if ends.is_empty() {
         return Ok(Vec::new());
