@@ -99,7 +99,7 @@ def ends(room, name):
     words = [BUILD[0], "--cargo", "--out", f"{room}/never"]
     # A shell does not set a trap for a signal that was ignored when it began.
     begun = subprocess.Popen(words, env=where, preexec_fn=lambda: signal.signal(signal.SIGINT, signal.SIG_DFL))
-    until = time.monotonic() + 60
+    until = time.monotonic() + 600
     while not os.path.exists(f"{room}/started") or not os.path.getsize(f"{room}/started"):
         if time.monotonic() > until:
             print("c/build did not start cargo: FAILED")
@@ -108,7 +108,7 @@ def ends(room, name):
     with open(f"{room}/started", encoding="utf-8") as file:
         child = int(file.read())
     begun.send_signal(getattr(signal, name))
-    status = begun.wait(60)
+    status = begun.wait(600)
     while (left := running(child)) and time.monotonic() < until:
         time.sleep(0.05)
     print(f"c/build at {name}: status {status}, {len(left)} left")
