@@ -1,5 +1,5 @@
 -- The code points between two neighbouring boundaries.
-use Rattle.std.proofs.Common.{◌≡◌, ◌∙◌, sym, ap, ℕ, suc, ◌-◌, ◌<◌, ◌≤◌, List, length, get_or, arith}
+use Rattle.std.proofs.Common.{◌≡◌, ◌∙◌, sym, ap, ℕ, zero, suc, ◌-◌, ◌<◌, ◌≤◌, List, ◌∷◌, length, get_or, arith}
 use Rattle.icu_zerovec.specs.CodePoints.{code_point_limit}
 use Rattle.icu_invlist.specs.InversionList.{IsValid, holds, is_odd}
 use Rattle.icu_invlist.proofs.Parity.{holds-ends_below}
@@ -17,3 +17,12 @@ module _ (xs : List ℕ) (place n : ℕ) (v : IsValid xs) (within : place ≤ le
       (λ k p. let r = rises k (place - 1) (omega (arith, p)) (omega (arith, p, within)) in
       let l = low (omega (arith, p)) in omega arith)
       (λ k p q. let r = rises place k p q in let h = high (omega (arith, p, q)) in omega arith)))
+
+-- The boundary before the one with this number, or 0.
+pub start-first : (xs : List ℕ) (place s : ℕ) → place ≡ 0 → s ≡ 0 → s ≡ get_or (0 ∷ xs) place 0
+start-first xs zero s p e = e
+start-first xs (suc n) s p e = absurd (omega (arith, p))
+
+pub start-after : (xs : List ℕ) (place s : ℕ) → 0 < place → s ≡ get_or xs (place - 1) 0 → s ≡ get_or (0 ∷ xs) place 0
+start-after xs zero s p e = absurd (omega (arith, p))
+start-after xs (suc n) s p e = e ∙ ap (λ (k : ℕ). get_or xs k 0) (omega arith)

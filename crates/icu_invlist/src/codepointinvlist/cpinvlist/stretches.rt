@@ -6,7 +6,7 @@ ghost use Rattle.std.specs.Prelude.{◌≡◌, ◌<◌, ◌≤◌, ◌↔◌, Is
 ghost use Rattle.std.specs.Option.{MatchOption};
 ghost use mathlib.Core.Bool.{beq};
 ghost use Rattle.icu_invlist.specs.InversionList.{holds};
-ghost use Rattle.icu_invlist.specs.Inside.Stretches.{IsStretch};
+ghost use Rattle.icu_invlist.specs.Inside.Stretches.{IsAround, IsStretch};
 
 use super::CodePointInversionList;
 use icu_zerovec::CODE_POINT_LIMIT;
@@ -22,7 +22,7 @@ impl Stretch {
     /// Returns a stretch without code points.
     #[inline(always)]
     pub(super) fn none() -> Stretch
-        ensures { result.end ≡ 0 }
+        ensures { (result.start ≡ 0) × (result.end ≡ 0) }
     {
         Stretch { start: 0, end: 0 }
     }
@@ -45,7 +45,8 @@ impl<'data> CodePointInversionList<'data> {
     #[inline(never)]
     pub(super) fn stretch_at(&self, c: char, held: bool) -> Option<Stretch>
         ensures { MatchOption result (beq (holds self.now c) held ≡ false)
-            (λ s. (beq (holds self.now c) held ≡ true) × IsStretch self.now held s.start s.end) }
+            (λ s. (beq (holds self.now c) held ≡ true) × IsStretch self.now held s.start s.end
+            × IsAround self.now c s.start s.end) }
     {
         let place = self.place_of(u32::from(c));
         if (place % 2 == 1) != held {

@@ -6,7 +6,7 @@ use Rattle.icu_invlist.proofs.codepointinvlist.cpinvlist.CodePointInversionList.
 pub loop-c-init : goal.loop-c-init
 loop-c-init c = record {
   passed = back_start _ c.args.text.now _ _ c.utf8.text (cc) (cc);
-  stretch = λ n low high. absurd (let e = c.none-stretch.ensures in omega (arith, high));
+  stretch = λ n low high. absurd (let e = c.none-stretch.ensures.1 in omega (arith, high));
 }
 
 pub loop-c-preserved : goal.loop-c-preserved
