@@ -1,6 +1,6 @@
 //! Reads of cells in packed bytes, in forms that rustc optimizes well.
 #[cfg(not(feature = "proved-reads"))]
-use core::cmp::Ordering;
+use core::{cmp::Ordering, hint::select_unpredictable};
 
 /// Returns cell `i` of cells of `width` bytes, or `None` if there is none. Checks only the index.
 #[inline(always)]
@@ -107,45 +107,25 @@ pub(crate) fn searched(
     }
 }
 
-/// Searches ascending cells. Each step leaves a quarter, and adds up comparisons. An index past the end
-/// ends a loop: with a panic, its jumps take longer.
+/// Searches ascending cells. Each step leaves half of them, and no jump depends on a comparison. The
+/// compiler knows that both halves are in bounds, so no index is tested.
 #[cfg(not(feature = "proved-reads"))]
 #[inline(always)]
 fn searched_in<const WIDTH: usize>(
     cells: &[[u8; WIDTH]],
     compare: impl Fn(&[u8]) -> Ordering,
 ) -> Result<usize, usize> {
-    let at_most = |cell: &[u8; WIDTH]| usize::from(compare(cell).is_le());
-    let mut low = 0;
-    let mut size = cells.len();
-    while size > 3 {
-        let step = size / 4;
-        let Some(third) = cells.get(low + 3 * step) else {
-            break;
-        };
-        let Some(second) = cells.get(low + 2 * step) else {
-            break;
-        };
-        let Some(first) = cells.get(low + step) else {
-            break;
-        };
-        low += step * (at_most(first) + at_most(second) + at_most(third));
-        size -= 3 * step;
+    let mut left = cells;
+    while left.len() > 1 {
+        let half = left.len() / 2;
+        let (lower, upper) = (&left[..left.len() - half], &left[half..]);
+        left = select_unpredictable(compare(&upper[0]).is_le(), upper, lower);
     }
-    while size > 1 {
-        let Some(next) = cells.get(low + 1) else {
-            break;
-        };
-        low += at_most(next);
-        size -= 1;
-    }
-    match cells
-        .get(low)
-        .map_or(Ordering::Greater, |cell| compare(cell))
-    {
-        Ordering::Less => Err(low + 1),
-        Ordering::Equal => Ok(low),
-        Ordering::Greater => Err(low),
+    let place = (left.as_ptr().addr() - cells.as_ptr().addr()) / WIDTH;
+    match left.first().map_or(Ordering::Greater, |cell| compare(cell)) {
+        Ordering::Less => Err(place + 1),
+        Ordering::Equal => Ok(place),
+        Ordering::Greater => Err(place),
     }
 }
 
