@@ -1,15 +1,12 @@
 -- Bytes that do not start with a character, byte by byte.
-use Rattle.std.proofs.Common.{◌≡◌, ◌∙◌, ℕ, ◌+◌, ◌-◌, ◌*◌, ◌<◌, ◌≤◌, List, length, get_or, drop, ap, arith, inl, inr, Option, Some, None, encode_utf8}
+use Rattle.std.proofs.Common.{◌≡◌, ◌∙◌, ℕ, ◌+◌, ◌-◌, ◌*◌, ◌<◌, ◌≤◌, List, length, get_or, drop, ap, arith, inl, inr, Some, encode_utf8}
 use Rattle.std.specs.Prelude.{◌⊎◌}
-use Rattle.std.specs.Char.{IsScalar}
-use Rattle.std.specs.Option.{MatchOption, SomeIff}
 use Rattle.std.specs.Str.{StartsWithNoChar}
-use Rattle.std.proofs.Math.Utf8.{scalar_cases}
 use Rattle.std.proofs.lemmas.Bool.{cases_lt}
 use Rattle.std.proofs.lemmas.List.{length-append}
 use Rattle.icu_trie_text.specs.Inside.Trails.{IsHighOfFour, IsHighOfThree, IsNoTrail, IsTrail}
 use Rattle.icu_trie_text.specs.Utf8.{IsFirstPart, IsIllFormedPart}
-use Rattle.icu_trie_text.proofs.Utf8Table.{longer_than_three, longer_than_two, scalar_high}
+use Rattle.icu_trie_text.proofs.Utf8Table.{longer_than_three, longer_than_two}
 use Rattle.icu_trie_text.proofs.Utf8Parts.{bad_second_of_four, bad_second_of_three, four_found, not_first, not_fourth, not_second_of_two, not_third_of_four, not_third_of_three, part_of_ascii, three_found, two_found}
 
 -- A character at the start of the bytes.
@@ -91,24 +88,6 @@ module _ (bytes : List ℕ) (a b : ℕ) (lead : get_or bytes 0 0 ≡ 240 + a) (s
     | inl high ↦ (not_fourth bytes a b d lead s high t bad).no_character
     | inr low ↦ (bad_second_of_four bytes a b lead s low).no_character
   ]
-
-  pub short_four : (d f : ℕ) → (a * 64 + b) * 4096 + d * 64 + f < 0x10000 → StartsWithNoChar bytes
-  short_four d f h = (bad_second_of_four bytes a b lead s (λ g. omega (arith, h, g.0))).no_character
-
-  high_of_four : (d f : ℕ) → d < 64 → f < 64 → 0x10000 ≤ (a * 64 + b) * 4096 + d * 64 + f → IsScalar ((a * 64 + b) * 4096 + d * 64 + f)
-      → IsHighOfFour (a * 64 + b)
-  high_of_four d f ld lf l scalar = elim (scalar_cases ((a * 64 + b) * 4096 + d * 64 + f) scalar) [
-    | inl low ↦ absurd (omega (arith, low, l))
-    | inr far ↦ (omega arith, omega (arith, far.1))
-  ]
-
-  pub four_told : (d f : ℕ) (r : Option ℕ) → IsTrail bytes 2 d → IsTrail bytes 3 f → 0x10000 ≤ (a * 64 + b) * 4096 + d * 64 + f
-      → SomeIff r (IsScalar ((a * 64 + b) * 4096 + d * 64 + f)) ((a * 64 + b) * 4096 + d * 64 + f)
-      → MatchOption r (StartsWithNoChar bytes) (λ c. IsFirstPart bytes (Some c) 4)
-  four_told d f None t u l r = let td = t.six in let uf = u.six in
-      (bad_second_of_four bytes a b lead s
-      (λ g. let top = g.1 in r (scalar_high ((a * 64 + b) * 4096 + d * 64 + f) (omega arith) (omega arith)))).no_character
-  four_told d f (Some c) t u l r = rw r.1 (four_found bytes a b d f lead s (high_of_four d f t.six u.six l r.0) t u)
 
   pub no_four : (d : ℕ) → StartsWithNoChar bytes → IsHighOfFour (a * 64 + b) → IsTrail bytes 2 d → IsIllFormedPart bytes 3
   no_four d none high t = not_fourth bytes a b d lead s high t

@@ -17,6 +17,12 @@ IsNoTrail bytes place =
 abbrev pub LacksTrail : List ℕ → Type 0
 LacksTrail bytes = IsNoTrail bytes 1 ⊎ ((bits : ℕ) × IsTrail bytes 1 bits × IsNoTrail bytes 2)
 
+-- The same for the three bytes of a character of four after the first.
+abbrev pub LacksTrailOfThree : List ℕ → Type 0
+LacksTrailOfThree bytes = LacksTrail bytes
+    ⊎ ((second : ℕ) × (third : ℕ) × IsTrail bytes 1 second × IsTrail bytes 2 third
+    × IsNoTrail bytes 3)
+
 -- These can be the upper ten bits of a three-byte character, which its first two bytes contain:
 -- they are not those of an overlong sequence or a surrogate.
 abbrev pub IsHighOfThree : ℕ → Type 0

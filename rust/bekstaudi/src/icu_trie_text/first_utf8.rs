@@ -70,6 +70,19 @@ pub(crate) fn of_three(bytes: &[u8]) -> Option<char> {
     char::from_u32(block * 64 + place)
 }
 
+/// Returns the six bits of each of the three bytes after the first, or `None` if one of them is no
+/// trail byte. It takes one test.
+#[inline(always)]
+fn three_trails(bytes: &[u8]) -> Option<(u32, u32, u32)> {
+    let second = trail_of(bytes[1]);
+    let third = trail_of(bytes[2]);
+    let fourth = trail_of(bytes[3]);
+    if second | third | fourth >= 0x40 {
+        return None;
+    }
+    Some((second, third, fourth))
+}
+
 /// Returns the character at the start of the bytes, or `None` if there is none. The first byte is
 /// the lead byte of four, or greater. Overlong sequences and numbers above 0x10FFFF are not
 /// characters. The length is checked once, for all reads.
@@ -78,15 +91,12 @@ pub(crate) fn of_four(bytes: &[u8]) -> Option<char> {
     if bytes.len() < 4 {
         return None;
     }
-    let first = u32::from(bytes[0]) - 0xF0;
-    let second = trail_bits(bytes, 1)?;
-    let third = trail_bits(bytes, 2)?;
-    let fourth = trail_bits(bytes, 3)?;
-    let code_point = (first * 64 + second) * 4096 + third * 64 + fourth;
-    if code_point < 0x10000 {
+    let (second, third, fourth) = three_trails(bytes)?;
+    let high = (u32::from(bytes[0]) - 0xF0) * 64 + second;
+    if !is_high_of_four(high) {
         return None;
     }
-    char::from_u32(code_point)
+    char::from_u32(high * 4096 + third * 64 + fourth)
 }
 
 /// Returns true if these can be the upper ten bits of a three-byte character, which its first two
