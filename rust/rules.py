@@ -310,6 +310,23 @@ EDITS = {
             1,
         ),
     ],
+    # An iterator over a slice is two pointers, so a step changes one of them.
+    "icu_trie_text/utf8": [
+        (r"bytes: &'a \[u8\],\n(?: +\x01\d+\x03\n)+ +next: usize,", "rest: core::slice::Iter<'a, u8>,", 1),
+        (r"bytes,\n +next: 0,", "rest: bytes.iter(),", 1),
+        # The slice tests that the size is in bounds, and so `nth` need not.
+        (r"(?<=trie\.at\(at\.0, at\.1\)\), )size(?=\))", "bytes.len() - bytes[size..].len()", 1),
+        (r"(?s)    let lead = bytes\[0\];\n    if let Some\(value\) = trie\.ascii\(.*?\n    \}\n(?=    match character_item)", "", 1),
+        (
+            r"(?s)( +)if self\.next == self\.bytes\.len\(\) \{.*?self\.next \+= size;\n",
+            r"\1let bytes = self.rest.as_slice();\n\1let lead = *bytes.first()?;\n"
+            r"\1if let Some(value) = self.trie.ascii(u32::from(lead)) {\n\1    self.rest.next();\n"
+            r"\1    return Some((char::from(lead), value));\n\1}\n"
+            r"\1let (item, size) = first_item(&self.trie, bytes);\n"
+            r"\1self.rest.nth(size - 1);\n",
+            1,
+        ),
+    ],
     "icu_trie_text/indices": [
         (r"rest: &'a str,", "rest: core::str::Chars<'a>,", 1),
         (r"rest: text,", "rest: text.chars(),", 1),

@@ -1,5 +1,4 @@
 -- Definitions for the functions inside the crate and their proofs. No public contract uses them.
 pub mod Ascii
-pub mod FirstItem
 pub mod NearBlocks
 pub mod Trails

@@ -3,9 +3,8 @@ ghost use Rattle.std.specs.Prelude.{◌≡◌, ◌+◌, ◌*◌, ◌<◌, ℕ, L
 ghost use Rattle.std.specs.Iterator.{Drains, item_count};
 ghost use Rattle.std.specs.Option.{MatchOption};
 ghost use Rattle.std.specs.Str.{IsUtf8, StartsWithNoChar, chars};
-ghost use Rattle.icu_trie_text.specs.Inside.FirstItem.{TakesFirstPart};
 ghost use Rattle.icu_trie_text.specs.Utf8.{IsFirstPart};
-ghost use Rattle.icu_trie_text.specs.Utf8Values.{AreValuesOfBytes, GivesPart};
+ghost use Rattle.icu_trie_text.specs.Utf8Values.{AreValuesOfBytes, GivesPart, IsFirstItem};
 ghost use Rattle.icu_trie_text.specs.Values.{AreValuesOf};
 
 use crate::ascii::AsciiInPlace;
@@ -21,15 +20,20 @@ use std::marker::Model;
 #[derive(Debug, Drop)]
 pub struct ValuesOfUtf8<'a, T: TrieValue> {
     trie: AsciiInPlace<'a, T>,
-    rest: &'a [u8],
+    bytes: &'a [u8],
+    /// The index of the next part.
+    next: usize,
 }
 
 impl<'a, T: TrieValue> Model for ValuesOfUtf8<'a, T> {
+    ghost use Rattle.std.specs.Prelude.{◌≤◌, drop, length};
     ghost use Rattle.icu_trie_text.specs.Utf8Values.{BytesToValue};
 
     ghost Value = { BytesToValue T };
 
-    ghost view = { λ a. record { trie = a.trie; bytes = a.rest.now } };
+    ghost view = { λ a. record { trie = a.trie; bytes = drop a.next a.bytes.now } };
+
+    ghost invariant = { λ a. a.next ≤ length a.bytes.now };
 }
 
 /// Returns an iterator over the characters of the bytes in order, each with its value in the trie.
@@ -57,52 +61,40 @@ pub fn values_of_utf8<'a, T: TrieValue>(
 {
     ValuesOfUtf8 {
         trie: AsciiInPlace::new(trie),
-        rest: bytes,
+        bytes,
+        next: 0,
     }
 }
 
-/// Returns the item of a character, by its block of 64 and the index in it, and what follows it.
-/// The character is the first `size` of the bytes.
+/// Returns the item of a character, by its block of 64 and the index in it, and its size. The
+/// character is the first `size` of the bytes.
 #[inline(always)]
-fn item_of<'b, T: TrieValue>(
+fn item_of<T: TrieValue>(
     trie: &AsciiInPlace<'_, T>,
-    bytes: &'b [u8],
+    bytes: &[u8],
     at: (u32, u32),
     size: usize,
-) -> ((char, T), &'b [u8])
+) -> ((char, T), usize)
     requires place { at.1 < 64 }
     requires part { IsFirstPart bytes.now (Some (at.0 * 64 + at.1)) size }
-    ensures { TakesFirstPart trie.now bytes.now result.0 result.1.now }
+    ensures { IsFirstItem trie.now bytes.now result.0 result.1 }
 {
     // Without a jump, so that the compiler removes the character if the caller drops it.
     let c = char::from_u32(at.0 * 64 + at.1).unwrap_or(char::REPLACEMENT_CHARACTER);
-    ((c, trie.at(at.0, at.1)), &bytes[size..])
+    ((c, trie.at(at.0, at.1)), size)
 }
 
-/// Returns the item of a character of four bytes, and what follows it.
+/// Returns the item of the character at the start of the bytes, which are not empty, and its size.
+/// `None` if they do not start with a character. Each size has its own look-up, because what is
+/// known about its characters saves checks.
 #[inline(always)]
-fn item_of_four<'b, T: TrieValue>(
+fn character_item<T: TrieValue>(
     trie: &AsciiInPlace<'_, T>,
-    bytes: &'b [u8],
-    c: char,
-) -> ((char, T), &'b [u8])
-    requires { IsFirstPart bytes.now (Some c) 4 }
-    ensures { TakesFirstPart trie.now bytes.now result.0 result.1.now }
-{
-    ((c, trie.far(c)), &bytes[4..])
-}
-
-/// Returns the item of the character at the start of the bytes, which are not empty, and what
-/// follows it. `None` if they do not start with a character. Each size has its own look-up, because
-/// what is known about its characters saves checks.
-#[inline(always)]
-fn character_item<'b, T: TrieValue>(
-    trie: &AsciiInPlace<'_, T>,
-    bytes: &'b [u8],
-) -> Option<((char, T), &'b [u8])>
+    bytes: &[u8],
+) -> Option<((char, T), usize)>
     requires { 0 < length bytes.now }
     ensures { MatchOption result (StartsWithNoChar bytes.now)
-        (λ found. TakesFirstPart trie.now bytes.now found.0 found.1.now) }
+        (λ found. IsFirstItem trie.now bytes.now found.0 found.1) }
 {
     let lead = bytes[0];
     if lead < 0xE0 {
@@ -116,29 +108,24 @@ fn character_item<'b, T: TrieValue>(
     } else if lead < 0xF0 {
         Some(item_of(trie, bytes, place_of_three(bytes)?, 3))
     } else {
-        Some(item_of_four(trie, bytes, of_four(bytes)?))
+        let c = of_four(bytes)?;
+        Some(((c, trie.far(c)), 4))
     }
 }
 
-/// Returns the item of the first part of the bytes, which are not empty, and what follows it.
+/// Returns the item of the first part of the bytes, which are not empty, and the size of the part.
 #[inline(always)]
-fn first_item<'b, T: TrieValue>(
-    trie: &AsciiInPlace<'_, T>,
-    bytes: &'b [u8],
-) -> ((char, T), &'b [u8])
+fn first_item<T: TrieValue>(trie: &AsciiInPlace<'_, T>, bytes: &[u8]) -> ((char, T), usize)
     requires { 0 < length bytes.now }
-    ensures { TakesFirstPart trie.now bytes.now result.0 result.1.now }
+    ensures { IsFirstItem trie.now bytes.now result.0 result.1 }
 {
     let lead = bytes[0];
     if let Some(value) = trie.ascii(u32::from(lead)) {
-        return ((char::from(lead), value), &bytes[1..]);
+        return ((char::from(lead), value), 1);
     }
     match character_item(trie, bytes) {
         Some(found) => found,
-        None => {
-            let size = ill_formed_size(bytes);
-            (('\u{FFFD}', trie.error_value()), &bytes[size..])
-        }
+        None => (('\u{FFFD}', trie.error_value()), ill_formed_size(bytes)),
     }
 }
 
@@ -151,11 +138,11 @@ impl<'a, T: TrieValue> Iterator for ValuesOfUtf8<'a, T> {
 
     #[inline]
     fn next(&mut self) -> Option<(char, T)> {
-        if self.rest.is_empty() {
+        if self.next == self.bytes.len() {
             return None;
         }
-        let (item, rest) = first_item(&self.trie, self.rest);
-        self.rest = rest;
+        let (item, size) = first_item(&self.trie, &self.bytes[self.next..]);
+        self.next += size;
         Some(item)
     }
 }

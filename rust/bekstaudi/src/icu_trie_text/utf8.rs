@@ -13,7 +13,7 @@ use crate::icu_trie_text::first_utf8::{ill_formed_size, of_four, place_of_three,
 #[must_use = "iterators are lazy and do nothing unless consumed"]
 pub struct ValuesOfUtf8<'a, T: TrieValue> {
     trie: AsciiInPlace<'a, T>,
-    rest: &'a [u8],
+    rest: core::slice::Iter<'a, u8>,
 }
 
 /// Returns an iterator over the characters of the bytes in order, each with its value in the trie.
@@ -39,42 +39,32 @@ pub fn values_of_utf8<'a, T: TrieValue>(
 ) -> ValuesOfUtf8<'a, T> {
     ValuesOfUtf8 {
         trie: AsciiInPlace::new(trie),
-        rest: bytes,
+        rest: bytes.iter(),
     }
 }
 
-/// Returns the item of a character, by its block of 64 and the index in it, and what follows it.
-/// The character is the first `size` of the bytes.
+/// Returns the item of a character, by its block of 64 and the index in it, and its size. The
+/// character is the first `size` of the bytes.
 #[inline(always)]
-fn item_of<'b, T: TrieValue>(
+fn item_of<T: TrieValue>(
     trie: &AsciiInPlace<'_, T>,
-    bytes: &'b [u8],
+    bytes: &[u8],
     at: (u32, u32),
     size: usize,
-) -> ((char, T), &'b [u8]) {
+) -> ((char, T), usize) {
     // Without a jump, so that the compiler removes the character if the caller drops it.
     let c = char::from_u32(at.0 * 64 + at.1).unwrap_or(char::REPLACEMENT_CHARACTER);
-    ((c, trie.at(at.0, at.1)), &bytes[size..])
+    ((c, trie.at(at.0, at.1)), bytes.len() - bytes[size..].len())
 }
 
-/// Returns the item of a character of four bytes, and what follows it.
+/// Returns the item of the character at the start of the bytes, which are not empty, and its size.
+/// `None` if they do not start with a character. Each size has its own look-up, because what is
+/// known about its characters saves checks.
 #[inline(always)]
-fn item_of_four<'b, T: TrieValue>(
+fn character_item<T: TrieValue>(
     trie: &AsciiInPlace<'_, T>,
-    bytes: &'b [u8],
-    c: char,
-) -> ((char, T), &'b [u8]) {
-    ((c, trie.far(c)), &bytes[4..])
-}
-
-/// Returns the item of the character at the start of the bytes, which are not empty, and what
-/// follows it. `None` if they do not start with a character. Each size has its own look-up, because
-/// what is known about its characters saves checks.
-#[inline(always)]
-fn character_item<'b, T: TrieValue>(
-    trie: &AsciiInPlace<'_, T>,
-    bytes: &'b [u8],
-) -> Option<((char, T), &'b [u8])> {
+    bytes: &[u8],
+) -> Option<((char, T), usize)> {
     let lead = bytes[0];
     if lead < 0xE0 {
         if lead < 0x80 {
@@ -92,26 +82,17 @@ fn character_item<'b, T: TrieValue>(
     } else if lead < 0xF0 {
         Some(item_of(trie, bytes, place_of_three(bytes)?, 3))
     } else {
-        Some(item_of_four(trie, bytes, of_four(bytes)?))
+        let c = of_four(bytes)?;
+        Some(((c, trie.far(c)), 4))
     }
 }
 
-/// Returns the item of the first part of the bytes, which are not empty, and what follows it.
+/// Returns the item of the first part of the bytes, which are not empty, and the size of the part.
 #[inline(always)]
-fn first_item<'b, T: TrieValue>(
-    trie: &AsciiInPlace<'_, T>,
-    bytes: &'b [u8],
-) -> ((char, T), &'b [u8]) {
-    let lead = bytes[0];
-    if let Some(value) = trie.ascii(u32::from(lead)) {
-        return ((char::from(lead), value), &bytes[1..]);
-    }
+fn first_item<T: TrieValue>(trie: &AsciiInPlace<'_, T>, bytes: &[u8]) -> ((char, T), usize) {
     match character_item(trie, bytes) {
         Some(found) => found,
-        None => {
-            let size = ill_formed_size(bytes);
-            (('\u{FFFD}', trie.error_value()), &bytes[size..])
-        }
+        None => (('\u{FFFD}', trie.error_value()), ill_formed_size(bytes)),
     }
 }
 
@@ -120,11 +101,14 @@ impl<'a, T: TrieValue> Iterator for ValuesOfUtf8<'a, T> {
 
     #[inline]
     fn next(&mut self) -> Option<(char, T)> {
-        if self.rest.is_empty() {
-            return None;
+        let bytes = self.rest.as_slice();
+        let lead = *bytes.first()?;
+        if let Some(value) = self.trie.ascii(u32::from(lead)) {
+            self.rest.next();
+            return Some((char::from(lead), value));
         }
-        let (item, rest) = first_item(&self.trie, self.rest);
-        self.rest = rest;
+        let (item, size) = first_item(&self.trie, bytes);
+        self.rest.nth(size - 1);
         Some(item)
     }
 
