@@ -279,19 +279,31 @@ EDITS = {
             "T::from_unaligned(cell_of_first(self.values.as_bytes(), T::WIDTH, self.end as usize, c as usize)?)",
             1,
         ),
+        # An iterator from the end has a character, as std's iterators over text return it.
+        (
+            r"(?s)(?: +\x01\d+\x03\n)+( +)#\[inline\(always\)\]\n +pub\(crate\) fn get32.*?\n    \}\n\n",
+            r"\1/// Returns the value of a character.\n\1#[inline(always)]\n\1pub(crate) fn get(&self, c: char) -> T {\n"
+            r"\1    let c = u32::from(c);\n\1    self.at(c / 64, c % 64)\n\1}\n\n",
+            1,
+        ),
         (r"(?=use icu_zerovec)", "use crate::support::cells::{cell_of_first, usual_cell};\n", 1),
     ],
     # The characters that are left: rustc tests whether a slice of a text starts at a character.
     "icu_trie_text/first": [
         (
-            r"(?s)(?:\x01\d+\x03\n)+#\[inline\(always\)\]\nfn first_character.*?\n\}\n.*?\n\}\n\n(?:\x01\d+\x03\n)+(?=#\[inline\(always\)\]\npub\(crate\) fn first_value)",
+            r"(?s)(?:\x01\d+\x03\n)+#\[inline\(always\)\]\nfn after_ascii.*?(?=(?:\x01\d+\x03\n)+#\[inline\(always\)\]\npub\(crate\) fn first_value)",
+            "",
+            1,
+        ),
+        (
+            r"(?s)(?:\x01\d+\x03\n)+(?=#\[inline\(always\)\]\npub\(crate\) fn first_value)",
             "/// Returns the first of these characters with its value, and passes it.\n",
             1,
         ),
         (r"text: &'t str", "text: &mut Chars<'t>", 1),
         (r"Option<\(\(char, T\), &'t str\)>", "Option<(char, T)>", 1),
         (
-            r"(?s)    if let Some\(lead\) = text\.as_bytes.*?\n\}\n",
+            r"(?s)    let lead = \*text\.as_bytes.*?\n\}\n",
             "    let first = text.next()?;\n"
             "    match trie.ascii(u32::from(first)) {\n"
             "        Some(value) => Some((first, value)),\n"

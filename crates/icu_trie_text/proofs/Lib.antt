@@ -6,6 +6,7 @@ pub mod CopiedLemmas
 pub mod FoundLemmas
 pub mod IndexLemmas
 pub mod NearLemmas
+pub mod TextLemmas
 pub mod Utf16Lemmas
 pub mod Utf8Absent
 pub mod Utf8Bytes

@@ -108,13 +108,14 @@ impl<'a, T: TrieValue> AsciiInPlace<'a, T> {
         self.trie.get32(block * 64 + place)
     }
 
-    /// Returns the value of a character.
+    /// Returns the value of a code point, for those that take four bytes: no fast index has their
+    /// blocks.
     #[inline(always)]
-    pub(crate) fn get(&self, c: char) -> T
+    pub(crate) fn get32(&self, c: u32) -> T
+        requires { c < 0x110000 }
         ensures { Some result ≡ trie_value self.now c }
     {
-        let c = u32::from(c);
-        self.at(c / 64, c % 64)
+        self.trie.get32(c)
     }
 
     /// Returns the value of a character, for those of four bytes: no fast index has their blocks.
