@@ -47,6 +47,7 @@ INSIDE = (
     " CodePointInversionList::from_valid_slice fast_place_of"
     " high_place_of look_up_whole NumberMap::set_range NumberMap::repeats NumberMap::copy_block"
     " NumberMap::get NumberMap::find_other CellStore::new CellStore::find CellStore::place build_index"
+    " copy_characters"
 ).split() + ["trait PartValues::ascii", "trait PartValues::near"]
 # Functions whose `requires` need not hold: an iterator without an end runs until an allocation
 # fails, and a closure that does not return does not return here either.
@@ -311,7 +312,7 @@ EDITS = {
             "    }\n}\n",
             1,
         ),
-        (r"(?=use icu_trie_core)", "use core::str::Chars;\n", 1),
+        (r"use crate::places::\{[^}]*\};\n", "use core::str::Chars;\n", 1),
     ],
     "icu_trie_text/values": [
         (r"rest: &'a str,", "rest: core::str::Chars<'a>,", 1),
@@ -361,14 +362,13 @@ EDITS = {
             r"for (value, byte) in values[j..j + 8].iter_mut().zip(bytes) {\n\1*value = trie.ascii(byte & 0x7F);",
             1,
         ),
-        # rustc knows that no write changes the table, so it needs no loop that reads a copy of it.
-        (r"(?s) +if are_ascii\(rest\) \{\n.*?(?= +continue;)", "", 1),
         (
-            r"(?s)(?:\x01\d+\x03\n)+#\[inline\(always\)\]\nfn are_ascii.*?"
-            r"(?=(?:\x01\d+\x03\n)+#\[inline\(always\)\]\npub\(crate\) fn put_eight)",
-            "",
+            r"for k in 0\.\.16 \{\n( +)values\[j \+ k\] = trie\.ascii\(bytes\[i \+ k\]\);",
+            r"for (value, byte) in values[j..j + 16].iter_mut().zip(&bytes[i..i + 16]) {\n\1*value = trie.ascii(*byte);",
             1,
         ),
+        # rustc knows that no write changes the table, so it needs no loop that reads a copy of it.
+        (r"(?s) +if are_ascii\(rest\) \{\n.*?(?= +continue;)", "", 1),
         (
             r"(?s)(?:\x01\d+\x03\n)+#\[inline\(never\)\]\npub\(crate\) fn copy_ascii.*?"
             r"(?=(?:\x01\d+\x03\n)+#\[inline\(always\)\]\nfn first_character)",
@@ -577,7 +577,13 @@ EDITS = {
         ),
     ],
     "icu_trie/lib": [(r"(?m)^(?=pub use icu_trie_core::\{)", "#[allow(unused_imports)] // Tests use them.\n", 1)],
-    "icu_trie_text/lib": [(r"(?m)^(?=(?:pub )?mod characters;)", "#[allow(dead_code)] // The C library uses it.\n", 1)],
+    "icu_trie_text/lib": [
+        (
+            r"(?m)^(?=(?:pub )?mod (?:characters|copy_characters|places);)",
+            "#[allow(dead_code)] // The C library uses it.\n",
+            3,
+        ),
+    ],
     "icu_trie_binary/binary": [(r"\(\((high_start) \+ 0xfff\) / (0x1000)\)", r"\1.div_ceil(\2)", 1)],
     "icu_char16trie_builder/sorted": [(r"key: \*key,", "key,", 1)],
     # The map is searched once for each key that is added.

@@ -17,6 +17,7 @@ use crate::status::Refusal;
 use crate::tries::{Trie, header_of, value_of};
 use crate::well_formed::{count_of_characters, is_utf8};
 use icu_trie_core::header::CodePointTrieHeader;
+use icu_trie_text::copy_characters::copy_characters;
 use icu_trie_text::copy_parts::{Copied, PartValues, copy_parts};
 use icu_trie_text::first_utf16::first_code_point;
 use icu_zerovec::CODE_POINT_LIMIT;
@@ -202,6 +203,19 @@ fn copy_to<T: UnsignedValue>(
     copied.values
 }
 
+/// Writes the values of the characters of UTF-8 to the start of a buffer, as many as fit. The value
+/// is `none` if the trie has no cell at all.
+#[inline(never)]
+fn copy_utf8<T: UnsignedValue>(trie: &Trie<'_>, text: &[u8], values: &mut [T], none: T) -> Copied
+    requires { IsUtf8 text.now }
+    ensures { IsCopiedText
+        (λ c. unwrap_or (trie_value (parts_in T.unpack T.WIDTH trie.now) c) none)
+        text.now values.old values.new result.values result.bytes }
+{
+    let parts = text_values(trie, none);
+    copy_characters(&parts, text, values)
+}
+
 /// Writes the values of the characters of a text to the start of a buffer, as many as fit, and
 /// returns how many characters there are. The value is `none` if the trie has no cell at all.
 #[inline(always)]
@@ -214,7 +228,7 @@ fn write_text<T: UnsignedValue>(trie: &Trie<'_>, text: &[u8], values: &mut [T], 
         (map (λ c. unwrap_or (trie_value (parts_in T.unpack T.WIDTH trie.now) c) none)
         (chars text.now)) values.old }
 {
-    let copied = copy_text(trie, text, values, none);
+    let copied = copy_utf8(trie, text, values, none);
     if copied.bytes < text.len() {
         return count_of_characters(text);
     }

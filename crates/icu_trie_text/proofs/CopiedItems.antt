@@ -1,8 +1,8 @@
 -- The items of the parts that were copied, and of a text.
-use Rattle.std.proofs.Common.{◌≡◌, ◌∙◌, sym, ap, refl, ℕ, ◌+◌, ◌≤◌, List, [], ◌∷◌, ◌++◌, map, length, take, drop, Option, Some, None, arith, inl, inr}
+use Rattle.std.proofs.Common.{◌≡◌, ◌∙◌, sym, ap, refl, ℕ, zero, suc, ◌+◌, ◌<◌, ◌≤◌, List, [], ◌∷◌, ◌++◌, map, length, get_or, take, drop, Option, Some, None, arith, inl, inr}
 use Rattle.std.specs.Option.{unwrap_or}
 use Rattle.std.specs.Str.{IsUtf8, chars, encode_utf8_all}
-use Rattle.std.proofs.lemmas.List.{drop-drop, length-drop, length-map, length-take-le, take-append-drop}
+use Rattle.std.proofs.lemmas.List.{drop-drop, get_or-drop, length-drop, length-map, length-take-le, take-append-drop}
 use Rattle.std.proofs.lemmas.Str.{IsUtf8-past_char, chars_past_char, encodes-chars}
 use Rattle.icu_trie.specs.Parts.{Parts}
 use Rattle.icu_trie_text.specs.Copied.{AreFirstValues, IsCopied}
@@ -11,7 +11,7 @@ use Rattle.icu_trie_text.specs.Utf8.{IsFirstPart}
 use Rattle.icu_trie_text.specs.Utf8Values.{AreValuesOfBytes, part_value}
 use Rattle.icu_trie_text.specs.Values.{AreValuesOf}
 use Rattle.icu_trie_text.specs.declared.copy_parts.Copied.{Copied}
-use Rattle.icu_trie_text.proofs.Utf8Parts.{part_size}
+use Rattle.icu_trie_text.proofs.Utf8Parts.{part_of_ascii, part_size}
 use Rattle.icu_trie_text.proofs.Utf8ValueLemmas.{some_begins, values_of_text}
 
 nothing : (bs : List ℕ) → length bs ≤ 0 → bs ≡ []
@@ -25,6 +25,17 @@ pub text_next : (bytes : List ℕ) (part : Option ℕ) (n : ℕ) → IsUtf8 byte
 text_next bytes None n u p = absurd (some_begins bytes u.0 u.1.0 u.1.1 (omega (arith, p.some, p.within)) p.no_character)
 text_next bytes (Some d) n u p =
     (d, refl, (IsUtf8-past_char bytes (drop n bytes) d u p.2, chars_past_char bytes (drop n bytes) d u p.2))
+
+-- What follows ASCII characters of a text is a text.
+pub ascii_left : (bytes : List ℕ) (n : ℕ) → IsUtf8 bytes → n ≤ length bytes → ((k : ℕ) → k < n → get_or bytes k 0 < 128)
+    → IsUtf8 (drop n bytes)
+ascii_left bytes zero u l a = u
+ascii_left bytes (suc n) u l a =
+    let first = part_of_ascii bytes (omega (arith, l)) (a 0 (omega arith)) in
+    let others = ascii_left (drop 1 bytes) n (text_next bytes (Some (get_or bytes 0 0)) 1 u first).2.0 (omega (arith, l, length-drop 1 bytes))
+    (λ k h. rw (get_or-drop 1 bytes k 0) (a (1 + k) (omega (arith, h)))) in
+    let size : 1 + n ≡ suc n = omega arith in
+    rw (drop-drop n 1 bytes, size) at others
 
 no_more : (bytes : List ℕ) → IsUtf8 bytes → length (chars bytes) ≤ 0 → bytes ≡ []
 no_more bytes u h = sym (encodes-chars bytes u) ∙ ap (λ (cs : List ℕ). encode_utf8_all cs) (nothing (chars bytes) h)

@@ -1,5 +1,5 @@
 //! The values of the parts of bytes that may be ill-formed UTF-8, written to a buffer.
-ghost use Rattle.std.specs.Prelude.{◌≡◌, ◌⊎◌, ℕ, ◌+◌, ◌*◌, ◌<◌, ◌≤◌, length, slice_get, slice_index, IfSome, IsTrue, Option, Some, None};
+ghost use Rattle.std.specs.Prelude.{◌≡◌, ◌⊎◌, ℕ, ◌+◌, ◌*◌, ◌<◌, ◌≤◌, length, drop, slice_get, slice_index, IfSome, IsTrue, Option, Some, None};
 ghost use Rattle.std.specs.Int.{w64, from_le_bytes};
 ghost use Rattle.std.specs.Option.{MatchOption};
 ghost use Rattle.std.specs.Str.{StartsWithNoChar};
@@ -98,7 +98,7 @@ pub(crate) fn ascii_count(bytes: &[u8]) -> usize
 
 /// Returns true if the first sixteen bytes are ASCII.
 #[inline(always)]
-fn are_ascii(bytes: &[u8]) -> bool
+pub(crate) fn are_ascii(bytes: &[u8]) -> bool
     requires { 16 ≤ length bytes.now }
     ensures { IsTrue result → (k : ℕ) → k < 16 → slice_index bytes.now k < 0x80 }
 {
@@ -128,8 +128,36 @@ pub(crate) fn put_eight<T: Copy, V: PartValues<T>>(
     }
 }
 
-/// Writes more values, as long as sixteen bytes at a time are ASCII and much of the buffer is left.
-/// It is a call, so that it keeps its registers.
+/// Writes the values of the next sixteen bytes, which are ASCII.
+#[inline(always)]
+pub(crate) fn copy_sixteen<T: Copy, V: PartValues<T>>(
+    trie: &V,
+    bytes: &[u8],
+    values: &mut [T],
+    front: Copied,
+) -> Copied
+    requires ascii { V.end_of_ascii trie.now ≡ 0x80 }
+    requires bytes { front.bytes + 16 ≤ length bytes.now }
+    requires room { front.values + 16 ≤ length values.old }
+    requires sixteen { (k : ℕ) → k < 16 → slice_index (drop front.bytes bytes.now) k < 0x80 }
+    ensures size { result.bytes ≡ front.bytes + 16 }
+    ensures count { result.values ≡ front.values + 16 }
+    ensures copied { (old : _) → AreCopiedParts (V.gives trie.now) bytes.now old values.old
+        front.bytes front.values
+        → AreCopiedParts (V.gives trie.now) bytes.now old values.new result.bytes result.values }
+{
+    let (i, j) = (front.bytes, front.values);
+    for k in 0..16 {
+        values[j + k] = trie.ascii(bytes[i + k]);
+    }
+    Copied {
+        values: j + 16,
+        bytes: i + 16,
+    }
+}
+
+/// Writes more values, as long as sixteen bytes at a time are ASCII and their values fit. It is a
+/// call, so that it keeps its registers.
 #[inline(never)]
 pub(crate) fn copy_ascii<T: Copy, V: PartValues<T>>(
     trie: &V,
@@ -148,24 +176,14 @@ pub(crate) fn copy_ascii<T: Copy, V: PartValues<T>>(
 {
     // LLVM reads the addresses in a copy once: no write to the buffer can change it.
     let table = *trie;
-    let mut i = front.bytes;
-    let mut j = front.values;
-    while bytes.len() - i >= BYTES_AHEAD + 8 && values.len() - j >= ROOM_AHEAD + 8 {
-        if !are_ascii(&bytes[i..]) {
-            return Copied {
-                values: j,
-                bytes: i,
-            };
+    let mut done = front;
+    while bytes.len() - done.bytes >= 16 && values.len() - done.values >= 16 {
+        if !are_ascii(&bytes[done.bytes..]) {
+            return done;
         }
-        put_eight(&table, &bytes[i..], values, j);
-        put_eight(&table, &bytes[i + 8..], values, j + 8);
-        i += 16;
-        j += 16;
+        done = copy_sixteen(&table, bytes, values, done);
     }
-    Copied {
-        values: j,
-        bytes: i,
-    }
+    done
 }
 
 /// Returns the character at the start of the bytes, which are not empty, and its size in bytes.

@@ -1,5 +1,4 @@
-//! The first character of a text with its value, and what follows it. A text is well-formed, so no
-//! trail byte is tested.
+//! The first character of a text with its value, and what follows it.
 ghost use Rattle.std.specs.Prelude.{◌≡◌, ◌+◌, ◌*◌, ◌<◌, ◌≤◌, [], Some, length, slice_index};
 ghost use Rattle.std.specs.Option.{MatchOption};
 ghost use Rattle.std.specs.Str.{chars};
@@ -8,6 +7,7 @@ ghost use Rattle.icu_trie_text.specs.FirstCharacter.{IsFirstCharacter, IsFirstVa
 ghost use Rattle.icu_trie_text.specs.Utf8.{IsFirstPart};
 
 use crate::ascii::AsciiInPlace;
+use crate::places::{number_of_four, place_of_three, place_of_two};
 use icu_trie_core::value::TrieValue;
 
 /// Returns what follows the first character of a text that starts with an ASCII character.
@@ -18,54 +18,6 @@ fn after_ascii(text: &str) -> &str
     ensures { IsFirstCharacter text.now (slice_index text.now 0) result.now }
 {
     &text[1..]
-}
-
-/// Returns the block of 64 code points and the index in it of the first character of a text. The
-/// first byte is the lead byte of two.
-#[inline(always)]
-fn place_of_two(text: &str) -> (u32, u32)
-    requires some { 0 < length text.now }
-    requires from { 0x80 ≤ slice_index text.now 0 }
-    requires to { slice_index text.now 0 < 0xE0 }
-    ensures place { result.1 < 64 }
-    ensures part { IsFirstPart text.now (Some (result.0 * 64 + result.1)) 2 }
-{
-    let bytes = text.as_bytes();
-    let first = u32::from(bytes[0]) - 0xC0;
-    let second = u32::from(bytes[1] % 64);
-    (first, second)
-}
-
-/// Returns the block of 64 code points and the index in it of the first character of a text. The
-/// first byte is the lead byte of three.
-#[inline(always)]
-fn place_of_three(text: &str) -> (u32, u32)
-    requires some { 0 < length text.now }
-    requires from { 0xE0 ≤ slice_index text.now 0 }
-    requires to { slice_index text.now 0 < 0xF0 }
-    ensures place { result.1 < 64 }
-    ensures part { IsFirstPart text.now (Some (result.0 * 64 + result.1)) 3 }
-{
-    let bytes = text.as_bytes();
-    let first = u32::from(bytes[0]) - 0xE0;
-    let second = u32::from(bytes[1] % 64);
-    let third = u32::from(bytes[2] % 64);
-    (first * 64 + second, third)
-}
-
-/// Returns the number of the first character of a text. The first byte is the lead byte of four.
-#[inline(always)]
-fn number_of_four(text: &str) -> u32
-    requires some { 0 < length text.now }
-    requires from { 0xF0 ≤ slice_index text.now 0 }
-    ensures { IsFirstPart text.now (Some result) 4 }
-{
-    let bytes = text.as_bytes();
-    let first = u32::from(bytes[0]) - 0xF0;
-    let second = u32::from(bytes[1] % 64);
-    let third = u32::from(bytes[2] % 64);
-    let fourth = u32::from(bytes[3] % 64);
-    (first * 64 + second) * 4096 + third * 64 + fourth
 }
 
 /// Returns the character with this number and this value in the trie, and what follows it. It is
@@ -94,19 +46,20 @@ fn wide_value<'t, T: TrieValue>(trie: &AsciiInPlace<'_, T>, text: &'t str) -> ((
     requires { 0 < length text.now }
     ensures { IsFirstValue trie.now text.now result.0 result.1.now }
 {
-    let lead = text.as_bytes()[0];
+    let bytes = text.as_bytes();
+    let lead = bytes[0];
     if lead < 0xE0 {
         if lead < 0x80 {
             let c = u32::from(lead);
             return item_of(trie, text, c, trie.at(c / 64, c % 64), 1);
         }
-        let (block, place) = place_of_two(text);
+        let (block, place) = place_of_two(bytes);
         item_of(trie, text, block * 64 + place, trie.at(block, place), 2)
     } else if lead < 0xF0 {
-        let (block, place) = place_of_three(text);
+        let (block, place) = place_of_three(bytes);
         item_of(trie, text, block * 64 + place, trie.at(block, place), 3)
     } else {
-        let c = number_of_four(text);
+        let c = number_of_four(bytes);
         item_of(trie, text, c, trie.get32(c), 4)
     }
 }

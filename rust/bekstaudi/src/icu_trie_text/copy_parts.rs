@@ -76,6 +76,14 @@ pub(crate) fn ascii_count(bytes: &[u8]) -> usize {
     high.trailing_zeros() as usize / 8
 }
 
+/// Returns true if the first sixteen bytes are ASCII.
+#[inline(always)]
+pub(crate) fn are_ascii(bytes: &[u8]) -> bool {
+    let first = word_of(bytes) & HIGH_BITS;
+    let second = word_of(&bytes[8..]) & HIGH_BITS;
+    first | second == 0
+}
+
 /// Writes eight values from index `j` on: those of the first eight bytes that are ASCII.
 #[inline(always)]
 pub(crate) fn put_eight<T: Copy, V: PartValues<T>>(
@@ -86,6 +94,24 @@ pub(crate) fn put_eight<T: Copy, V: PartValues<T>>(
 ) {
     for (value, byte) in values[j..j + 8].iter_mut().zip(bytes) {
         *value = trie.ascii(byte & 0x7F);
+    }
+}
+
+/// Writes the values of the next sixteen bytes, which are ASCII.
+#[inline(always)]
+pub(crate) fn copy_sixteen<T: Copy, V: PartValues<T>>(
+    trie: &V,
+    bytes: &[u8],
+    values: &mut [T],
+    front: Copied,
+) -> Copied {
+    let (i, j) = (front.bytes, front.values);
+    for (value, byte) in values[j..j + 16].iter_mut().zip(&bytes[i..i + 16]) {
+        *value = trie.ascii(*byte);
+    }
+    Copied {
+        values: j + 16,
+        bytes: i + 16,
     }
 }
 

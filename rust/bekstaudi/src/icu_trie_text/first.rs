@@ -1,5 +1,4 @@
-//! The first character of a text with its value, and what follows it. A text is well-formed, so no
-//! trail byte is tested.
+//! The first character of a text with its value, and what follows it.
 
 use crate::icu_trie_core::value::TrieValue;
 use crate::icu_trie_text::ascii::AsciiInPlace;

@@ -15,12 +15,16 @@
 //! - `copy`: the values of bytes that may be ill-formed UTF-8, copied to a buffer
 //! - `copy_parts`: the loop of `copy`, over values from anywhere, for the crates that build on this
 //!   one; [`Copied`](copy_parts::Copied), what it returns
+//! - `copy_characters`: the same loop for well-formed UTF-8
+//! - `places`: where the first character of a text has its value
 //! - `ascii`: tries whose data start with the values of ASCII
 
 mod ascii;
 #[allow(dead_code)] // The C library uses it.
 pub mod characters;
 mod copy;
+#[allow(dead_code)] // The C library uses it.
+pub mod copy_characters;
 pub mod copy_parts;
 mod find;
 mod first;
@@ -28,6 +32,8 @@ pub mod first_utf16;
 mod first_utf8;
 mod found;
 mod indices;
+#[allow(dead_code)] // The C library uses it.
+mod places;
 pub mod text;
 mod utf16;
 mod utf8;

@@ -10,20 +10,20 @@ use Rattle.icu_collections_c.proofs.texts.write_text.Goals as goal
 pub returns-then-copied-text-clause-values : goal.returns-then-copied-text-clause-values
 returns-then-copied-text-clause-values g c =
     copied_text (λ (u : ℕ). unwrap_or (trie_value (parts_in g.T.AsULE.unpack g.T.AsULE.WIDTH c.args.trie.now) u) c.args.none)
-    c.args.text.now c.args.values.now c.copy_text-copied.new.values c.copy_text-copied.result.values c.copy_text-copied.result.bytes
-    c.requires c.copy_text-copied.ensures
+    c.args.text.now c.args.values.now c.copy_utf8-copied.new.values c.copy_utf8-copied.result.values c.copy_utf8-copied.result.bytes
+    c.requires c.copy_utf8-copied.ensures
 
 pub returns-clause-values : goal.returns-clause-values
 returns-clause-values g c =
     copied_text (λ (u : ℕ). unwrap_or (trie_value (parts_in g.T.AsULE.unpack g.T.AsULE.WIDTH c.args.trie.now) u) c.args.none)
-    c.args.text.now c.args.values.now c.copy_text-copied.new.values c.copy_text-copied.result.values c.copy_text-copied.result.bytes
-    c.requires c.copy_text-copied.ensures
+    c.args.text.now c.args.values.now c.copy_utf8-copied.new.values c.copy_utf8-copied.result.values c.copy_utf8-copied.result.bytes
+    c.requires c.copy_utf8-copied.ensures
 
 pub returns-clause-count : goal.returns-clause-count
 returns-clause-count g c =
     copied_count (λ (u : ℕ). unwrap_or (trie_value (parts_in g.T.AsULE.unpack g.T.AsULE.WIDTH c.args.trie.now) u) c.args.none)
-    c.args.text.now c.args.values.now c.copy_text-copied.new.values c.copy_text-copied.result.values c.copy_text-copied.result.bytes
-    c.requires c.copy_text-copied.ensures (omega (arith, c.if-copied-text.false))
+    c.args.text.now c.args.values.now c.copy_utf8-copied.new.values c.copy_utf8-copied.result.values c.copy_utf8-copied.result.bytes
+    c.requires c.copy_utf8-copied.ensures (omega (arith, c.if-copied-text.false))
 
 pub returns-clause-bound : goal.returns-clause-bound
 returns-clause-bound g c =

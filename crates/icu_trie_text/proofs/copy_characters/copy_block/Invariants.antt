@@ -1,0 +1,20 @@
+use Rattle.std.proofs.Common.{◌≡◌, ◌+◌, ◌-◌, ◌≤◌, drop, length}
+use Rattle.std.specs.Str.{IsUtf8}
+use Rattle.icu_trie_text.specs.CopiedParts.{AreCopiedParts}
+use Rattle.icu_trie_text.proofs.CopiedLemmas.{AreCopiedUpTo}
+use Rattle.icu_trie_text.proofs.copy_characters.copy_block.Given as goal
+
+abbrev pub invariant-loop-rest : goal.invariant-loop-rest
+invariant-loop-rest g l = record {
+  inside : length l.rest ≤ length l.text;
+  left : l.rest ≡ drop (length l.text - length l.rest) l.text;
+  text : IsUtf8 l.rest;
+  more : l.j + length l.rest + l.fn.front.bytes ≤ l.fn.front.values + length l.text;
+  size : length l.values ≡ length l.initial.values;
+  copied : (old : _)
+      → AreCopiedParts (g.V.PartValues.gives l.trie) l.text old l.initial.values l.fn.front.bytes l.fn.front.values
+      → AreCopiedUpTo (g.V.PartValues.gives l.trie) l.text old l.values l.rest l.j;
+}
+
+abbrev pub decreases-loop-rest : goal.decreases-loop-rest
+decreases-loop-rest g l = length l.values - l.j
