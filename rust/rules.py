@@ -350,7 +350,7 @@ EDITS = {
             1,
         ),
     ],
-    # Eight bytes in one read, and eight values with one check of the buffer.
+    # Eight bytes in one read, and sixteen values with one check of the buffer.
     "icu_trie_text/copy_parts": [
         (
             r"(?s)    u64::from_le_bytes\(\[.*?\]\)\n",
@@ -358,23 +358,12 @@ EDITS = {
             1,
         ),
         (
-            r"for k in 0\.\.8 \{\n( +)values\[j \+ k\] = trie\.ascii\(bytes\[k\] & 0x7F\);",
-            r"for (value, byte) in values[j..j + 8].iter_mut().zip(bytes) {\n\1*value = trie.ascii(byte & 0x7F);",
-            1,
-        ),
-        (
             r"for k in 0\.\.16 \{\n( +)values\[j \+ k\] = trie\.ascii\(bytes\[i \+ k\]\);",
             r"for (value, byte) in values[j..j + 16].iter_mut().zip(&bytes[i..i + 16]) {\n\1*value = trie.ascii(*byte);",
             1,
         ),
-        # rustc knows that no write changes the table, so it needs no loop that reads a copy of it.
-        (r"(?s) +if are_ascii\(rest\) \{\n.*?(?= +continue;)", "", 1),
-        (
-            r"(?s)(?:\x01\d+\x03\n)+#\[inline\(never\)\]\npub\(crate\) fn copy_ascii.*?"
-            r"(?=(?:\x01\d+\x03\n)+#\[inline\(always\)\]\nfn first_character)",
-            "",
-            1,
-        ),
+    ],
+    "icu_trie_text/part_values": [
         (
             r"(fn near\(&self, block: u32, place: u32\) -> T;\n)",
             r"\1\n    /// Returns the same value, or `None` if the block is not one of [`blocks`](Self::blocks).\n"
@@ -383,6 +372,8 @@ EDITS = {
             r"        Some(self.near(block, place))\n    }\n",
             1,
         ),
+    ],
+    "icu_trie_text/any_bytes": [
         (
             r"if block >= trie\.blocks\(\) \{\s*return None;\s*\}\s*Some\(trie\.near\((block, third)\)\)",
             r"trie.near_below(\1)",
@@ -579,7 +570,7 @@ EDITS = {
     "icu_trie/lib": [(r"(?m)^(?=pub use icu_trie_core::\{)", "#[allow(unused_imports)] // Tests use them.\n", 1)],
     "icu_trie_text/lib": [
         (
-            r"(?m)^(?=(?:pub )?mod (?:characters|copy_characters|places);)",
+            r"(?m)^(?=(?:pub )?mod (?:characters|places|well_formed);)",
             "#[allow(dead_code)] // The C library uses it.\n",
             3,
         ),

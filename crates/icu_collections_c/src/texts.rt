@@ -17,9 +17,9 @@ use crate::status::Refusal;
 use crate::tries::{Trie, header_of, value_of};
 use crate::well_formed::{count_of_characters, is_utf8};
 use icu_trie_core::header::CodePointTrieHeader;
-use icu_trie_text::copy_characters::copy_characters;
-use icu_trie_text::copy_parts::{Copied, PartValues, copy_parts};
+use icu_trie_text::copy_parts::{Copied, copy_characters, copy_parts};
 use icu_trie_text::first_utf16::first_code_point;
+use icu_trie_text::part_values::PartValues;
 use icu_zerovec::CODE_POINT_LIMIT;
 use std::alloc::AllocError;
 

@@ -32,7 +32,8 @@ pub ascii_left : (bytes : List ℕ) (n : ℕ) → IsUtf8 bytes → n ≤ length 
 ascii_left bytes zero u l a = u
 ascii_left bytes (suc n) u l a =
     let first = part_of_ascii bytes (omega (arith, l)) (a 0 (omega arith)) in
-    let others = ascii_left (drop 1 bytes) n (text_next bytes (Some (get_or bytes 0 0)) 1 u first).2.0 (omega (arith, l, length-drop 1 bytes))
+    let next = text_next bytes (Some (get_or bytes 0 0)) 1 u first in
+    let others = ascii_left (drop 1 bytes) n next.2.0 (omega (arith, l, length-drop 1 bytes))
     (λ k h. rw (get_or-drop 1 bytes k 0) (a (1 + k) (omega (arith, h)))) in
     let size : 1 + n ≡ suc n = omega arith in
     rw (drop-drop n 1 bytes, size) at others

@@ -1,7 +1,7 @@
 -- Eight bytes in a word: the highest bit of each says whether it is ASCII.
-use Rattle.std.proofs.Common.{◌≡◌, ◌∙◌, sym, ap, refl, ℕ, zero, suc, ◌+◌, ◌-◌, ◌*◌, ◌/◌, ◌^◌, ◌<◌, List, get_or, min, bit_and, Fits, w8, arith}
-use Rattle.std.specs.Int.{w64, bit_at, from_le_bytes, trailing_zeros}
-use Rattle.std.proofs.lemmas.Nat.Bits.{bit_at_and, bit_at_cat_high, bit_at_cat_low, bit_at-trailing_zeros, bit_at-zero}
+use Rattle.std.proofs.Common.{◌≡◌, ◌∙◌, sym, ap, refl, ℕ, zero, suc, ◌+◌, ◌-◌, ◌*◌, ◌^◌, ◌<◌, List, get_or, min, bit_and, Fits, w8, arith}
+use Rattle.std.specs.Int.{w64, bit_at, from_le_bytes}
+use Rattle.std.proofs.lemmas.Nat.Bits.{bit_at_and, bit_at_cat_high, bit_at_cat_low, bit_at-zero}
 
 -- The number of n bytes from byte k on, the first one lowest.
 abbrev digits : (ℕ → ℕ) → ℕ → ℕ → ℕ
@@ -61,11 +61,3 @@ module _ (xs : List ℕ) (fits : (k : ℕ) → Fits w8 (get_or xs k 0)) where
   pub all_ascii : (high : ℕ) → high ≡ bit_and (from_le_bytes w64 xs) 0x8080_8080_8080_8080 → high ≡ 0
       → (i : ℕ) → i < 8 → get_or xs i 0 < 128
   all_ascii high e z i l = ascii_at i l (ap (λ w. bit_at w (8 * i + 7)) (sym e ∙ z) ∙ bit_at-zero (8 * i + 7))
-
-  -- The bytes below its lowest bit are ASCII.
-  pub front_ascii : (high : ℕ) → high ≡ bit_and (from_le_bytes w64 xs) 0x8080_8080_8080_8080 → 0 < high → high < 2 ^ 64
-      → (i : ℕ) → i < trailing_zeros w64 high / 8 → get_or xs i 0 < 128
-  front_ascii high e some fits i l =
-      let low = bit_at-trailing_zeros w64 high some fits in
-      let bound = low.0 in
-      ascii_at i (omega (arith, bound)) (ap (λ w. bit_at w (8 * i + 7)) (sym e) ∙ low.2 (8 * i + 7) (omega (arith, l)))

@@ -1,6 +1,6 @@
 -- Values of the first parts of bytes, as a function copies them to a buffer. `value` gives the
 -- value of a character, or for None that of an ill-formed part.
-use Rattle.std.specs.Prelude.{◌≡◌, ℕ, ◌+◌, ◌*◌, ◌-◌, ◌<◌, ◌≤◌, ◌⊎◌, List, [], ◌∷◌, length, take, drop, slice_get, Option, Some}
+use Rattle.std.specs.Prelude.{◌≡◌, ℕ, ◌+◌, ◌≤◌, ◌⊎◌, List, [], ◌∷◌, length, take, drop, slice_get, Option, Some}
 use Rattle.icu_trie_text.specs.Utf8.{IsFirstPart}
 use Rattle.icu_trie_text.specs.declared.copy_parts.Copied.{Copied}
 
@@ -33,13 +33,10 @@ module _ {T : Type 0} (value : Option ℕ → Option T) where
     pub rest : drop copied.values new ≡ drop copied.values old
     pub stops : (copied.values ≡ length old) ⊎ (copied.bytes ≡ length bytes)
 
-  -- The same after `size` bytes and `count` values, while copying goes on. Values past these may
-  -- be overwritten already, but only so many as the parts that are left are sure to overwrite: a
-  -- part has at most four bytes.
+  -- The same after `size` bytes and `count` values, while copying goes on.
   pub record AreCopiedParts (bytes : List ℕ) (old new : List T) (size count : ℕ) : Type 0 where
     pub taken : size ≤ length bytes
     pub within : count ≤ length old
     pub long : length new ≡ length old
     pub values : HaveFirstValues bytes (take count new) size
-    pub rest : (k : ℕ) → count ≤ k → length bytes < size + 4 * (k + 1 - count)
-        → slice_get new k ≡ slice_get old k
+    pub rest : (k : ℕ) → count ≤ k → slice_get new k ≡ slice_get old k

@@ -10,7 +10,8 @@ ghost use Rattle.icu_trie_text.specs.Utf8Values.{part_value};
 ghost use Rattle.icu_trie_text.specs.Values.{AreValuesOf};
 
 use crate::ascii::ascii_end;
-use crate::copy_parts::{Copied, PartValues, copy_parts};
+use crate::copy_parts::{Copied, copy_parts};
+use crate::part_values::PartValues;
 use icu_trie::cptrie::CodePointTrie;
 use icu_trie_core::value::TrieValue;
 use icu_zerovec::ZeroSlice;

@@ -15,15 +15,16 @@
 //! - `copy`: the values of bytes that may be ill-formed UTF-8, copied to a buffer
 //! - `copy_parts`: the loop of `copy`, over values from anywhere, for the crates that build on this
 //!   one; [`Copied`](copy_parts::Copied), what it returns
-//! - `copy_characters`: the same loop for well-formed UTF-8
-//! - `places`: where the first character of a text has its value
+//! - `part_values`: such values, and how the first of them is read
+//! - `any_bytes`, `well_formed`: the two ways to read it
+//! - `places`: the block of the first character of a text, and the index in it
 //! - `ascii`: tries whose data start with the values of ASCII
 #![tactic(auto)]
 
+mod any_bytes;
 mod ascii;
 pub mod characters;
 mod copy;
-pub mod copy_characters;
 pub mod copy_parts;
 mod find;
 mod first;
@@ -31,8 +32,10 @@ pub mod first_utf16;
 mod first_utf8;
 mod found;
 mod indices;
+pub mod part_values;
 mod places;
 pub mod text;
 mod utf16;
 mod utf8;
 mod values;
+mod well_formed;

@@ -1,5 +1,5 @@
-//! The places of the values of characters: blocks of 64 code points, and indices in them. The bytes
-//! are well-formed UTF-8, so no trail byte is tested.
+//! The block of 64 code points of a character, and the index in it. The bytes are well-formed
+//! UTF-8, so no trail byte is tested.
 ghost use Rattle.std.specs.Prelude.{◌≡◌, ◌+◌, ◌*◌, ◌<◌, ◌≤◌, Some, length, slice_index};
 ghost use Rattle.std.specs.Str.{IsUtf8};
 ghost use Rattle.icu_trie_text.specs.Utf8.{IsFirstPart};

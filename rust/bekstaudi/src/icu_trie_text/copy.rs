@@ -3,7 +3,8 @@
 use crate::icu_trie::cptrie::CodePointTrie;
 use crate::icu_trie_core::value::TrieValue;
 use crate::icu_trie_text::ascii::ascii_end;
-use crate::icu_trie_text::copy_parts::{Copied, PartValues, copy_parts};
+use crate::icu_trie_text::copy_parts::{Copied, copy_parts};
+use crate::icu_trie_text::part_values::PartValues;
 use crate::icu_zerovec::ZeroSlice;
 #[cfg(not(feature = "proved-reads"))]
 use crate::support::cells::cell_below;

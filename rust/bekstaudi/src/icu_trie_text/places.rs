@@ -1,5 +1,5 @@
-//! The places of the values of characters: blocks of 64 code points, and indices in them. The bytes
-//! are well-formed UTF-8, so no trail byte is tested.
+//! The block of 64 code points of a character, and the index in it. The bytes are well-formed
+//! UTF-8, so no trail byte is tested.
 
 /// Returns the block of 64 code points and the index in it of the first character of a text. The
 /// first byte is the lead byte of two.

@@ -17,5 +17,6 @@ returns g c =
     copied_by_parts
     (λ (u : ℕ). unwrap_or
     (trie_value (parts_from g.T.AsULE.unpack g.T.AsULE.WIDTH parts.header parts.index.now parts.cells.now) u) parts.none)
-    c.args.text.now c.args.values.now c.copy_characters.new.values c.copy_characters.result c.copy_characters.auto.values c.copy_characters.ensures in
+    c.args.text.now c.args.values.now c.copy_characters.new.values c.copy_characters.result c.copy_characters.auto.values
+    c.copy_characters.ensures in
     rw (known.header, known.index, known.cells, known.none) at by_parts

@@ -1,13 +1,13 @@
-use Rattle.std.proofs.Common.{◌≡◌, ◌-◌, ◌≤◌, length}
-use Rattle.icu_trie_text.proofs.CopiedLemmas.{AreCopiedUpTo}
+use Rattle.std.proofs.Common.{◌≡◌, true, ◌-◌, drop, length}
+use Rattle.std.specs.Str.{IsUtf8}
+use Rattle.icu_trie_text.specs.CopiedParts.{AreCopiedParts}
 use Rattle.icu_trie_text.proofs.copy_parts.copy_front.Given as goal
 
-abbrev pub invariant-loop-rest : goal.invariant-loop-rest
-invariant-loop-rest g l = record {
-  size : length l.values ≡ length l.initial.values;
-  room : l.j ≤ length l.values;
-  copied : AreCopiedUpTo (g.V.PartValues.gives l.trie) l.bytes l.initial.values l.values l.rest l.j;
+abbrev pub invariant-loop-front : goal.invariant-loop-front
+invariant-loop-front g l = record {
+  text : g.R.Reading.trusts ≡ true → IsUtf8 (drop l.front.bytes l.bytes);
+  copied : AreCopiedParts (g.V.PartValues.gives l.trie) l.bytes l.initial.values l.values l.front.bytes l.front.values;
 }
 
-abbrev pub decreases-loop-rest : goal.decreases-loop-rest
-decreases-loop-rest g l = length l.values - l.j
+abbrev pub decreases-loop-front : goal.decreases-loop-front
+decreases-loop-front g l = length l.bytes - l.front.bytes

@@ -5,12 +5,14 @@ use Rattle.icu_trie_text.proofs.places.place_of_three.Goals as goal
 
 pub bounds-text-1 : goal.bounds-text-1
 bounds-text-1 c =
-    let long : 2 < length c.args.text.now = (three_in_text c.args.text.now c.requires.text c.requires.some c.requires.from c.requires.to).0 in
+    let long : 2 < length c.args.text.now =
+    (three_in_text c.args.text.now c.requires.text c.requires.some c.requires.from c.requires.to).0 in
     search rules
 
 pub bounds-text-2 : goal.bounds-text-2
 bounds-text-2 c =
-    let long : 2 < length c.args.text.now = (three_in_text c.args.text.now c.requires.text c.requires.some c.requires.from c.requires.to).0 in
+    let long : 2 < length c.args.text.now =
+    (three_in_text c.args.text.now c.requires.text c.requires.some c.requires.from c.requires.to).0 in
     search rules
 
 pub returns-clause-part : goal.returns-clause-part

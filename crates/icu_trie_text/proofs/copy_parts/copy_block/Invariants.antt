@@ -1,14 +1,16 @@
-use Rattle.std.proofs.Common.{◌≡◌, ◌-◌, ◌≤◌, length}
+use Rattle.std.proofs.Common.{true, ◌≡◌, ◌+◌, ◌-◌, ◌≤◌, drop, length}
+use Rattle.std.specs.Str.{IsUtf8}
 use Rattle.icu_trie_text.specs.CopiedParts.{AreCopiedParts}
 use Rattle.icu_trie_text.proofs.CopiedLemmas.{AreCopiedUpTo}
-use Rattle.icu_trie_text.proofs.copy_parts.copy_wide.Given as goal
+use Rattle.icu_trie_text.proofs.copy_parts.copy_block.Given as goal
 
 abbrev pub invariant-loop-rest : goal.invariant-loop-rest
 invariant-loop-rest g l = record {
   inside : length l.rest ≤ length l.bytes;
+  left : l.rest ≡ drop (length l.bytes - length l.rest) l.bytes;
+  text : g.R.Reading.trusts ≡ true → IsUtf8 l.rest;
+  more : l.j + length l.rest + l.fn.front.bytes ≤ l.fn.front.values + length l.bytes;
   size : length l.values ≡ length l.initial.values;
-  room : l.j ≤ length l.values;
-  more : l.fn.front.values ≤ l.j;
   copied : (old : _)
       → AreCopiedParts (g.V.PartValues.gives l.trie) l.bytes old l.initial.values l.fn.front.bytes l.fn.front.values
       → AreCopiedUpTo (g.V.PartValues.gives l.trie) l.bytes old l.values l.rest l.j;

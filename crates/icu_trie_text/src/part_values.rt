@@ -1,0 +1,64 @@
+//! Values of the parts of bytes, and how they are read.
+ghost use Rattle.std.specs.Prelude.{◌≡◌, ℕ, ◌+◌, ◌*◌, ◌<◌, ◌≤◌, length, Bool, true, Option, Some, None};
+ghost use Rattle.std.specs.Str.{IsUtf8};
+ghost use Rattle.icu_trie_text.specs.CopiedParts.{HasFirstValue};
+
+/// The values of characters and of ill-formed parts, for
+/// [`copy_parts`](crate::copy_parts::copy_parts).
+///
+/// It is `Copy`, so that a loop can read a copy that no write to the buffer can change.
+///
+/// Public for the crates that build on this one.
+pub trait PartValues<T>: Copy {
+    /// The value of a character, or for `None` that of an ill-formed part.
+    ghost gives: { Self → Option ℕ → Option T };
+
+    /// The code points below it are ASCII, and take a single read.
+    ghost end_of_ascii: { Self → ℕ };
+
+    /// The first so many blocks of 64 code points take two reads.
+    ghost near_blocks: { Self → ℕ };
+
+    /// Returns the number up to which [`ascii`](Self::ascii) has the values: 0x80 or 0.
+    fn ascii_end(&self) -> u8
+        ensures end { result ≡ end_of_ascii self.now }
+        ensures bound { result ≤ 0x80 };
+
+    /// Returns the number of blocks of 64 code points whose values [`near`](Self::near) has.
+    fn blocks(&self) -> u32
+        ensures { result ≡ near_blocks self.now };
+
+    /// Returns the value of an ASCII code point.
+    fn ascii(&self, c: u8) -> T
+        requires { c < end_of_ascii self.now }
+        ensures { gives self.now (Some c) ≡ Some result };
+
+    /// Returns the value of the code point at a position in a block of 64 code points.
+    fn near(&self, block: u32, place: u32) -> T
+        requires block { block < near_blocks self.now }
+        requires place { place < 64 }
+        ensures { gives self.now (Some (block * 64 + place)) ≡ Some result };
+
+    /// Returns the value of any code point.
+    fn far(&self, c: u32) -> T
+        ensures { gives self.now (Some c) ≡ Some result };
+
+    /// Returns the value of an ill-formed part.
+    fn error(&self) -> T
+        ensures { gives self.now None ≡ Some result };
+}
+
+/// How the value of the first part is read: from any bytes, or only from well-formed ones.
+pub(crate) trait Reading<T, V: PartValues<T>> {
+    /// Whether the bytes have to be well-formed.
+    ghost trusts: { Bool };
+
+    /// Returns the value of the first part of the bytes, and its size in bytes. There are at least
+    /// four bytes.
+    fn first_value(trie: &V, bytes: &[u8]) -> (T, usize)
+        requires text { trusts ≡ true → IsUtf8 bytes.now }
+        requires bytes { 4 ≤ length bytes.now }
+        requires ascii { V.end_of_ascii trie.now ≡ 0x80 }
+        requires blocks { 0x20 ≤ V.near_blocks trie.now }
+        ensures { HasFirstValue (V.gives trie.now) bytes.now result.0 result.1 };
+}

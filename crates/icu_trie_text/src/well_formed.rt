@@ -1,0 +1,32 @@
+//! The value of the first character of well-formed UTF-8. No trail byte is tested.
+ghost use Rattle.std.specs.Prelude.{true};
+
+use crate::part_values::{PartValues, Reading};
+use crate::places::{number_of_four, place_of_three, place_of_two};
+
+/// Bytes that are well-formed UTF-8.
+pub(crate) struct WellFormed;
+
+impl<T, V: PartValues<T>> Reading<T, V> for WellFormed {
+    ghost trusts = { true };
+
+    #[inline(always)]
+    fn first_value(trie: &V, text: &[u8]) -> (T, usize) {
+        let lead = text[0];
+        if lead < 0xE0 {
+            if lead < 0x80 {
+                return (trie.ascii(lead), 1);
+            }
+            let (block, place) = place_of_two(text);
+            return (trie.near(block, place), 2);
+        }
+        if lead < 0xF0 {
+            let (block, place) = place_of_three(text);
+            if block < trie.blocks() {
+                return (trie.near(block, place), 3);
+            }
+            return (trie.far(block * 64 + place), 3);
+        }
+        (trie.far(number_of_four(text)), 4)
+    }
+}
