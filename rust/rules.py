@@ -362,6 +362,11 @@ EDITS = {
             r"for (value, byte) in values[j..j + 16].iter_mut().zip(&bytes[i..i + 16]) {\n\1*value = trie.ascii(*byte);",
             1,
         ),
+        (
+            r"(#\[inline\(always\)\]\n)(?=pub(?:\(crate\))? fn copy_characters)",
+            r"#[allow(dead_code)] // The C library uses it.\n\1",
+            1,
+        ),
     ],
     "icu_trie_text/part_values": [
         (
@@ -568,13 +573,7 @@ EDITS = {
         ),
     ],
     "icu_trie/lib": [(r"(?m)^(?=pub use icu_trie_core::\{)", "#[allow(unused_imports)] // Tests use them.\n", 1)],
-    "icu_trie_text/lib": [
-        (
-            r"(?m)^(?=(?:pub )?mod (?:characters|places|well_formed);)",
-            "#[allow(dead_code)] // The C library uses it.\n",
-            3,
-        ),
-    ],
+    "icu_trie_text/lib": [(r"(?m)^(?=(?:pub )?mod characters;)", "#[allow(dead_code)] // The C library uses it.\n", 1)],
     "icu_trie_binary/binary": [(r"\(\((high_start) \+ 0xfff\) / (0x1000)\)", r"\1.div_ceil(\2)", 1)],
     "icu_char16trie_builder/sorted": [(r"key: \*key,", "key,", 1)],
     # The map is searched once for each key that is added.

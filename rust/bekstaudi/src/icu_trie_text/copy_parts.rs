@@ -161,6 +161,7 @@ pub fn copy_parts<T: Copy, V: PartValues<T>>(trie: &V, bytes: &[u8], values: &mu
 /// Writes the values of the characters of well-formed UTF-8 as [`copy_parts`] does, in less time.
 ///
 /// Public for the crates that build on this one.
+#[allow(dead_code)] // The C library uses it.
 #[inline(always)]
 pub(crate) fn copy_characters<T: Copy, V: PartValues<T>>(
     trie: &V,

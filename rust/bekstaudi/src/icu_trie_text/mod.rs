@@ -33,11 +33,9 @@ mod first_utf8;
 mod found;
 mod indices;
 pub mod part_values;
-#[allow(dead_code)] // The C library uses it.
 mod places;
 pub mod text;
 mod utf16;
 mod utf8;
 mod values;
-#[allow(dead_code)] // The C library uses it.
 mod well_formed;
