@@ -17,11 +17,12 @@ pub struct Copied {
     pub bytes: usize,
 }
 
-/// How many bytes a block has.
-const BLOCK: usize = 32;
+/// How many bytes a block has. In a longer one few characters that are not ASCII would slow down
+/// many that are.
+const BLOCK: usize = 16;
 
 /// How many bytes have to be left for a block: then each read of its parts is within the bytes.
-const BYTES_AHEAD: usize = 48;
+const BYTES_AHEAD: usize = 32;
 
 /// The highest bit of each of eight bytes.
 const HIGH_BITS: u64 = 0x8080_8080_8080_8080;
@@ -86,8 +87,8 @@ fn copy_block<T: Copy, V: PartValues<T>, R: Reading<T, V>>(
 ) -> Copied
     requires ascii { V.end_of_ascii trie.now ≡ 0x80 }
     requires blocks { 0x20 ≤ V.near_blocks trie.now }
-    requires bytes { front.bytes + 48 ≤ length bytes.now }
-    requires room { front.values + 32 ≤ length values.old }
+    requires bytes { front.bytes + 32 ≤ length bytes.now }
+    requires room { front.values + 16 ≤ length values.old }
     requires text { R.trusts ≡ true → IsUtf8 (drop front.bytes bytes.now) }
     ensures more { front.bytes < result.bytes }
     ensures text { R.trusts ≡ true → IsUtf8 (drop result.bytes bytes.now) }

@@ -13,11 +13,12 @@ pub struct Copied {
     pub bytes: usize,
 }
 
-/// How many bytes a block has.
-const BLOCK: usize = 32;
+/// How many bytes a block has. In a longer one few characters that are not ASCII would slow down
+/// many that are.
+const BLOCK: usize = 16;
 
 /// How many bytes have to be left for a block: then each read of its parts is within the bytes.
-const BYTES_AHEAD: usize = 48;
+const BYTES_AHEAD: usize = 32;
 
 /// The highest bit of each of eight bytes.
 const HIGH_BITS: u64 = 0x8080_8080_8080_8080;
