@@ -362,6 +362,20 @@ EDITS = {
             r"for (value, byte) in values[j..j + 16].iter_mut().zip(&bytes[i..i + 16]) {\n\1*value = trie.ascii(*byte);",
             1,
         ),
+        # What is left is tested once for each part, an index twice.
+        (
+            r"(?s)    let mut i = front\.bytes;\n(    let mut j = front\.values;\n)    let end = i \+ BLOCK;\n"
+            r"    while i < end \{\n(.*?)&bytes\[i\.\.\](.*?)        i \+= size;\n(.*?)bytes: i,",
+            r"    let mut rest = &bytes[front.bytes..];\n\1    let left = rest.len() - BLOCK;\n"
+            r"    while rest.len() > left {\n\2rest\3        rest = &rest[size..];\n\4bytes: bytes.len() - rest.len(),",
+            1,
+        ),
+        # Near blocks need no test of their own there: see part_values.
+        (
+            r"(?s)    if trie\.blocks\(\) >= THREE_BYTE_BLOCKS \{\n +copy_by::<T, V, AnyBytes<.*?(copy_by::<T, V, AnyBytes<0>>\(trie, bytes, values\))\n    \}",
+            r"    \1",
+            1,
+        ),
         (
             r"(#\[inline\(always\)\]\n)(?=pub(?:\(crate\))? fn copy_characters)",
             r"#[allow(dead_code)] // The C library uses it.\n\1",
@@ -379,8 +393,10 @@ EDITS = {
         ),
     ],
     "icu_trie_text/any_bytes": [
+        (r", THREE_BYTE_BLOCKS", "", 1),
         (
-            r"if block >= trie\.blocks\(\) \{\s*return None;\s*\}\s*Some\(trie\.near\((block, third)\)\)",
+            r"if NEAR < THREE_BYTE_BLOCKS && block >= trie\.blocks\(\) \{\s*return None;\s*\}\s*"
+            r"Some\(trie\.near\((block, third)\)\)",
             r"trie.near_below(\1)",
             1,
         ),

@@ -9,6 +9,10 @@ use Rattle.icu_trie_text.specs.Utf8.{IsFirstPart}
 use Rattle.icu_trie_text.proofs.Utf8Parts.{four_found, three_found, trail_at, two_found}
 use Rattle.icu_trie_text.proofs.Utf8Table.{of_four, of_one, of_three, of_two, row}
 
+-- The byte is a trail byte: 0x80 and six bits.
+abbrev pub HasSixBits : ℕ → Type 0
+HasSixBits b = (128 ≤ b) × (b < 192)
+
 -- A text that is not empty is a character and what follows it.
 first_of : (bytes cs : List ℕ) → all_scalars cs ≡ true → encode_utf8_all cs ≡ bytes → 0 < length bytes
     → (c : ℕ) × IsScalar c × ((rest : List ℕ) × (bytes ≡ encode_utf8 c ++ rest))
@@ -40,14 +44,15 @@ module _ (bytes : List ℕ) (u : IsUtf8 bytes) (some : 0 < length bytes) where
   trail own e k b l h six = trail_at bytes k b (omega (arith, l, long own e)) (byte own e k ∙ h) six
 
   pub two_in_text : 128 ≤ get_or bytes 0 0 → get_or bytes 0 0 < 224
-      → (192 ≤ get_or bytes 0 0) × (1 < length bytes)
-      × IsFirstPart bytes (Some ((get_or bytes 0 0 - 192) * 64 + get_or bytes 1 0 % 64)) 2
+      → (192 ≤ get_or bytes 0 0) × (1 < length bytes) × HasSixBits (get_or bytes 1 0)
+      × IsFirstPart bytes (Some ((get_or bytes 0 0 - 192) * 64 + (get_or bytes 1 0 - 128))) 2
   two_in_text from to = elim (row c first.1) [
     | of_one h e ↦ absurd (omega (arith, from, h, byte _ e 0))
     | of_two a b l h t e ↦ (
       omega (arith, byte _ e 0),
       omega (arith, long _ e),
-      subst (λ (n : ℕ). IsFirstPart bytes (Some n) 2) (omega (arith, byte _ e 0, byte _ e 1, t))
+      (omega (arith, byte _ e 1), omega (arith, byte _ e 1, t)),
+      subst (λ (n : ℕ). IsFirstPart bytes (Some n) 2) (omega (arith, byte _ e 0, byte _ e 1))
           (two_found bytes a b (byte _ e 0) l h (trail _ e 1 b (omega arith) (omega arith) t)),
     )
     | of_three a b d la lb ld h e ↦ absurd (omega (arith, to, byte _ e 0))
@@ -55,14 +60,16 @@ module _ (bytes : List ℕ) (u : IsUtf8 bytes) (some : 0 < length bytes) where
   ]
 
   pub three_in_text : 224 ≤ get_or bytes 0 0 → get_or bytes 0 0 < 240
-      → (2 < length bytes)
-      × IsFirstPart bytes (Some (((get_or bytes 0 0 - 224) * 64 + get_or bytes 1 0 % 64) * 64 + get_or bytes 2 0 % 64)) 3
+      → (2 < length bytes) × HasSixBits (get_or bytes 1 0) × HasSixBits (get_or bytes 2 0)
+      × IsFirstPart bytes (Some (((get_or bytes 0 0 - 224) * 64 + (get_or bytes 1 0 - 128)) * 64 + (get_or bytes 2 0 - 128))) 3
   three_in_text from to = elim (row c first.1) [
     | of_one h e ↦ absurd (omega (arith, from, h, byte _ e 0))
     | of_two a b l h t e ↦ absurd (omega (arith, from, h, byte _ e 0))
     | of_three a b d la lb ld h e ↦ (
       omega (arith, long _ e),
-      subst (λ (n : ℕ). IsFirstPart bytes (Some n) 3) (omega (arith, byte _ e 0, byte _ e 1, byte _ e 2, lb, ld))
+      (omega (arith, byte _ e 1), omega (arith, byte _ e 1, lb)),
+      (omega (arith, byte _ e 2), omega (arith, byte _ e 2, ld)),
+      subst (λ (n : ℕ). IsFirstPart bytes (Some n) 3) (omega (arith, byte _ e 0, byte _ e 1, byte _ e 2))
           (three_found bytes a b d (byte _ e 0) la (trail _ e 1 b (omega arith) (omega arith) lb) h
           (trail _ e 2 d (omega arith) (omega arith) ld)),
     )
@@ -70,9 +77,10 @@ module _ (bytes : List ℕ) (u : IsUtf8 bytes) (some : 0 < length bytes) where
   ]
 
   pub four_in_text : 240 ≤ get_or bytes 0 0
-      → (3 < length bytes) × (get_or bytes 0 0 < 245)
-      × IsFirstPart bytes (Some (((get_or bytes 0 0 - 240) * 64 + get_or bytes 1 0 % 64) * 4096 + get_or bytes 2 0 % 64 * 64
-      + get_or bytes 3 0 % 64)) 4
+      → (3 < length bytes) × (get_or bytes 0 0 < 245) × HasSixBits (get_or bytes 1 0) × HasSixBits (get_or bytes 2 0)
+      × HasSixBits (get_or bytes 3 0)
+      × IsFirstPart bytes (Some (((get_or bytes 0 0 - 240) * 64 + (get_or bytes 1 0 - 128)) * 4096
+      + (get_or bytes 2 0 - 128) * 64 + (get_or bytes 3 0 - 128))) 4
   four_in_text from = elim (row c first.1) [
     | of_one h e ↦ absurd (omega (arith, from, h, byte _ e 0))
     | of_two a b l h t e ↦ absurd (omega (arith, from, h, byte _ e 0))
@@ -80,7 +88,10 @@ module _ (bytes : List ℕ) (u : IsUtf8 bytes) (some : 0 < length bytes) where
     | of_four a b d f lb ld lf h e ↦ (
       omega (arith, long _ e),
       (let top = h.1 in omega (arith, byte _ e 0)),
-      subst (λ (n : ℕ). IsFirstPart bytes (Some n) 4) (omega (arith, byte _ e 0, byte _ e 1, byte _ e 2, byte _ e 3, lb, ld, lf))
+      (omega (arith, byte _ e 1), omega (arith, byte _ e 1, lb)),
+      (omega (arith, byte _ e 2), omega (arith, byte _ e 2, ld)),
+      (omega (arith, byte _ e 3), omega (arith, byte _ e 3, lf)),
+      subst (λ (n : ℕ). IsFirstPart bytes (Some n) 4) (omega (arith, byte _ e 0, byte _ e 1, byte _ e 2, byte _ e 3))
           (four_found bytes a b d f (byte _ e 0) (trail _ e 1 b (omega arith) (omega arith) lb) h
           (trail _ e 2 d (omega arith) (omega arith) ld) (trail _ e 3 f (omega arith) (omega arith) lf)),
     )

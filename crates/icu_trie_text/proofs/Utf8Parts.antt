@@ -4,6 +4,7 @@ use Rattle.std.specs.Prelude.{◌⊎◌}
 use Rattle.std.specs.Char.{IsScalar, len_utf8}
 use Rattle.std.specs.Option.{MatchOption, SomeIff}
 use Rattle.std.specs.Str.{StartsWithNoChar}
+use Rattle.std.proofs.lemmas.Bool.{cases_lt}
 use Rattle.std.proofs.lemmas.List.{append-nil, get_or-take, length-append, length-drop, length-take-le}
 use Rattle.std.proofs.Math.Seq.{take-append_seam}
 use Rattle.std.proofs.lemmas.Str.{len_utf8_bounds, length-encode}
@@ -246,3 +247,17 @@ part_size bytes (Some c) size p =
     let some = (len_utf8_bounds c).0 in
     let same = p.1 in
     (omega arith, omega (arith, length-drop size bytes))
+
+-- A part has at most four bytes.
+pub part_near : (bytes : List ℕ) (part : Option ℕ) (size : ℕ) → IsFirstPart bytes part size → size ≤ 4
+part_near bytes None size p = elim (cases_lt 1 size) [
+  | inl more ↦
+      let begun = p.front more in
+      let lengths = ap (λ (bs : List ℕ). length bs) begun.2.1 in
+      let own = length-encode begun.0 in
+      let most = (len_utf8_bounds begun.0).1 in
+      let within = p.within in
+      omega (arith, lengths, own, most, within, length-append (take size bytes) begun.2.0, length-take-le size bytes within)
+  | inr few ↦ omega (arith, few)
+]
+part_near bytes (Some c) size p = let most = (len_utf8_bounds c).1 in let same = p.1 in omega (arith, same, most)

@@ -1,11 +1,11 @@
 //! The values of the parts of bytes, written to a buffer.
-ghost use Rattle.std.specs.Prelude.{◌≡◌, ℕ, ◌+◌, ◌<◌, ◌≤◌, length, drop, slice_index, IsTrue, true};
+ghost use Rattle.std.specs.Prelude.{◌≡◌, ℕ, ◌+◌, ◌<◌, ◌≤◌, ◌↔◌, length, drop, slice_index, IsTrue, true};
 ghost use Rattle.std.specs.Int.{w64, from_le_bytes};
 ghost use Rattle.std.specs.Str.{IsUtf8};
 ghost use Rattle.icu_trie_text.specs.CopiedParts.{AreCopiedParts, HasCopiedParts};
 
 use crate::any_bytes::{AnyBytes, value_apart};
-use crate::part_values::{PartValues, Reading};
+use crate::part_values::{PartValues, Reading, THREE_BYTE_BLOCKS, TWO_BYTE_BLOCKS};
 use crate::well_formed::WellFormed;
 
 /// How many values a function copied to a buffer, and how many bytes of the text they stand for.
@@ -42,7 +42,7 @@ fn word_of(bytes: &[u8]) -> u64
 #[inline(always)]
 fn are_ascii(bytes: &[u8]) -> bool
     requires { 16 ≤ length bytes.now }
-    ensures { IsTrue result → (k : ℕ) → k < 16 → slice_index bytes.now k < 0x80 }
+    ensures { IsTrue result ↔ ((k : ℕ) → k < 16 → slice_index bytes.now k < 0x80) }
 {
     let first = word_of(bytes) & HIGH_BITS;
     let second = word_of(&bytes[8..]) & HIGH_BITS;
@@ -77,7 +77,7 @@ fn copy_sixteen<T: Copy, V: PartValues<T>>(
     }
 }
 
-/// Writes the values of the parts that start in the next block.
+/// Writes the values of the parts that start in the next block, which has sixteen bytes.
 #[inline(always)]
 fn copy_block<T: Copy, V: PartValues<T>, R: Reading<T, V>>(
     trie: &V,
@@ -86,28 +86,30 @@ fn copy_block<T: Copy, V: PartValues<T>, R: Reading<T, V>>(
     front: Copied,
 ) -> Copied
     requires ascii { V.end_of_ascii trie.now ≡ 0x80 }
-    requires blocks { 0x20 ≤ V.near_blocks trie.now }
+    requires near { R.least_blocks ≤ V.near_blocks trie.now }
+    requires two { 0x20 ≤ V.near_blocks trie.now }
     requires bytes { front.bytes + 32 ≤ length bytes.now }
     requires room { front.values + 16 ≤ length values.old }
     requires text { R.trusts ≡ true → IsUtf8 (drop front.bytes bytes.now) }
-    ensures more { front.bytes < result.bytes }
+    ensures whole { front.bytes + 16 ≤ result.bytes }
+    ensures near { result.bytes < front.bytes + 20 }
     ensures text { R.trusts ≡ true → IsUtf8 (drop result.bytes bytes.now) }
     ensures copied { (old : _) → AreCopiedParts (V.gives trie.now) bytes.now old values.old
         front.bytes front.values
         → AreCopiedParts (V.gives trie.now) bytes.now old values.new result.bytes result.values }
 {
-    let mut rest = &bytes[front.bytes..];
+    let mut i = front.bytes;
     let mut j = front.values;
-    let left = rest.len() - BLOCK;
-    while rest.len() > left {
-        let (value, size) = R::first_value(trie, rest);
+    let end = i + BLOCK;
+    while i < end {
+        let (value, size) = R::first_value(trie, &bytes[i..]);
         values[j] = value;
-        rest = &rest[size..];
+        i += size;
         j += 1;
     }
     Copied {
         values: j,
-        bytes: bytes.len() - rest.len(),
+        bytes: i,
     }
 }
 
@@ -120,7 +122,8 @@ fn copy_front<T: Copy, V: PartValues<T>, R: Reading<T, V>>(
     values: &mut [T],
 ) -> Copied
     requires ascii { V.end_of_ascii trie.now ≡ 0x80 }
-    requires blocks { 0x20 ≤ V.near_blocks trie.now }
+    requires near { R.least_blocks ≤ V.near_blocks trie.now }
+    requires two { 0x20 ≤ V.near_blocks trie.now }
     requires text { R.trusts ≡ true → IsUtf8 bytes.now }
     ensures { AreCopiedParts (V.gives trie.now) bytes.now values.old values.new
         result.bytes result.values }
@@ -180,14 +183,15 @@ fn copy_by<T: Copy, V: PartValues<T>, R: Reading<T, V>>(
     bytes: &[u8],
     values: &mut [T],
 ) -> Copied
-    requires { R.trusts ≡ true → IsUtf8 bytes.now }
+    requires near { R.least_blocks ≤ V.near_blocks trie.now }
+    requires text { R.trusts ≡ true → IsUtf8 bytes.now }
     ensures { HasCopiedParts (V.gives trie.now) bytes.now values.old values.new result }
 {
     let mut front = Copied {
         values: 0,
         bytes: 0,
     };
-    if trie.ascii_end() == 0x80 && trie.blocks() >= 0x20 {
+    if trie.ascii_end() == 0x80 && trie.blocks() >= TWO_BYTE_BLOCKS {
         front = copy_front::<T, V, R>(trie, bytes, values);
     }
     copy_rest(trie, bytes, values, front)
@@ -201,7 +205,11 @@ fn copy_by<T: Copy, V: PartValues<T>, R: Reading<T, V>>(
 pub fn copy_parts<T: Copy, V: PartValues<T>>(trie: &V, bytes: &[u8], values: &mut [T]) -> Copied
     ensures { HasCopiedParts (V.gives trie.now) bytes.now values.old values.new result }
 {
-    copy_by::<T, V, AnyBytes>(trie, bytes, values)
+    if trie.blocks() >= THREE_BYTE_BLOCKS {
+        copy_by::<T, V, AnyBytes<THREE_BYTE_BLOCKS>>(trie, bytes, values)
+    } else {
+        copy_by::<T, V, AnyBytes<0>>(trie, bytes, values)
+    }
 }
 
 /// Writes the values of the characters of well-formed UTF-8 as [`copy_parts`] does, in less time.
@@ -212,5 +220,9 @@ pub fn copy_characters<T: Copy, V: PartValues<T>>(trie: &V, text: &[u8], values:
     requires { IsUtf8 text.now }
     ensures { HasCopiedParts (V.gives trie.now) text.now values.old values.new result }
 {
-    copy_by::<T, V, WellFormed>(trie, text, values)
+    if trie.blocks() >= THREE_BYTE_BLOCKS {
+        copy_by::<T, V, WellFormed<THREE_BYTE_BLOCKS>>(trie, text, values)
+    } else {
+        copy_by::<T, V, WellFormed<0>>(trie, text, values)
+    }
 }

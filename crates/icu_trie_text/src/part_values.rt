@@ -48,10 +48,19 @@ pub trait PartValues<T>: Copy {
         ensures { gives self.now None ≡ Some result };
 }
 
+/// The number of blocks of 64 code points of two bytes in UTF-8.
+pub(crate) const TWO_BYTE_BLOCKS: u32 = 0x20;
+
+/// The number of blocks of 64 code points below 0x10000, which take at most three bytes.
+pub(crate) const THREE_BYTE_BLOCKS: u32 = 0x400;
+
 /// How the value of the first part is read: from any bytes, or only from well-formed ones.
 pub(crate) trait Reading<T, V: PartValues<T>> {
     /// Whether the bytes have to be well-formed.
     ghost trusts: { Bool };
+
+    /// The first so many blocks have to be near.
+    ghost least_blocks: { ℕ };
 
     /// Returns the value of the first part of the bytes, and its size in bytes. There are at least
     /// four bytes.
@@ -59,6 +68,7 @@ pub(crate) trait Reading<T, V: PartValues<T>> {
         requires text { trusts ≡ true → IsUtf8 bytes.now }
         requires bytes { 4 ≤ length bytes.now }
         requires ascii { V.end_of_ascii trie.now ≡ 0x80 }
-        requires blocks { 0x20 ≤ V.near_blocks trie.now }
+        requires near { least_blocks ≤ V.near_blocks trie.now }
+        requires two { 0x20 ≤ V.near_blocks trie.now }
         ensures { HasFirstValue (V.gives trie.now) bytes.now result.0 result.1 };
 }

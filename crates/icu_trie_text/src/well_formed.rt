@@ -1,14 +1,16 @@
 //! The value of the first character of well-formed UTF-8. No trail byte is tested.
 ghost use Rattle.std.specs.Prelude.{true};
 
-use crate::part_values::{PartValues, Reading};
+use crate::part_values::{PartValues, Reading, THREE_BYTE_BLOCKS};
 use crate::places::{number_of_four, place_of_three, place_of_two};
 
-/// Bytes that are well-formed UTF-8.
-pub(crate) struct WellFormed;
+/// Bytes that are well-formed UTF-8. The first `NEAR` blocks are known to be near.
+pub(crate) struct WellFormed<const NEAR: u32>;
 
-impl<T, V: PartValues<T>> Reading<T, V> for WellFormed {
+impl<T, V: PartValues<T>, const NEAR: u32> Reading<T, V> for WellFormed<NEAR> {
     ghost trusts = { true };
+
+    ghost least_blocks = { NEAR };
 
     #[inline(always)]
     fn first_value(trie: &V, text: &[u8]) -> (T, usize) {
@@ -22,7 +24,7 @@ impl<T, V: PartValues<T>> Reading<T, V> for WellFormed {
         }
         if lead < 0xF0 {
             let (block, place) = place_of_three(text);
-            if block < trie.blocks() {
+            if NEAR >= THREE_BYTE_BLOCKS || block < trie.blocks() {
                 return (trie.near(block, place), 3);
             }
             return (trie.far(block * 64 + place), 3);

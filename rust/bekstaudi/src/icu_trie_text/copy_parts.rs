@@ -1,7 +1,7 @@
 //! The values of the parts of bytes, written to a buffer.
 
 use crate::icu_trie_text::any_bytes::{AnyBytes, value_apart};
-use crate::icu_trie_text::part_values::{PartValues, Reading};
+use crate::icu_trie_text::part_values::{PartValues, Reading, THREE_BYTE_BLOCKS, TWO_BYTE_BLOCKS};
 use crate::icu_trie_text::well_formed::WellFormed;
 
 /// How many values a function copied to a buffer, and how many bytes of the text they stand for.
@@ -58,7 +58,7 @@ fn copy_sixteen<T: Copy, V: PartValues<T>>(
     }
 }
 
-/// Writes the values of the parts that start in the next block.
+/// Writes the values of the parts that start in the next block, which has sixteen bytes.
 #[inline(always)]
 fn copy_block<T: Copy, V: PartValues<T>, R: Reading<T, V>>(
     trie: &V,
@@ -144,7 +144,7 @@ fn copy_by<T: Copy, V: PartValues<T>, R: Reading<T, V>>(
         values: 0,
         bytes: 0,
     };
-    if trie.ascii_end() == 0x80 && trie.blocks() >= 0x20 {
+    if trie.ascii_end() == 0x80 && trie.blocks() >= TWO_BYTE_BLOCKS {
         front = copy_front::<T, V, R>(trie, bytes, values);
     }
     copy_rest(trie, bytes, values, front)
@@ -156,7 +156,7 @@ fn copy_by<T: Copy, V: PartValues<T>, R: Reading<T, V>>(
 /// Public for the crates that build on this one.
 #[inline(always)]
 pub fn copy_parts<T: Copy, V: PartValues<T>>(trie: &V, bytes: &[u8], values: &mut [T]) -> Copied {
-    copy_by::<T, V, AnyBytes>(trie, bytes, values)
+    copy_by::<T, V, AnyBytes<0>>(trie, bytes, values)
 }
 
 /// Writes the values of the characters of well-formed UTF-8 as [`copy_parts`] does, in less time.
@@ -169,5 +169,9 @@ pub(crate) fn copy_characters<T: Copy, V: PartValues<T>>(
     text: &[u8],
     values: &mut [T],
 ) -> Copied {
-    copy_by::<T, V, WellFormed>(trie, text, values)
+    if trie.blocks() >= THREE_BYTE_BLOCKS {
+        copy_by::<T, V, WellFormed<THREE_BYTE_BLOCKS>>(trie, text, values)
+    } else {
+        copy_by::<T, V, WellFormed<0>>(trie, text, values)
+    }
 }

@@ -99,11 +99,15 @@ pub(crate) fn of_four(bytes: &[u8]) -> Option<char> {
     char::from_u32(high * 4096 + third * 64 + fourth)
 }
 
+/// The upper five bits of three-byte characters: bit `n` is 1 if they cannot be `n`. Those of
+/// overlong sequences are 0, those of surrogates 27.
+const NO_UPPER_FIVE: u32 = 1 | 1 << 27;
+
 /// Returns true if these can be the upper ten bits of a three-byte character, which its first two
-/// bytes contain: they are not those of an overlong sequence or a surrogate.
+/// bytes contain: they are not those of an overlong sequence or a surrogate. It takes one test.
 #[inline(always)]
 pub(crate) fn is_high_of_three(high: u32) -> bool {
-    0x20 <= high && (high < 0x360 || 0x380 <= high)
+    (NO_UPPER_FIVE >> (high / 32)) & 1 == 0
 }
 
 /// The lead bytes of three after which not every trail byte can follow, 0xE0 and 0xED: bit `n` is
@@ -111,7 +115,7 @@ pub(crate) fn is_high_of_three(high: u32) -> bool {
 const PARTIAL_LEADS: u32 = 0x2001;
 
 /// Returns the same as `is_high_of_three` of ten bits whose upper four are `first`. For most lead
-/// bytes it takes one test.
+/// bytes the second byte is not needed.
 #[inline(always)]
 fn is_high_after(first: u32, high: u32) -> bool {
     if (PARTIAL_LEADS >> first) & 1 == 0 {

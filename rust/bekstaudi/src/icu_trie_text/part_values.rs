@@ -35,6 +35,12 @@ pub trait PartValues<T>: Copy {
     fn error(&self) -> T;
 }
 
+/// The number of blocks of 64 code points of two bytes in UTF-8.
+pub(crate) const TWO_BYTE_BLOCKS: u32 = 0x20;
+
+/// The number of blocks of 64 code points below 0x10000, which take at most three bytes.
+pub(crate) const THREE_BYTE_BLOCKS: u32 = 0x400;
+
 /// How the value of the first part is read: from any bytes, or only from well-formed ones.
 pub(crate) trait Reading<T, V: PartValues<T>> {
     /// Returns the value of the first part of the bytes, and its size in bytes. There are at least

@@ -1,12 +1,12 @@
 //! The block of 64 code points of a character, and the index in it. The bytes are well-formed
-//! UTF-8, so no trail byte is tested.
+//! UTF-8, so no trail byte is tested: each is 0x80 plus six bits of the number.
 
 /// Returns the block of 64 code points and the index in it of the first character of a text. The
 /// first byte is the lead byte of two.
 #[inline(always)]
 pub(crate) fn place_of_two(text: &[u8]) -> (u32, u32) {
     let first = u32::from(text[0]) - 0xC0;
-    let second = u32::from(text[1] % 64);
+    let second = u32::from(text[1]) - 0x80;
     (first, second)
 }
 
@@ -15,8 +15,8 @@ pub(crate) fn place_of_two(text: &[u8]) -> (u32, u32) {
 #[inline(always)]
 pub(crate) fn place_of_three(text: &[u8]) -> (u32, u32) {
     let first = u32::from(text[0]) - 0xE0;
-    let second = u32::from(text[1] % 64);
-    let third = u32::from(text[2] % 64);
+    let second = u32::from(text[1]) - 0x80;
+    let third = u32::from(text[2]) - 0x80;
     (first * 64 + second, third)
 }
 
@@ -24,8 +24,8 @@ pub(crate) fn place_of_three(text: &[u8]) -> (u32, u32) {
 #[inline(always)]
 pub(crate) fn number_of_four(text: &[u8]) -> u32 {
     let first = u32::from(text[0]) - 0xF0;
-    let second = u32::from(text[1] % 64);
-    let third = u32::from(text[2] % 64);
-    let fourth = u32::from(text[3] % 64);
+    let second = u32::from(text[1]) - 0x80;
+    let third = u32::from(text[2]) - 0x80;
+    let fourth = u32::from(text[3]) - 0x80;
     (first * 64 + second) * 4096 + third * 64 + fourth
 }

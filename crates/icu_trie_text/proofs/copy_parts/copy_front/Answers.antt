@@ -9,7 +9,7 @@ loop-front-preserved-then-are_ascii g c =
     let i : ℕ = c.loop-front.front.bytes in
     let invariant = c.loop-front.invariant in
     let ensures = c.copy_sixteen-front.ensures in
-    let sixteen = rw (take_rest text i) at (c.are_ascii.ensures c.if-are_ascii.true) in
+    let sixteen = rw (take_rest text i) at (c.are_ascii.ensures.0 c.if-are_ascii.true) in
     let left = λ (t : g.R.Reading.trusts ≡ true).
     ascii_left (drop i text) 16 (invariant.text t) (omega (arith, length-drop i text)) sixteen in
     let both : drop 16 (drop i text) ≡ drop c.copy_sixteen-front.result.bytes text =
