@@ -523,6 +523,19 @@ EDITS = {
             2,
         ),
         (r"(return fast_place_in\(&self\.header, index, )data, c", r"\1self.data.as_slice(), c", 2),
+        # One test for all cells of the fast index.
+        (
+            r"( +)(?=for i in 0\.\.half \{\n)",
+            r"\1let index: ZeroSlice<'_, u16> = ZeroSlice::from_packed(&index.as_bytes()[..4 * half]);\n\1",
+            1,
+        ),
+        # By value, so that a trie on the stack need not be stored for the call.
+        (
+            r"fn outside_place\(&self, c: u32\) -> usize \{\n +let _ = c;\n +self\.data\.len\(\) - 1",
+            "fn outside_place(cells: usize) -> usize {\n        cells - 1",
+            1,
+        ),
+        (r"self\.outside_place\(c\)", "Self::outside_place(self.data.len())", 1),
         # Nor is a position tested twice: the read of the value tests it.
         (
             r"( +)if place < data\.len\(\) \{\n +place\n",
@@ -533,7 +546,7 @@ EDITS = {
             r"( +)(?=self\.data\.as_slice\(\)\.at\(place\)\n)",
             r'\1#[cfg(not(feature = "proved-reads"))]\n'
             r"\1if let Some(value) = self.data.get(place) {\n\1    return value;\n\1}\n"
-            r'\1#[cfg(not(feature = "proved-reads"))]\n\1let place = self.outside_place(u32::MAX);\n\1',
+            r'\1#[cfg(not(feature = "proved-reads"))]\n\1let place = Self::outside_place(self.data.len());\n\1',
             2,
         ),
         (
@@ -607,7 +620,23 @@ EDITS = {
         (r"insert_key\(entries, key, value\)", "insert_key(entries, place, key, value)", 1),
     ],
     "icu_trie_compaction/blocks": [(r"&(stored\[stored\.len\(\) - common\.\.\]) == &", r"\1 == ", 1)],
+    # Two blocks are compared most often.
+    "icu_trie_map/blocks": [
+        (
+            r"(?s)let Block::One\(number\) = self\.block\(first\) else \{\s*return false;\s*\};\n"
+            r" +for other in first \+ 1\.\.first \+ count \{.*?\n        \}\n        true\n",
+            "let mixed = &self.mixed[first..first + count];\n"
+            "        let places = &self.places[first..first + count];\n"
+            "        if let ([one, two], [number, next]) = (mixed, places) {\n"
+            "            return !one && !two && number == next;\n        }\n"
+            "        let number = places[0];\n"
+            "        !mixed.contains(&true) && places.iter().all(|it| *it == number)\n",
+            1,
+        ),
+    ],
+    # Few searches go past the first test. A call would take longer than that.
     "icu_trie_compaction/window_table": [
+        (r"(?m)^(?= +pub\(crate\) fn find)", "    #[inline(always)]\n", 1),
         (r"heads: &mut Vec<u32>", "heads: &mut [u32]", 1),
         (r"\.max\(FIRST_BUCKETS\)\.min\(MOST_BUCKETS\)", ".clamp(FIRST_BUCKETS, MOST_BUCKETS)", 1),
     ],

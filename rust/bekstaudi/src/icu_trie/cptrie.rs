@@ -20,6 +20,7 @@ use crate::support::cells::usual_cell;
 fn fast_block_passes(trie_type: TrieType, index: ZeroSlice<'_, u16>, len: usize) -> bool {
     let half = trie_type.fast_index_len() / 2;
     let (mut lower, mut upper) = (0, 0);
+    let index: ZeroSlice<'_, u16> = ZeroSlice::from_packed(&index.as_bytes()[..4 * half]);
     for i in 0..half {
         lower = index.at(i).max(lower);
         upper = index.at(half + i).max(upper);
@@ -140,9 +141,8 @@ impl<'trie, T: TrieValue> CodePointTrie<'trie, T> {
     /// Returns the position of the error value, the last cell, for a number above 0x10FFFF.
     #[cold]
     #[inline(never)]
-    fn outside_place(&self, c: u32) -> usize {
-        let _ = c;
-        self.data.len() - 1
+    fn outside_place(cells: usize) -> usize {
+        cells - 1
     }
 
     /// Returns the position of the value of `c` through the three stages of the index, with a
@@ -192,7 +192,7 @@ impl<'trie, T: TrieValue> CodePointTrie<'trie, T> {
             return fast_place_in(&self.header, index, self.data.as_slice(), c);
         }
         if c > CODE_POINT_MAX {
-            return self.outside_place(c);
+            return Self::outside_place(self.data.len());
         }
         self.far_place(index, c)
     }
@@ -236,7 +236,7 @@ impl<'trie, T: TrieValue> CodePointTrie<'trie, T> {
             return value;
         }
         #[cfg(not(feature = "proved-reads"))]
-        let place = self.outside_place(u32::MAX);
+        let place = Self::outside_place(self.data.len());
         self.data.as_slice().at(place)
     }
 
@@ -249,7 +249,7 @@ impl<'trie, T: TrieValue> CodePointTrie<'trie, T> {
             return value;
         }
         #[cfg(not(feature = "proved-reads"))]
-        let place = self.outside_place(u32::MAX);
+        let place = Self::outside_place(self.data.len());
         self.data.as_slice().at(place)
     }
 

@@ -257,16 +257,13 @@ impl Blocks {
     /// the same number. It reads no cells.
     #[inline]
     pub(crate) fn hold_one(&self, first: usize, count: usize) -> bool {
-        let Block::One(number) = self.block(first) else {
-            return false;
-        };
-        for other in first + 1..first + count {
-            match self.block(other) {
-                Block::One(held) if held == number => {}
-                _ => return false,
-            }
+        let mixed = &self.mixed[first..first + count];
+        let places = &self.places[first..first + count];
+        if let ([one, two], [number, next]) = (mixed, places) {
+            return !one && !two && number == next;
         }
-        true
+        let number = places[0];
+        !mixed.contains(&true) && places.iter().all(|it| *it == number)
     }
 
     /// Appends the numbers of `count` blocks, from block number `first` on, to `room`.
