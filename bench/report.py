@@ -1,12 +1,14 @@
 """Prints what the program bench measured, in Markdown: report.py [--page FILE] MEASURED..
 
-Each file is one run of the program. A time is the least of all runs: they differ in the address of
+Each file has runs of the program. A time is the least of all runs: they differ in the address of
 the code, which changes the time of short loops by up to a half on some processors. `--page FILE`
 also writes all but the rows of each kernel to that file, as the page bench/results.md.
+With `--edition FILE..` it compares the shares of a peer's time in those files with ours.
 """
 import argparse
 import collections
 import math
+import statistics
 
 LIBRARIES = ["ours", "rust", "icu"]
 # In ns. A row with a lower time is left out, because the compiler removed the loop.
@@ -97,11 +99,40 @@ def summary_of(times):
     return "Summary", table(heads, [summary(kernel, rows) for kernel, rows in times.items()])
 
 
+def shares(files):
+    """Returns our shares of a peer's time, ICU's if it has one, as kernel -> row -> median of the runs.
+    The peer ran beside us, so the processor clock matters less than in a comparison of times."""
+    found = collections.defaultdict(lambda: collections.defaultdict(list))
+    for file in files:
+        for line in open(file):
+            kind, *words = line.rstrip("\n").split("\t")
+            times = [float(time) for time in words[2:] if time] if kind == "time" else [0]
+            if min(times) >= NOTHING:
+                found[words[0]][words[1]].append(times[0] / times[-1])
+    return {kernel: {row: statistics.median(all) for row, all in rows.items()} for kernel, rows in found.items()}
+
+
+def beside(edition, proved):
+    """Returns the title and the table of the edition's shares divided by those of the proved build."""
+    heads = ["kernel", "rows", "edition / proved", "worst row"]
+    lines = []
+    for kernel, rows in proved.items():
+        ratios = {row: edition[kernel][row] / rows[row] for row in rows if row in edition[kernel]}
+        worst = max(ratios, key=ratios.get)
+        lines.append([f"`{kernel}`", len(ratios), shown(mean(ratios.values())), f"{ratios[worst]:.2f} ({worst})"])
+    return "Beside the proved build", table(heads, lines)
+
+
 def main():
     parser = argparse.ArgumentParser()
     parser.add_argument("--page")
+    parser.add_argument("--edition", nargs="+")
     parser.add_argument("measured", nargs="+")
     words = parser.parse_args()
+    if words.edition:
+        title, text = beside(shares(words.edition), shares(words.measured))
+        print(f"### {title}\n\n{text}")
+        return
     times, cells, units = read(words.measured)
     built = list(sizes(cells, units))
     all_rows = [rows_of(kernel, rows) for kernel, rows in times.items()]

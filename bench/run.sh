@@ -6,7 +6,8 @@
 #
 # TABLES=FOLDER adds the tables NAME.txt of a folder to those of tests/data. CODE=FOLDER writes the
 # machine code there. PAGE=FILE also writes the summary and the sizes there: bench/results.md is made
-# so. OURS=LIBRARY measures the Rust edition that rust.sh built.
+# so. OURS=LIBRARY measures the Rust edition that rust.sh built. EDITION=LIBRARY measures it in turns
+# with the proved build, without the C library, and compares the two.
 set -eu
 here=$(dirname -- "$(readlink -f -- "$0")")
 root=$here/..
@@ -36,20 +37,22 @@ with_loops() {
 }
 if [ -n "${OURS:-}" ]; then
     ours=$OURS rust= libc= c= without=-DWITHOUT_C
-    # As edition.py has rustc do.
-    aligned="-falign-loops=32 -Wa,-mbranches-within-32B-boundaries"
 else
-    c=$root/c/out/libbekstaudi.a without= aligned=
+    c=$root/c/out/libbekstaudi.a without=
+    [ -z "${EDITION:-}" ] || c= without=-DWITHOUT_C
     command -v rt >/dev/null || stop "no rt: put the kit's folder bin on PATH"
     libc=$(dirname -- "$(dirname -- "$(readlink -f -- "$(command -v rt)")")")/c/liblibc_c.a
     echo "bench: proves and builds; from a clean clone this takes some minutes" >&2
     with_loops
     ours=$("$work/copy/tests/build" bench_ours) || stop "the loops in bench/ours are not proved and built"
-    "$root/c/build" --proved || stop "the library for C is not built"
+    [ -z "$c" ] || "$root/c/build" --proved || stop "the library for C is not built"
     rust=$work/libpeer.a
     rustc --edition 2024 -O -C target-cpu=x86-64-v2 -C panic=abort --crate-type staticlib \
+        ${without:+-C "llvm-args=-x86-branches-within-32B-boundaries -align-loops=32"} \
         -o "$rust" "$here/peer/lib.rs"
 fi
+# Without the C library, as edition.py has rustc do.
+aligned=${without:+"-falign-loops=32 -Wa,-mbranches-within-32B-boundaries"}
 for file in "$here"/driver/*.cpp; do
     case $without/$(basename "$file") in
     -*/c_*) continue ;;
@@ -69,13 +72,20 @@ set -- -- "$@"
 for table in "$root"/tests/data/*.runs.txt ${TABLES:+"$TABLES"/*.runs.txt}; do
     set -- "${table%.runs.txt}.txt" "$@"
 done
-for shift in 0 16 32 48; do
+for shift in 0 16 32 48 ${EDITION:+0 16 32 48}; do
     {
         echo '.section .note.GNU-stack,"",@progbits'
         printf '.section %s,"ax",@progbits\n.p2align 6\n.fill %d\n' .text.unlikely "$shift" .text "$shift"
     } | gcc -x assembler -c -o "$work/shift" -
     g++ -o "$work/bench" "$work/shift" "$work"/*.o "$ours" $c $rust $libc -licuuc
     echo "bench: measures, our code $shift bytes past a multiple of 64" >&2
-    "$work/bench" "$@" >"$work/measured.$shift"
+    "$work/bench" "$@" >>"$work/measured.$shift"
+    [ -n "${EDITION:-}" ] || continue
+    g++ -o "$work/bench" "$work/shift" "$work"/*.o "$EDITION" -licuuc
+    "$work/bench" "$@" >>"$work/edition.$shift"
 done
-python3 "$here/report.py" ${PAGE:+--page "$PAGE"} "$work"/measured.*
+if [ -n "${EDITION:-}" ]; then
+    python3 "$here/report.py" --edition "$work"/edition.* -- "$work"/measured.*
+else
+    python3 "$here/report.py" ${PAGE:+--page "$PAGE"} "$work"/measured.*
+fi
