@@ -10,15 +10,17 @@ import shutil
 import subprocess
 import sys
 import time
+import types
 
 # The internals of `rt` that the scripts rely on. They are no interface of the kit, so another kit
 # may lack some; tests/README.md says what they are used for.
 NEEDED = {
-    "": "Crate KIT Kept checked edited handles_of in_lanes main processors read_edit rtlib unread",
-    "rtlib": "KIT PARTS RATTLE crates_below guarded kit_sources sum_of text_of",
-    "Crate": "below build_rlib has_tests is_built sources_below stamp words",
-    "Kept": "give is_built key",
+    "": "Crate KIT checked edited handles_of in_lanes main processors read_edit rtlib unread",
+    "rtlib": "KIT PARTS RATTLE crates_below guarded kit_sources stop_on_unread sum_of text_of",
+    "Crate": "below build_rlib has_tests is_built makes_rlib sources_below stamp words",
 }
+# Those of a kit whose `rt ci` stores what passed.
+NEEDED_TO_STORE = {"": "Kept", "Kept": "give is_built key"}
 # What each crate that `rt` finds has to say of itself.
 OF_A_CRATE = "name folder deps of_kit is_program is_static"
 
@@ -48,8 +50,9 @@ def load():
     loader = importlib.machinery.SourceFileLoader("rt", rt_path())
     made = importlib.util.module_from_spec(importlib.util.spec_from_loader("rt", loader))
     loader.exec_module(made)
-    for owner, names in NEEDED.items():
-        demand(getattr(made, owner) if owner else made, names, f"{owner}." if owner else "")
+    for needed in [NEEDED, *([NEEDED_TO_STORE] if keeps() else [])]:
+        for owner, names in needed.items():
+            demand(getattr(made, owner) if owner else made, names, f"{owner}." if owner else "")
     made.rtlib.Crate = made.Crate
     made.rtlib.RATTLE = os.environ.get("RATTLE_BY", made.rtlib.RATTLE)
     return made
@@ -87,12 +90,43 @@ def has_library(kept, crate):
 
 def take_passed(rt, crate, tests=False):
     """Whether `rt ci` passed the crate, or its tests, with the files as they are, over these
-    libraries. If so, puts in place what it stored of them. Everything is compared by checksums, so
+    libraries, and stored them. If so, puts them in place. Everything is compared by checksums, so
     that nothing that an interrupted run left half written counts as passed."""
     if not keeps():
         return False
     with only_one():
         return given(rt, crate, tests)
+
+
+@contextlib.contextmanager
+def noting_passed(rt, names):
+    """Around a run of `rt ci` over these crates and those below them: notes what passed for the other
+    scripts, if the kit's `rt ci` does not store it. The run sets the status of what it yields."""
+    ran = types.SimpleNamespace(status=1)
+    if keeps():
+        yield ran
+        return
+    found = crates(rt)
+    wanted = {below.name: below for it in names for below in [*found[it].below(), found[it]]}
+    stamps = {name: it.stamp() for name, it in wanted.items()}
+    # rt ci puts earlier libraries back, which fit only those that they were built over.
+    if not all(it.is_built() for it in wanted.values() if it.makes_rlib()):
+        for it in found.values():
+            shutil.rmtree(f"{it.folder}/out/rlib", ignore_errors=True)
+    yield ran
+    if not ran.status:
+        for name, crate in wanted.items():
+            if crate.stamp() == stamps[name]:
+                note_passed(rt, crate, stamps[name])
+
+
+def note_passed(rt, crate, stamp):
+    """Notes that the crate's library, or its program, and its tests were proved from files with this stamp."""
+    if crate.makes_rlib():
+        with open(f"{crate.folder}/out/rlib/stamp", "w", encoding="utf-8") as file:
+            file.write(stamp)
+    if not crate.is_static and os.path.exists(output(crate)):
+        mark(rt, output(crate), stamp)
 
 
 @contextlib.contextmanager
