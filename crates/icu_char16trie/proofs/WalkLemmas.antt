@@ -1,23 +1,26 @@
 -- How a walk moves from one entry to the next.
 use Rattle.icu_zerovec.specs.Slice.{slice_values}
-use Rattle.std.proofs.Common.{◌≡◌, ℕ, ℤ, ◌+◌, ◌-◌, ◌/◌, ◌%◌, ◌<◌, ◌≤◌, List, [], ◌∷◌, ◌++◌, Option, Some, None, Bool, true, false, refl, sym, ap, subst, ◌∙◌, arith, length, slice_get, append-nil, reverse, string_bytes, encode_utf8, inl, inr}
+use Rattle.std.proofs.Common.{◌≡◌, ℕ, ℤ, ◌+◌, ◌-◌, ◌/◌, ◌%◌, ◌<◌, ◌≤◌, List, [], ◌∷◌, ◌++◌, Option, Some, None, Ok, Err, Bool, true, false, refl, sym, ap, subst, ◌∙◌, arith, length, slice_get, append-nil, reverse, string_bytes, encode_utf8, inl, inr, String, Global}
 use Rattle.std.specs.Prelude.{◌⊎◌, IfSome, nat_le, nat_lt}
 use Rattle.std.proofs.lemmas.Bool.{le-ltb}
 use Rattle.std.proofs.lemmas.Bool.Decides.{nat_tests}
+use Rattle.std.proofs.lemmas.List.Sums.{sum_by-append}
 use Rattle.std.proofs.lemmas.Option.{none-some, slice_get_within}
+use Rattle.icu_zerovec.specs.declared.memory.MemoryError.{MemoryError}
 use Rattle.icu_char16trie.specs.Grammar.{Matches}
 use Rattle.icu_char16trie.specs.Numbers.{node_end, end_by}
 use Rattle.icu_char16trie.specs.UnitMap.{UnitMap, under}
 use Rattle.icu_char16trie.specs.UnitPlaces.{Stands, value_by}
-use Rattle.icu_char16trie.specs.Pending.{Spells, PartsGive, IsPending, IsOver, IsNodeValue, weight, work_left}
-use Rattle.icu_char16trie.specs.Walk.{FrontGives, GivesFrom, WalkGives, IsWalked, front_work, work_from}
+use Rattle.icu_char16trie.specs.Pending.{Spells, PartsGive, IsPending, IsOver, IsNodeValue, parts_work, weight, work_left}
+use Rattle.icu_char16trie.specs.Walk.{FrontGives, GivesFrom, WalkGives, IsWalked, IsValueOfNode, Gives, Reaches, front_work, walk_text, walk_work, work_from}
 use Rattle.icu_char16trie.specs.Inside.Opening.{bytes_of, GoesToNode, IsFrom, IsPast, Keeps}
 use Rattle.icu_char16trie.specs.Inside.Walking.{IsNearFront, below, own, EndsKey, FindsEntry, IsOpened, IsPastFront, OpensFront, ReadsNode, TellsNode}
 use Rattle.icu_char16trie.specs.declared.front.Front.{Front}
-use Rattle.icu_char16trie.specs.declared.front.Front.TheVariants.{At}
+use Rattle.icu_char16trie.specs.declared.front.Front.TheVariants.{At, Match}
+use Rattle.icu_char16trie.specs.declared.pending.BranchPart.{BranchPart}
 use Rattle.icu_char16trie.specs.declared.pending.Pending.{Pending}
 use Rattle.icu_char16trie.specs.declared.place.Place.{Place}
-use Rattle.icu_char16trie.specs.declared.place.Place.TheVariants.{Nowhere}
+use Rattle.icu_char16trie.specs.declared.place.Place.TheVariants.{Nowhere, Node, Run}
 use Rattle.icu_char16trie.specs.declared.spelling.LeadSurrogate.{LeadSurrogate}
 use Rattle.icu_char16trie.specs.declared.walk.Walk.{Walk}
 use Rattle.icu_char16trie.proofs.NextLemmas.{IsWithout, from_gone, from_here, not_both, over_gives, past_gives, stands_absent, stands_by, without_cuts, work_by}
@@ -234,3 +237,49 @@ place_gives s place m t h p stood = record {
   parts = rw p refl;
   is = sym (append-nil (under [] m) ∙ under_nil m);
 }
+
+-- ---- entries with texts of their own
+
+pub item_gives : (old new : Walk) (text : String Global) → slice_values new.pending.units ≡ slice_values old.pending.units
+    → (IsWalked old → ⊥) → ((m : UnitMap) → WalkGives old m → Reaches m new) → IsValueOfNode new → string_bytes text ≡ walk_text new
+    → Gives old (Some (Ok (text, new.value))) new
+item_gives old new text u more reaches value is = record {
+  entries = λ m g. rw is (reaches m g);
+  done = λ d. absurd (more d);
+  ended = λ e. absurd (not_both e);
+  value = rw u at value;
+  units = u;
+}
+
+pub none_gives : (old new : Walk) → slice_values new.pending.units ≡ slice_values old.pending.units
+    → ((m : UnitMap) → WalkGives old m → m ≡ []) → IsWalked new → Gives old None new
+none_gives old new u none w = record { entries = none; done = λ d. refl; ended = w; value = tt; units = u }
+
+pub err_gives : (old new : Walk) (e : MemoryError) → slice_values new.pending.units ≡ slice_values old.pending.units → IsWalked new
+    → (IsWalked old → ⊥) → Gives old (Some (Err e)) new
+err_gives old new e u w more =
+    record { entries = λ m g. tt; done = λ d. absurd (more d); ended = λ _. w; value = tt; units = u }
+
+parts_some : (len : ℕ) (parts : List BranchPart) → (parts ≡ [] → ⊥) → 0 < parts_work len parts
+unfolding parts_work
+parts_some len [] more = absurd (more refl)
+parts_some len (part ∷ parts) more =
+    omega (arith, weight_some len part.place, sum_by-append (λ (t : BranchPart). weight len t.place) (part ∷ []) parts)
+
+parts_none : (len : ℕ) (parts : List BranchPart) → parts ≡ [] → parts_work len parts ≡ 0
+unfolding parts_work
+parts_none len parts e = ap (parts_work len) e
+
+some_work : (len : ℕ) (front : Front) (parts : List BranchPart) → ((front ≡ At Nowhere) × (parts ≡ []) → ⊥)
+    → 0 < front_work len front + parts_work len parts
+some_work len (At Nowhere) parts more = omega (arith, parts_some len parts (λ e. more (refl, e)))
+some_work len (At (Node p)) parts more = omega (arith, weight_some len p)
+some_work len (At (Run p left)) parts more = omega (arith, weight_some len p)
+some_work len (Match p low) parts more = omega (arith, weight_some len p)
+
+-- An empty rest is less work than a non-empty one.
+pub walked_work : (old new : Walk) → IsWalked new → (IsWalked old → ⊥) → walk_work new < walk_work old
+walked_work old new w more =
+    let none : parts_work (length (slice_values new.pending.units)) new.pending.parts.items ≡ 0 =
+    parts_none (length (slice_values new.pending.units)) new.pending.parts.items w.1 in
+    rw w.0 (omega (arith, none, some_work (length (slice_values old.pending.units)) old.front old.pending.parts.items more))

@@ -4,20 +4,20 @@ use Rattle.std.specs.Global.{Global}
 use Rattle.icu_zerovec.specs.declared.memory.MemoryError.{MemoryError}
 use Rattle.icu_char16trie.specs.UnitMap.{UnitMap}
 use Rattle.icu_char16trie.specs.LossyText.{key_text}
-use Rattle.icu_char16trie.specs.Pending.{IsPending, IsOver, Gives}
+use Rattle.icu_char16trie.specs.Walk.{WalkGives, IsWalked, Gives}
 use Rattle.icu_char16trie.specs.declared.entries.Iter2.{Iter2}
 
 -- The entries m are still to come.
 abbrev pub IsLeft : Iter2 → UnitMap → Type 0
-IsLeft it m = IsPending it.pending m
+IsLeft it m = WalkGives it.walk m
 
 -- Nothing is to come, on any units.
 abbrev pub IsDone : Iter2 → Type 0
-IsDone it = IsOver it.pending
+IsDone it = IsWalked it.walk
 
 -- The contract of one call of `next`.
 abbrev pub GivesNext : Iter2 → Option (Result (String Global × ℤ) MemoryError) → Iter2 → Type 0
-GivesNext s r t = Gives s.pending r t.pending
+GivesNext s r t = Gives s.walk r t.walk
 
 -- The items are the entries m, each once and in order.
 abbrev pub AreEntries : List (Result (String Global × ℤ) MemoryError) → UnitMap → Type 0

@@ -1,8 +1,6 @@
--- What an iterator over a trie has left: the entries of the current node, and then those of the
+-- What a walk over a trie has left: the entries of the current node, and then those of the
 -- postponed parts of branches.
-use Rattle.std.specs.Prelude.{◌≡◌, ℕ, ℤ, ◌+◌, ◌-◌, ◌^◌, ◌≤◌, List, [], ◌∷◌, ◌++◌, Option, Some, None, Result, String, length, reverse, string_bytes, sum_by, take, MatchOption, MatchResult, IfSome, IfOk, IsNone, IsErr}
-use Rattle.std.specs.Global.{Global}
-use Rattle.icu_zerovec.specs.declared.memory.MemoryError.{MemoryError}
+use Rattle.std.specs.Prelude.{◌≡◌, ℕ, ℤ, ◌+◌, ◌-◌, ◌^◌, ◌≤◌, List, [], ◌∷◌, ◌++◌, Option, Some, None, length, reverse, string_bytes, sum_by, take}
 use Rattle.icu_zerovec.specs.Slice.{slice_values}
 use Rattle.icu_char16trie.specs.Grammar.{Arms, Part, Children}
 use Rattle.icu_char16trie.specs.LossyText.{key_text}
@@ -58,28 +56,9 @@ pub record IsPending (s : Pending) (m : UnitMap) : Type 0 where
 abbrev pub IsOver : Pending → Type 0
 IsOver s = (s.node ≡ None) × (s.parts.items ≡ [])
 
--- The text and the value are those of the first of the entries m, and the others are still to come.
-abbrev pub TakesFirst : UnitMap → List ℕ → ℤ → Pending → Type 0
-TakesFirst m text v t =
-    (key : List ℕ) × (rest : UnitMap) × (m ≡ (key, v) ∷ rest) × (text ≡ key_text key)
-    × IsPending t rest
-
 -- The value of some node of the units. It is 0 if some units of the value are missing.
 abbrev pub IsNodeValue : List ℕ → ℤ → Type 0
 IsNodeValue units v = (p : ℕ) × (value_at units (Node p) ≡ Some v)
-
--- The contract of one call of `next`: it returns the first of the entries that were left, or None
--- if none was left. After an `Err` and after None nothing is left. On all units a value is that of
--- a node.
-pub record Gives (s : Pending) (r : Option (Result (String Global × ℤ) MemoryError))
-    (t : Pending) : Type 0 where
-  pub entries : (m : UnitMap) → IsPending s m
-      → MatchOption r (m ≡ [])
-      (λ x. MatchResult x (λ y. TakesFirst m (string_bytes y.0) y.1 t) (λ e. Unit {0}))
-  pub done : IsOver s → IsNone r
-  pub ended : MatchOption r (IsOver t) (λ x. IsErr x → IsOver t)
-  pub value : IfSome r (λ x. IfOk x (λ y. IsNodeValue (slice_values s.units) y.1))
-  pub units : slice_values t.units ≡ slice_values s.units
 
 -- The weight of an index in a bound for the work that is left. It is more than twice the weight of
 -- any later index, because what is opened leads to at most two others, both at later indices.

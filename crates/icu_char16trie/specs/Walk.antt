@@ -1,5 +1,6 @@
 -- What a walk over the entries of a trie has reached, and what is still to come.
-use Rattle.std.specs.Prelude.{◌≡◌, ℕ, ◌+◌, pos, List, [], ◌∷◌, ◌++◌, Option, Some, None, Bool, true, false, Result, Ok, Err, length, reverse, string_bytes}
+use Rattle.std.specs.Prelude.{◌≡◌, ℕ, ℤ, ◌+◌, pos, List, [], ◌∷◌, ◌++◌, Option, Some, None, Bool, true, false, Result, Ok, Err, String, length, reverse, string_bytes, MatchOption, MatchResult, IfSome, IfOk, IsNone, IsErr}
+use Rattle.std.specs.Global.{Global}
 use Rattle.icu_zerovec.specs.declared.memory.MemoryError.{MemoryError}
 use Rattle.icu_zerovec.specs.Slice.{slice_values}
 use Rattle.icu_char16trie.specs.Grammar.{Matches}
@@ -49,11 +50,15 @@ walk_text s =
 abbrev pub IsWalked : Walk → Type 0
 IsWalked s = (s.front ≡ At Nowhere) × (s.pending.parts.items ≡ [])
 
+-- The text and the value are those of the first of the entries m, and the others are still to come.
+abbrev pub TakesFirst : UnitMap → List ℕ → ℤ → Walk → Type 0
+TakesFirst m text v t =
+    (key : List ℕ) × (rest : UnitMap) × (m ≡ (key, v) ∷ rest) × (text ≡ key_text key)
+    × WalkGives t rest
+
 -- The first of the entries m was reached, and the others are still to come.
 abbrev pub Reaches : UnitMap → Walk → Type 0
-Reaches m t =
-    (key : List ℕ) × (rest : UnitMap) × (m ≡ (key, t.value) ∷ rest) × (walk_text t ≡ key_text key)
-    × WalkGives t rest
+Reaches m t = TakesFirst m (walk_text t) t.value t
 
 -- The contract of a move among the entries m: true if one was left, which was then reached. An
 -- `Err` says nothing about m.
@@ -77,6 +82,19 @@ AnswersEnd (Err e) t = IsEnd t
 -- The value is that of some node of the units.
 abbrev pub IsValueOfNode : Walk → Type 0
 IsValueOfNode s = IsNodeValue (slice_values s.pending.units) s.value
+
+-- The contract of a move that returns the entry with a text of its own. It returns the first of the
+-- entries that were left, or None if none was left. After an `Err` and after None nothing is left.
+-- On all units a value is that of a node.
+pub record Gives (s : Walk) (r : Option (Result (String Global × ℤ) MemoryError))
+    (t : Walk) : Type 0 where
+  pub entries : (m : UnitMap) → WalkGives s m
+      → MatchOption r (m ≡ [])
+      (λ x. MatchResult x (λ y. TakesFirst m (string_bytes y.0) y.1 t) (λ e. Unit {0}))
+  pub done : IsWalked s → IsNone r
+  pub ended : MatchOption r (IsWalked t) (λ x. IsErr x → IsWalked t)
+  pub value : IfSome r (λ x. IfOk x (λ y. IsNodeValue (slice_values s.pending.units) y.1))
+  pub units : slice_values t.pending.units ≡ slice_values s.pending.units
 
 -- An upper bound for the work of what comes next.
 abbrev pub front_work : ℕ → Front → ℕ

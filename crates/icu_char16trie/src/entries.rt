@@ -1,7 +1,8 @@
 //! The entries of a trie, in unit order.
-ghost use Rattle.icu_char16trie.specs.Inside.Cuts.{IsCut, IsCut-prop};
+ghost use Rattle.icu_char16trie.specs.Inside.Walking.{IsSound, IsSound-prop};
 
-use crate::pending::Pending;
+use crate::place::Place;
+use crate::walk::Walk;
 use icu_zerovec::{MemoryError, ZeroSlice};
 use std::alloc::Global;
 
@@ -15,8 +16,8 @@ use std::alloc::Global;
 #[derive(Debug, Drop)]
 pub struct Iter2<'a> {
     alloc: Global,
-    pending: Pending<'a>,
-    ghost cuts: { IsCut pending } by { IsCut-prop pending },
+    walk: Walk<'a>,
+    ghost sound: { IsSound walk } by { IsSound-prop walk },
 }
 
 impl<'a> Iter2<'a> {
@@ -29,27 +30,27 @@ impl<'a> Iter2<'a> {
     /// Creates an iterator over the entries of the trie with these units.
     pub(crate) fn new(alloc: Global, units: ZeroSlice<'a, u16>) -> Self
         ensures left { (m : UnitMap) → IsTrieOf (slice_values units.entry) m → IsLeft result m }
-        ensures units { slice_values result.pending.units ≡ slice_values units.entry }
+        ensures units { slice_values result.walk.pending.units ≡ slice_values units.entry }
     {
         Iter2 {
             alloc,
-            pending: Pending::new(alloc, units),
+            walk: Walk::new(alloc, units, Place::Node(0)),
         }
     }
 }
 
 impl<'a> Iterator for Iter2<'a> {
     ghost use Rattle.std.specs.Iterator.{at_most};
-    ghost use Rattle.icu_char16trie.specs.Pending.{work_left};
+    ghost use Rattle.icu_char16trie.specs.Walk.{walk_work};
     ghost use Rattle.icu_char16trie.specs.Entries.{GivesNext};
 
     type Item = Result<(String, i32), MemoryError>;
 
     ghost next_gives = { GivesNext };
 
-    ghost remaining = { λ s. at_most (work_left s.pending) };
+    ghost remaining = { λ s. at_most (walk_work s.walk) };
 
     fn next(&mut self) -> Option<Result<(String, i32), MemoryError>> {
-        self.pending.next_item(self.alloc)
+        self.walk.next_item(self.alloc)
     }
 }

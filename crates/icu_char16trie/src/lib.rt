@@ -23,10 +23,11 @@
 //! - `dictionary`: the longest key that a text starts with; `matches`:
 //!   [`Matches`](char16trie::Matches), all such keys
 //! - `soundness`: whether units are a trie; `counted`: the number of its entries
-//! - `entries`: [`Iter2`](char16trie::Iter2), the entries in unit order; `pending`: what such an
-//!   iterator has not visited yet; `spelling`: the key as text while it grows
+//! - `entries`: [`Iter2`](char16trie::Iter2), the entries in unit order, each with its own text
 //! - `listing`: [`Entries`](char16trie::Entries), the entries through one buffer, from the root or
-//!   from a cursor; `walk`: how it moves from one entry to the next; `front`: what comes next
+//!   from a cursor
+//! - `walk`: how both move from one entry to the next; `front`: what comes next; `pending`: what is
+//!   not visited yet; `spelling`: the key as text while it grows
 //! - `next_units`: the units that can come next in some key
 //! - `unique`: the value that all keys ahead of a cursor have
 //! - `json`: reading and writing JSON

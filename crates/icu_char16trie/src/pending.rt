@@ -1,20 +1,15 @@
-//! What an iterator over the entries of a trie has not visited yet.
+//! What a walk over the entries of a trie has not visited yet.
 ghost use Rattle.icu_zerovec.specs.Slice.{slice_values};
-ghost use Rattle.std.specs.Prelude.{◌≡◌, ℕ, ◌^◌, ◌<◌, ◌≤◌, length, List, [], Some, None, Ok, IsSome, IfOk, OnOk, true, false};
+ghost use Rattle.std.specs.Prelude.{◌≡◌, ◌^◌, ◌<◌, ◌≤◌, None, Ok, OnOk, true, false};
 ghost use Rattle.icu_char16trie.specs.Constants.{max_branch_linear_sub_node_length, min_value_lead};
 ghost use Rattle.icu_char16trie.specs.Grammar.{Matches};
-ghost use Rattle.icu_char16trie.specs.UnitMap.{UnitMap};
-ghost use Rattle.icu_char16trie.specs.UnitPlaces.{InRun, Stands};
-ghost use Rattle.icu_char16trie.specs.declared.place.Place.TheVariants.{Node};
+ghost use Rattle.icu_char16trie.specs.UnitPlaces.{InRun};
 
-use crate::encoded::{delta_end, entry_child, lower_part, node_end, run_len, short_end, unit_at};
-use crate::impl_const::{
-    MAX_BRANCH_LINEAR_SUB_NODE_LENGTH, MIN_LINEAR_MATCH, MIN_VALUE_LEAD, VALUE_IS_FINAL,
-};
+use crate::encoded::{delta_end, entry_child, lower_part, run_len, short_end, unit_at};
+use crate::impl_const::{MAX_BRANCH_LINEAR_SUB_NODE_LENGTH, MIN_LINEAR_MATCH, VALUE_IS_FINAL};
 use crate::spelling::{Mark, Spelling};
-use crate::step::value_by;
-use icu_zerovec::{MemoryError, ZeroSlice};
-use std::alloc::{AllocError, Global};
+use icu_zerovec::ZeroSlice;
+use std::alloc::AllocError;
 
 /// A part of a branch that is postponed.
 #[derive(Clone, Copy, Debug)]
@@ -40,24 +35,9 @@ pub(crate) struct Pending<'a> {
 }
 
 impl<'a> Pending<'a> {
-    ghost use Rattle.icu_char16trie.specs.Pending.{ArmsHold, IsPending, IsOver, Gives, work_left};
+    ghost use Rattle.icu_char16trie.specs.Pending.{ArmsHold, IsOver};
     ghost use Rattle.icu_char16trie.specs.Inside.Cuts.{IsCut};
-    ghost use Rattle.icu_char16trie.specs.Inside.Opening.{IsItemBy, PutsOff, Opens, OpensNode, GoesToNode, Keeps, Finds};
-
-    /// Creates the state in which all entries of these units are pending.
-    pub(crate) fn new(alloc: Global, units: ZeroSlice<'a, u16>) -> Self
-        ensures entries { (m : UnitMap) → Stands (slice_values units.entry) (Node 0) m
-            → IsPending result m }
-        ensures parts { result.parts.items ≡ [] }
-        ensures units { slice_values result.units ≡ slice_values units.entry }
-    {
-        Pending {
-            units,
-            spelling: Spelling::new(alloc),
-            node: Some(0),
-            parts: Vec::new(alloc),
-        }
-    }
+    ghost use Rattle.icu_char16trie.specs.Inside.Opening.{PutsOff, Opens, GoesToNode, Keeps};
 
     /// Postpones a part, under the key so far.
     #[inline(always)]
@@ -178,43 +158,6 @@ impl<'a> Pending<'a> {
         Ok(())
     }
 
-    /// Returns the item of the node whose lead unit is before `place`, if the node has a value.
-    #[inline(always)]
-    fn item_by(
-        &self,
-        alloc: Global,
-        place: usize,
-        lead: u16,
-    ) -> Result<Option<(String, i32)>, AllocError>
-        ensures { IfOk result
-            (IsItemBy (slice_values self.now.units) place lead self.now.spelling) }
-    {
-        let Some(value) = value_by(self.units, place, lead) else {
-            return Ok(None);
-        };
-        let text = self.spelling.key_text(alloc)?;
-        Ok(Some((text, value)))
-    }
-
-    /// Opens the node: returns its item, if it has a value, and moves to the first node after it.
-    #[inline(always)]
-    fn open_node(&mut self, alloc: Global) -> Result<Option<(String, i32)>, AllocError>
-        ensures { IfOk result (λ item. OpensNode self.old item self.new) }
-    {
-        let Some(place) = self.node.take() else {
-            return Ok(None);
-        };
-        let Some(lead) = unit_at(self.units, place) else {
-            return Ok(None);
-        };
-        let item = self.item_by(alloc, place + 1, lead)?;
-        if lead >= VALUE_IS_FINAL {
-            return Ok(item);
-        }
-        self.open_match(node_end(place + 1, lead), lead % MIN_VALUE_LEAD)?;
-        Ok(item)
-    }
-
     /// Moves to the next node: the current one, or else the first node of the next part. Returns
     /// false if nothing was left. In a trie every part leads to a node.
     pub(crate) fn go_to_node(&mut self) -> Result<bool, AllocError>
@@ -233,44 +176,5 @@ impl<'a> Pending<'a> {
         self.spelling.cut_to(part.mark);
         self.enter_part(part.place, part.count)?;
         Ok(true)
-    }
-
-    /// Returns the next item. Opens at most as many nodes as there are units, and then nothing is
-    /// left: in a trie a node without an item leads to a later node.
-    fn find_item(&mut self, alloc: Global) -> Result<Option<(String, i32)>, AllocError>
-        requires { IsCut self.old }
-        ensures done { IsOver self.old → result ≡ Ok None }
-        ensures finds { IfOk result (λ item. Finds self.old item self.new) }
-    {
-        for _opened in 0..self.units.len() {
-            if !self.go_to_node()? {
-                return Ok(None);
-            }
-            if let Some(item) = self.open_node(alloc)? {
-                return Ok(Some(item));
-            }
-        }
-        self.node = None;
-        self.parts.clear();
-        Ok(None)
-    }
-
-    /// Returns the next item, or an `Err` if an allocation fails. After an `Err` nothing is left.
-    pub(crate) fn next_item(&mut self, alloc: Global) -> Option<Result<(String, i32), MemoryError>>
-        requires { IsCut self.old }
-        ensures cuts { IsCut self.new }
-        ensures gives { Gives self.old result self.new }
-        ensures work { IsSome result → work_left self.new < work_left self.old }
-    {
-        let units = self.units;
-        let Ok(found) = self.find_item(alloc) else {
-            *self = Pending {
-                node: None,
-                ..Pending::new(alloc, units)
-            };
-            return Some(Err(MemoryError));
-        };
-        let item = found?;
-        Some(Ok(item))
     }
 }

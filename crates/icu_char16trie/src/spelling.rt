@@ -1,10 +1,9 @@
 //! The key of an entry as text, while it grows.
 ghost use Rattle.icu_zerovec.specs.Slice.{slice_values};
-ghost use Rattle.std.specs.Prelude.{◌≡◌, ℕ, ◌+◌, ◌^◌, ◌<◌, ◌≤◌, ◌⊎◌, ◌++◌, List, [], ◌∷◌, take, drop, length, string_bytes, unwrap_or, MatchOption, IfOk, OnOk, Some, None};
+ghost use Rattle.std.specs.Prelude.{◌≡◌, ℕ, ◌+◌, ◌^◌, ◌<◌, ◌≤◌, ◌⊎◌, ◌++◌, List, [], ◌∷◌, take, drop, length, string_bytes, unwrap_or, MatchOption, OnOk, Some, None};
 ghost use Rattle.std.specs.Char.{encode_utf8};
 ghost use Rattle.std.specs.Char.Utf16.{lone_unit_char, surrogate_pair_char};
 ghost use Rattle.std.specs.Str.{IsCharBoundary};
-ghost use Rattle.icu_char16trie.specs.LossyText.{key_text};
 
 use icu_zerovec::ZeroSlice;
 use std::alloc::{AllocError, Global};
@@ -76,7 +75,6 @@ fn push_wide(text: &mut String, c: char) -> Result<(), AllocError>
 }
 
 impl Spelling {
-    ghost use Rattle.icu_char16trie.specs.Pending.{Spells};
     ghost use Rattle.icu_char16trie.specs.Inside.Opening.{SpellsOn};
 
     /// Creates the spelling of the empty key.
@@ -216,19 +214,5 @@ impl Spelling {
     {
         self.text.truncate(mark.len);
         self.held = mark.held;
-    }
-
-    /// Returns the text of the key. A held unit counts as a lone surrogate.
-    pub(crate) fn key_text(&self, alloc: Global) -> Result<String, AllocError>
-        ensures { IfOk result (λ text. (key : List ℕ)
-            → Spells (string_bytes self.now.text) self.now.held key
-            → string_bytes text ≡ key_text key) }
-    {
-        let mut text = String::from_str(alloc, &self.text)?;
-        let Some(_lead) = self.held else {
-            return Ok(text);
-        };
-        text.push(char::REPLACEMENT_CHARACTER)?;
-        Ok(text)
     }
 }

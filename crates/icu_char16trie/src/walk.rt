@@ -1,6 +1,6 @@
 //! How a listing walks from one entry of a trie to the next.
 ghost use Rattle.icu_zerovec.specs.Slice.{slice_values};
-ghost use Rattle.std.specs.Prelude.{◌≡◌, ◌<◌, List, [], pos, Ok, IfOk, OnOk, true, false};
+ghost use Rattle.std.specs.Prelude.{◌≡◌, ◌<◌, List, [], pos, Ok, IsSome, IfOk, OnOk, true, false};
 ghost use Rattle.icu_char16trie.specs.UnitMap.{UnitMap};
 ghost use Rattle.icu_char16trie.specs.UnitPlaces.{Stands, IsNear};
 
@@ -25,7 +25,7 @@ pub(crate) struct Walk<'a> {
 }
 
 impl<'a> Walk<'a> {
-    ghost use Rattle.icu_char16trie.specs.Walk.{WalkGives, walk_text, IsWalked, TellsNext, AnswersEnd, IsValueOfNode, walk_work};
+    ghost use Rattle.icu_char16trie.specs.Walk.{WalkGives, walk_text, IsWalked, TellsNext, AnswersEnd, IsValueOfNode, Gives, walk_work};
     ghost use Rattle.icu_char16trie.specs.Inside.Walking.{EndsKey, FindsEntry, IsSound};
 
     /// Creates the walk over the entries from a position.
@@ -139,5 +139,30 @@ impl<'a> Walk<'a> {
                 Err(MemoryError)
             }
         }
+    }
+
+    /// Moves to the next entry and returns it, with a text of its own.
+    ///
+    /// After an `Err` nothing is left.
+    pub(crate) fn next_item(&mut self, alloc: Global) -> Option<Result<(String, i32), MemoryError>>
+        requires { IsSound self.old }
+        ensures gives { Gives self.old result self.new }
+        ensures sound { IsSound self.new }
+        ensures work { IsSome result → walk_work self.new < walk_work self.old }
+    {
+        let units = self.pending.units;
+        match self.next_entry() {
+            Ok(true) => {}
+            Ok(false) => return None,
+            Err(error) => {
+                self.pending.units = units;
+                return Some(Err(error));
+            }
+        }
+        let Ok(text) = String::from_str(alloc, self.text()) else {
+            self.end();
+            return Some(Err(MemoryError));
+        };
+        Some(Ok((text, self.value)))
     }
 }

@@ -1,11 +1,9 @@
--- What the steps of an iterator over the entries do.
-use Rattle.std.specs.Prelude.{◌≡◌, ℕ, ℤ, ◌+◌, ◌<◌, ◌≤◌, ◌⊎◌, List, [], ◌∷◌, ◌++◌, Option, Some, None, length, reverse, string_bytes, MatchOption, IfSome, String}
-use Rattle.std.specs.Global.{Global}
+-- What the steps from one node to the next do.
+use Rattle.std.specs.Prelude.{◌≡◌, ℕ, ◌+◌, ◌<◌, ◌≤◌, ◌⊎◌, List, [], ◌∷◌, ◌++◌, Some, None, length, reverse, string_bytes}
 use Rattle.icu_zerovec.specs.Slice.{slice_values}
 use Rattle.icu_char16trie.specs.UnitMap.{UnitMap, under}
 use Rattle.icu_char16trie.specs.LossyText.{key_text}
-use Rattle.icu_char16trie.specs.UnitPlaces.{value_by}
-use Rattle.icu_char16trie.specs.Pending.{held_units, Spells, PartsGive, IsPending, IsOver, TakesFirst, IsNodeValue, weight, work_left}
+use Rattle.icu_char16trie.specs.Pending.{held_units, Spells, PartsGive, IsPending, weight, work_left}
 use Rattle.icu_char16trie.specs.Inside.Cuts.{IsCut}
 use Rattle.icu_char16trie.specs.declared.pending.BranchPart.{BranchPart}
 use Rattle.icu_char16trie.specs.declared.pending.Pending.{Pending}
@@ -57,28 +55,6 @@ pub record Opens (old : Pending) (p : ℕ) (Stood : UnitMap → Type 0) (new : P
   pub cuts : IsCut old → IsCut new
   pub work : work_left new < weight (length (slice_values old.units)) p + work_left old
 
--- The item of the node whose lead unit is before p: its value, if it has one, and the text of the
--- key.
-abbrev pub IsItemBy : List ℕ → ℕ → ℕ → Spelling → Option (String Global × ℤ) → Type 0
-IsItemBy units p lead s None = value_by units p lead ≡ None
-IsItemBy units p lead s (Some x) =
-    (value_by units p lead ≡ Some x.1)
-    × ((key : List ℕ) → Spells (bytes_of s) s.held key → string_bytes x.0 ≡ key_text key)
-
--- The node is opened. Its item, if it has one, is the first of the pending entries, and the others
--- are still pending.
-pub record OpensNode (old : Pending) (item : Option (String Global × ℤ)) (new : Pending)
-    : Type 0 where
-  pub units : new.units ≡ old.units
-  pub entries : (m : UnitMap) → IsPending old m
-      → MatchOption item (IsPending new m) (λ x. TakesFirst m (string_bytes x.0) x.1 new)
-  pub value : IfSome item (λ x. IsNodeValue (slice_values old.units) x.1)
-  pub leads : item ≡ None → (m : UnitMap) → IsPending old m → (k : ℕ) → (k ≡ 0) ⊎ IsFrom k old
-      → IsPast (k + 1) new
-  pub cuts : IsCut old → IsCut new
-  pub work : MatchOption item (work_left new ≤ work_left old)
-      (λ x. work_left new < work_left old)
-
 -- What was pending is still pending.
 pub record Keeps (old new : Pending) : Type 0 where
   pub units : new.units ≡ old.units
@@ -90,14 +66,3 @@ pub record Keeps (old new : Pending) : Type 0 where
 abbrev pub GoesToNode : Pending → Pending → Type 0
 GoesToNode old new =
     (m : UnitMap) → IsPending old m → (k : ℕ) → IsPast k old → (k ≡ 0) ⊎ IsFrom k new
-
--- The next item is found, or there is none and nothing is left.
-pub record Finds (old : Pending) (item : Option (String Global × ℤ)) (new : Pending)
-    : Type 0 where
-  pub units : new.units ≡ old.units
-  pub entries : (m : UnitMap) → IsPending old m
-      → MatchOption item (m ≡ []) (λ x. TakesFirst m (string_bytes x.0) x.1 new)
-  pub over : MatchOption item (IsOver new) (λ x. Unit {0})
-  pub value : IfSome item (λ x. IsNodeValue (slice_values old.units) x.1)
-  pub cuts : IsCut new
-  pub work : IfSome item (λ x. work_left new < work_left old)

@@ -1,6 +1,7 @@
 //! The entries of a trie, in unit order.
 
-use crate::icu_char16trie::pending::Pending;
+use crate::icu_char16trie::place::Place;
+use crate::icu_char16trie::walk::Walk;
 use crate::icu_zerovec::{MemoryError, ZeroSlice};
 use crate::support::prelude::*;
 
@@ -14,7 +15,7 @@ use crate::support::prelude::*;
 #[derive(Debug, Clone)]
 #[must_use = "iterators are lazy and do nothing unless consumed"]
 pub struct Iter2<'a> {
-    pending: Pending<'a>,
+    walk: Walk<'a>,
 }
 
 impl<'a> Iter2<'a> {
@@ -22,7 +23,7 @@ impl<'a> Iter2<'a> {
     #[inline]
     pub(crate) fn new(units: ZeroSlice<'a, u16>) -> Self {
         Iter2 {
-            pending: Pending::new(units),
+            walk: Walk::new(units, Place::Node(0)),
         }
     }
 }
@@ -32,6 +33,6 @@ impl<'a> Iterator for Iter2<'a> {
 
     #[inline]
     fn next(&mut self) -> Option<Result<(String, i32), MemoryError>> {
-        self.pending.next_item()
+        self.walk.next_item()
     }
 }

@@ -1,14 +1,13 @@
-//! What an iterator over the entries of a trie has not visited yet.
+//! What a walk over the entries of a trie has not visited yet.
 
 use crate::icu_char16trie::encoded::{
-    delta_end, entry_child, lower_part, node_end, run_len, short_end, unit_at,
+    delta_end, entry_child, lower_part, run_len, short_end, unit_at,
 };
 use crate::icu_char16trie::impl_const::{
-    MAX_BRANCH_LINEAR_SUB_NODE_LENGTH, MIN_LINEAR_MATCH, MIN_VALUE_LEAD, VALUE_IS_FINAL,
+    MAX_BRANCH_LINEAR_SUB_NODE_LENGTH, MIN_LINEAR_MATCH, VALUE_IS_FINAL,
 };
 use crate::icu_char16trie::spelling::{Mark, Spelling};
-use crate::icu_char16trie::step::value_by;
-use crate::icu_zerovec::{MemoryError, ZeroSlice};
+use crate::icu_zerovec::ZeroSlice;
 use crate::support::AllocError;
 use crate::support::prelude::*;
 
@@ -36,17 +35,6 @@ pub(crate) struct Pending<'a> {
 }
 
 impl<'a> Pending<'a> {
-    /// Creates the state in which all entries of these units are pending.
-    #[inline]
-    pub(crate) fn new(units: ZeroSlice<'a, u16>) -> Self {
-        Pending {
-            units,
-            spelling: Spelling::new(),
-            node: Some(0),
-            parts: Vec::new(),
-        }
-    }
-
     /// Postpones a part, under the key so far.
     #[inline(always)]
     fn put_off(&mut self, place: usize, count: usize) -> Result<(), AllocError> {
@@ -139,33 +127,6 @@ impl<'a> Pending<'a> {
         Ok(())
     }
 
-    /// Returns the item of the node whose lead unit is before `place`, if the node has a value.
-    #[inline(always)]
-    fn item_by(&self, place: usize, lead: u16) -> Result<Option<(String, i32)>, AllocError> {
-        let Some(value) = value_by(self.units, place, lead) else {
-            return Ok(None);
-        };
-        let text = self.spelling.key_text()?;
-        Ok(Some((text, value)))
-    }
-
-    /// Opens the node: returns its item, if it has a value, and moves to the first node after it.
-    #[inline(always)]
-    fn open_node(&mut self) -> Result<Option<(String, i32)>, AllocError> {
-        let Some(place) = self.node.take() else {
-            return Ok(None);
-        };
-        let Some(lead) = unit_at(self.units, place) else {
-            return Ok(None);
-        };
-        let item = self.item_by(place + 1, lead)?;
-        if lead >= VALUE_IS_FINAL {
-            return Ok(item);
-        }
-        self.open_match(node_end(place + 1, lead), lead % MIN_VALUE_LEAD)?;
-        Ok(item)
-    }
-
     /// Moves to the next node: the current one, or else the first node of the next part. Returns
     /// false if nothing was left. In a trie every part leads to a node.
     #[inline]
@@ -179,37 +140,5 @@ impl<'a> Pending<'a> {
         self.spelling.cut_to(part.mark);
         self.enter_part(part.place, part.count)?;
         Ok(true)
-    }
-
-    /// Returns the next item. Opens at most as many nodes as there are units, and then nothing is
-    /// left: in a trie a node without an item leads to a later node.
-    #[inline]
-    fn find_item(&mut self) -> Result<Option<(String, i32)>, AllocError> {
-        for _opened in 0..self.units.len() {
-            if !self.go_to_node()? {
-                return Ok(None);
-            }
-            if let Some(item) = self.open_node()? {
-                return Ok(Some(item));
-            }
-        }
-        self.node = None;
-        self.parts.clear();
-        Ok(None)
-    }
-
-    /// Returns the next item, or an `Err` if an allocation fails. After an `Err` nothing is left.
-    #[inline]
-    pub(crate) fn next_item(&mut self) -> Option<Result<(String, i32), MemoryError>> {
-        let units = self.units;
-        let Ok(found) = self.find_item() else {
-            *self = Pending {
-                node: None,
-                ..Pending::new(units)
-            };
-            return Some(Err(MemoryError));
-        };
-        let item = found?;
-        Some(Ok(item))
     }
 }

@@ -152,15 +152,4 @@ impl Spelling {
         self.text.truncate(mark.len);
         self.held = mark.held;
     }
-
-    /// Returns the text of the key. A held unit counts as a lone surrogate.
-    #[inline]
-    pub(crate) fn key_text(&self) -> Result<String, AllocError> {
-        let mut text = String::from_str(&self.text)?;
-        let Some(_lead) = self.held else {
-            return Ok(text);
-        };
-        text.try_push(char::REPLACEMENT_CHARACTER)?;
-        Ok(text)
-    }
 }

@@ -80,7 +80,7 @@ impl<'data> Char16Trie<'data> {
     /// Returns an iterator over the entries, in unit order: each key as text, with its value.
     ///
     /// Allocates nothing before the first item, and then the text of each item, of exactly its
-    /// length. That and its release take 20 ns of an item's 50 to 90:
+    /// length. That and its release take 25 ns of an item's 55 to 90:
     /// [`entries`](Self::entries) reuses one buffer, and is the fast form. An item is an `Err` if an
     /// allocation fails, and then the iterator ends.
     ///

@@ -105,4 +105,24 @@ impl<'a> Walk<'a> {
             }
         }
     }
+
+    /// Moves to the next entry and returns it, with a text of its own.
+    ///
+    /// After an `Err` nothing is left.
+    pub(crate) fn next_item(&mut self) -> Option<Result<(String, i32), MemoryError>> {
+        let units = self.pending.units;
+        match self.next_entry() {
+            Ok(true) => {}
+            Ok(false) => return None,
+            Err(error) => {
+                self.pending.units = units;
+                return Some(Err(error));
+            }
+        }
+        let Ok(text) = String::from_str(self.text()) else {
+            self.end();
+            return Some(Err(MemoryError));
+        };
+        Some(Ok((text, self.value)))
+    }
 }
