@@ -30,6 +30,13 @@ DEPS="$DEPS icu_char16trie icu_char16trie_builder"
 with_loops() {
     mkdir -p "$work/copy/crates/bench_ours/src"
     tar -C "$root" --exclude=out -cf - crates crates.txt HANDLES tests | tar -C "$work/copy" -xf -
+    # With a kit that stores nothing, the libraries that were proved in this clone.
+    for library in "$root"/crates/*/out/rlib; do
+        [ -d "$library" ] || continue
+        mkdir -p "$work/copy/${library#"$root"/}"
+        cp -rl "$library/." "$work/copy/${library#"$root"/}" 2>/dev/null ||
+            cp -r "$library/." "$work/copy/${library#"$root"/}"
+    done
     for file in "$here"/ours/*.rs; do
         cp "$file" "$work/copy/crates/bench_ours/src/$(basename -- "$file" .rs).rt"
     done
@@ -48,11 +55,10 @@ else
     [ -z "$c" ] || "$root/c/build" --proved || stop "the library for C is not built"
     rust=$work/libpeer.a
     rustc --edition 2024 -O -C target-cpu=x86-64-v2 -C panic=abort --crate-type staticlib \
-        ${without:+-C "llvm-args=-x86-branches-within-32B-boundaries -align-loops=32"} \
-        -o "$rust" "$here/peer/lib.rs"
+        -C "llvm-args=-x86-branches-within-32B-boundaries -align-loops=32" -o "$rust" "$here/peer/lib.rs"
 fi
-# Without the C library, as edition.py has rustc do.
-aligned=${without:+"-falign-loops=32 -Wa,-mbranches-within-32B-boundaries"}
+# As tests/lib/aligned_rattle has clang do, and edition.py rustc.
+aligned="-falign-loops=32 -Wa,-mbranches-within-32B-boundaries"
 for file in "$here"/driver/*.cpp; do
     case $without/$(basename "$file") in
     -*/c_*) continue ;;

@@ -190,10 +190,14 @@ def built(rt, crate):
     if take_passed(rt, crate, tests=not crate.is_program) and not crate.is_static:
         mark(rt, made, stamp)
         return made
-    words = ["rt", "lib" if crate.is_static else "run" if crate.is_program else "test"]
+    words, environment = ["rt", "run" if crate.is_program else "test"], os.environ
+    if crate.is_static:
+        words, by = [f"{top()}/tests/rt", "lib"], f"{top()}/tests/lib/aligned_rattle"
+        environment = {**os.environ, "ALIGNED": rt.rtlib.RATTLE, "RATTLE_BY": by}
     ran = subprocess.run(
         words,
         cwd=crate.folder,
+        env=environment,
         stdin=subprocess.DEVNULL,
         stdout=subprocess.PIPE,
         stderr=subprocess.STDOUT,
