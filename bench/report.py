@@ -13,6 +13,8 @@ import statistics
 LIBRARIES = ["ours", "rust", "icu"]
 # In ns. A row with a lower time is left out, because the compiler removed the loop.
 NOTHING = 0.1
+# Rows with a higher ratio are listed on the page.
+SLOW = 1.05
 PAGE_HEAD = """# Results of the benchmark
 
 `PAGE=bench/results.md bench/run.sh` generates this page; do not edit it. [Benchmarks](README.md)
@@ -22,12 +24,17 @@ describes the kernels and the columns, names the machine, and explains the slow 
 
 
 def read(files):
-    """Returns the least times, as kernel -> row -> library -> ns, and the lines of cells and units."""
+    """Returns the least times, as kernel -> row -> library -> ns, the lines of cells and units, and the
+    ns of a cycle."""
     times = collections.defaultdict(dict)
     others = {"cells": {}, "units": {}}
+    cycle = math.inf
     for file in files:
         for line in open(file):
             kind, *words = line.rstrip("\n").split("\t")
+            if kind == "cycle":
+                cycle = min(cycle, float(words[0]))
+                continue
             if kind != "time":
                 others[kind][line] = words
                 continue
@@ -39,7 +46,7 @@ def read(files):
     for rows in times.values():
         for row in [row for row, least in rows.items() if min(least.values()) < NOTHING]:
             del rows[row]
-    return times, others["cells"].values(), others["units"].values()
+    return times, others["cells"].values(), others["units"].values(), cycle
 
 
 def table(head, lines):
@@ -81,6 +88,23 @@ def summary(kernel, rows):
     worst = max(rows, key=lambda row: by_better(rows[row]))
     means = [mean(ratio(least, library) for least in rows.values()) for library in LIBRARIES[1:]]
     return [f"`{kernel}`", len(rows), *map(shown, means), f"{by_better(rows[worst]):.2f} ({worst})"]
+
+
+def slow_rows(times, cycle):
+    """Returns the title and the table of the rows that take more than 1.05 of the better peer's time."""
+    heads = ["kernel", "row", "ns", "better peer", "its ns", "ours / it", "cycles more"]
+    lines = []
+    for kernel, rows in times.items():
+        for row in sorted(rows, key=lambda row: -by_better(rows[row])):
+            least = rows[row]
+            if by_better(least) > SLOW:
+                peer = min((it for it in ("rust", "icu") if it in least), key=least.get)
+                more = (least["ours"] - least[peer]) / cycle
+                ns = [f"{least[it]:.2f}" for it in ("ours", peer)]
+                lines.append([f"`{kernel}`", row, ns[0], peer, ns[1], shown(by_better(least)), f"{more:.1f}"])
+    count = sum(map(len, times.values()))
+    note = f"{len(lines)} of {count} rows. A cycle took {cycle:.2f} ns.\n\n"
+    return f"Rows above {SLOW}", note + table(heads, lines)
 
 
 def sizes(cells, units):
@@ -133,13 +157,14 @@ def main():
         title, text = beside(shares(words.edition), shares(words.measured))
         print(f"### {title}\n\n{text}")
         return
-    times, cells, units = read(words.measured)
+    times, cells, units, cycle = read(words.measured)
     built = list(sizes(cells, units))
     all_rows = [rows_of(kernel, rows) for kernel, rows in times.items()]
     for title, text in (*all_rows, *built, summary_of(times)):
         print(f"### {title}\n\n{text}")
     if words.page:
-        parts = [f"## {title}\n\n{text}" for title, text in (summary_of(times), *built)]
+        shown_there = summary_of(times), slow_rows(times, cycle), *built
+        parts = [f"## {title}\n\n{text}" for title, text in shown_there]
         with open(words.page, "w", encoding="utf-8") as file:
             file.write(PAGE_HEAD + "\n".join(parts))
 

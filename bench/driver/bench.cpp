@@ -1,5 +1,5 @@
 // The program: bench TABLE.. -- [KERNEL..]. It prints lines of tab-separated words, which report.py
-// reads: `time KERNEL DATA OURS RUST ICU`, and the cells and units that builds have.
+// reads: `cycle NS`, `time KERNEL DATA OURS RUST ICU`, and the cells and units that builds have.
 #include "bench.hpp"
 #include "data.hpp"
 #include <algorithm>
@@ -63,9 +63,22 @@ void row(const string &kernel, const string &data, double each, const Call &ours
     fflush(stdout);
 }
 
+// Prints how many ns a cycle takes, by a chain of multiplications of three cycles each.
+static void print_cycle() {
+    double least = 1e9;
+    for (int round = 0; round < 20; round++) {
+        const double start = seconds();
+        uint64_t number = 3;
+        for (int i = 0; i < 1000000; i++) asm volatile("imul %0, %0" : "+r"(number));
+        least = std::min(least, seconds() - start);
+    }
+    printf("cycle\t%.4f\n", least / 3e6 * 1e9);
+}
+
 int main(int count, char **arguments) {
     int i = 1;
     for (; i < count && string(arguments[i]) != "--"; i++) read_table(arguments[i]);
+    print_cycle();
     want({arguments + std::min(i + 1, count), arguments + count},
          {std::begin(kernels), std::end(kernels)});
     tries();
