@@ -4,6 +4,7 @@
 #include "../../c/bekstaudi.hpp"
 #include "icu_trie.hpp"
 #include <algorithm>
+#include <cstring>
 #include <unicode/uset.h>
 #include <unicode/utf8.h>
 
@@ -50,9 +51,15 @@ static void points(const string &name, const Opened &ours, const UCPTrie *icu, u
         [&] { return over_turns([&] { return icu_points(icu, all.data()); }); });
 }
 
+// Eight values at a time: one by one, the sum takes as long as what is measured.
 static uint64_t sum_of(const vector<uint8_t> &values, size_t count) {
-    uint64_t sum = 0;
-    for (size_t i = 0; i < count; i++) sum += values[i];
+    uint64_t sum = 0, eight;
+    size_t i = 0;
+    for (; i + 8 <= count; i += 8) {
+        std::memcpy(&eight, &values[i], 8);
+        sum += eight;
+    }
+    for (; i < count; i++) sum += values[i];
     return sum;
 }
 
