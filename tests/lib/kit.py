@@ -16,11 +16,12 @@ import types
 # may lack some; tests/README.md says what they are used for.
 NEEDED = {
     "": "Crate KIT checked edited handles_of in_lanes main processors read_edit rtlib unread",
-    "rtlib": "KIT PARTS RATTLE crates_below guarded kit_sources stop_on_unread sum_of text_of",
-    "Crate": "below build_rlib has_tests is_built makes_rlib sources_below stamp words",
+    "rtlib": "KIT PARTS RATTLE crates_below guarded kit_sources sum_of text_of",
+    "Crate": "below build_rlib has_tests is_built sources_below stamp words",
 }
-# Those of a kit whose `rt ci` stores what passed.
+# Those of a kit whose `rt ci` stores what passed, and of one whose `rt ci` does not.
 NEEDED_TO_STORE = {"": "Kept", "Kept": "give is_built key"}
+NEEDED_TO_NOTE = {"rtlib": "stop_on_unread", "Crate": "makes_rlib"}
 # What each crate that `rt` finds has to say of itself.
 OF_A_CRATE = "name folder deps of_kit is_program is_static"
 
@@ -50,7 +51,7 @@ def load():
     loader = importlib.machinery.SourceFileLoader("rt", rt_path())
     made = importlib.util.module_from_spec(importlib.util.spec_from_loader("rt", loader))
     loader.exec_module(made)
-    for needed in [NEEDED, *([NEEDED_TO_STORE] if keeps() else [])]:
+    for needed in (NEEDED, NEEDED_TO_STORE if keeps() else NEEDED_TO_NOTE):
         for owner, names in needed.items():
             demand(getattr(made, owner) if owner else made, names, f"{owner}." if owner else "")
     made.rtlib.Crate = made.Crate
