@@ -620,17 +620,39 @@ EDITS = {
         (r"insert_key\(entries, key, value\)", "insert_key(entries, place, key, value)", 1),
     ],
     "icu_trie_compaction/blocks": [(r"&(stored\[stored\.len\(\) - common\.\.\]) == &", r"\1 == ", 1)],
-    # Two blocks are compared most often.
+    # Most blocks hold the number of the block before: one search finds where they end.
     "icu_trie_map/blocks": [
         (
-            r"(?s)let Block::One\(number\) = self\.block\(first\) else \{\s*return false;\s*\};\n"
-            r" +for other in first \+ 1\.\.first \+ count \{.*?\n        \}\n        true\n",
-            "let mixed = &self.mixed[first..first + count];\n"
-            "        let places = &self.places[first..first + count];\n"
-            "        if let ([one, two], [number, next]) = (mixed, places) {\n"
-            "            return !one && !two && number == next;\n        }\n"
-            "        let number = places[0];\n"
-            "        !mixed.contains(&true) && places.iter().all(|it| *it == number)\n",
+            r"(?s)(?:\x01\d+\x03\n| +\x01\d+\x03\n)+ +pub\(crate\) fn hold_one\(.*?\n    \}\n",
+            "    /// Returns how many blocks, of the next `most` from `first` on, hold the number of `first` alone.\n"
+            "    pub(crate) fn run_of_one(&self, first: usize, most: usize) -> usize {\n"
+            "        let (mixed, places) = (&self.mixed[first..first + most], &self.places[first..first + most]);\n"
+            "        let number = self.places[first];\n"
+            "        let end = mixed.iter().zip(places).position(|(is_mixed, place)| *is_mixed || *place != number);\n"
+            "        end.unwrap_or(most)\n    }\n",
+            1,
+        ),
+    ],
+    "icu_trie_map/number_map": [
+        (
+            r"(?s)(?: +\x01\d+\x03\n)+ +pub fn repeats\(.*?\n    \}\n",
+            "    /// Returns how many blocks of `size` code points, of the next `most` from this one on, hold one and\n"
+            "    /// the same number. Returns 1 if this one holds several.\n"
+            "    pub fn repeats(&self, size: usize, number: usize, most: usize) -> usize {\n"
+            "        let Numbers::InBlocks(blocks) = &self.numbers else {\n            return most;\n        };\n"
+            "        let count = size / 16;\n"
+            "        (blocks.run_of_one(count * number, count * most) / count).max(1)\n    }\n",
+            1,
+        ),
+    ],
+    "icu_trie_builder/map_blocks": [
+        (
+            r"(?s)        for j in 0\.\.count \{\n.*?\n        \}\n(?=        Ok\(offsets\))",
+            "        let mut j = 0;\n        while j < count {\n"
+            "            self.map.copy_block(self.size, first + j, &mut room)?;\n"
+            "            let offset = store.place(&room, MAX_DATA_OFFSET)? as u32;\n"
+            "            j += self.map.repeats(self.size, first + j, count - j);\n"
+            "            offsets.try_resize(j, offset)?;\n        }\n",
             1,
         ),
     ],

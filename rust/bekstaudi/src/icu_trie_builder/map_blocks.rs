@@ -34,14 +34,12 @@ impl MapBlocks<'_> {
     ) -> Result<Vec<u32>, BuildError> {
         let mut room = Vec::with_room(self.size)?;
         let mut offsets = Vec::with_room(count)?;
-        for j in 0..count {
-            if j > 0 && self.map.repeats(self.size, first + j) {
-                offsets.try_push(offsets[j - 1])?;
-                continue;
-            }
+        let mut j = 0;
+        while j < count {
             self.map.copy_block(self.size, first + j, &mut room)?;
-            let offset = store.place(&room, MAX_DATA_OFFSET)?;
-            offsets.try_push(offset as u32)?;
+            let offset = store.place(&room, MAX_DATA_OFFSET)? as u32;
+            j += self.map.repeats(self.size, first + j, count - j);
+            offsets.try_resize(j, offset)?;
         }
         Ok(offsets)
     }

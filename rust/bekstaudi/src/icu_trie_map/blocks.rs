@@ -253,17 +253,19 @@ impl Blocks {
         0
     }
 
-    /// Returns true if none of `count` blocks from block number `first` on is mixed and all have
-    /// the same number. It reads no cells.
+    /// Returns how many blocks, of the next `most` from `first` on, hold the number of `first` alone.
     #[inline]
-    pub(crate) fn hold_one(&self, first: usize, count: usize) -> bool {
-        let mixed = &self.mixed[first..first + count];
-        let places = &self.places[first..first + count];
-        if let ([one, two], [number, next]) = (mixed, places) {
-            return !one && !two && number == next;
-        }
-        let number = places[0];
-        !mixed.contains(&true) && places.iter().all(|it| *it == number)
+    pub(crate) fn run_of_one(&self, first: usize, most: usize) -> usize {
+        let (mixed, places) = (
+            &self.mixed[first..first + most],
+            &self.places[first..first + most],
+        );
+        let number = self.places[first];
+        let end = mixed
+            .iter()
+            .zip(places)
+            .position(|(is_mixed, place)| *is_mixed || *place != number);
+        end.unwrap_or(most)
     }
 
     /// Appends the numbers of `count` blocks, from block number `first` on, to `room`.

@@ -101,18 +101,15 @@ impl NumberMap {
         blocks.used(self.last()).div_ceil(32) * 512
     }
 
-    /// Returns true only if the aligned block number `number` of `size` code points equals the
-    /// block before it.
-    ///
-    /// It compares no cells: it returns true if none of the blocks of 16 in both is mixed and all
-    /// have the same number. So it may return false for equal blocks.
+    /// Returns how many blocks of `size` code points, of the next `most` from this one on, hold one and
+    /// the same number. Returns 1 if this one holds several.
     #[inline]
-    pub(crate) fn repeats(&self, size: usize, number: usize) -> bool {
+    pub(crate) fn repeats(&self, size: usize, number: usize, most: usize) -> usize {
         let Numbers::InBlocks(blocks) = &self.numbers else {
-            return true;
+            return most;
         };
         let count = size / 16;
-        blocks.hold_one(count * (number - 1), 2 * count)
+        (blocks.run_of_one(count * number, count * most) / count).max(1)
     }
 
     /// Replaces the contents of `room` by the numbers of the aligned block number `number` of
