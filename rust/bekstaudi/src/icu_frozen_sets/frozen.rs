@@ -150,20 +150,24 @@ impl FrozenCodePointSet {
     /// so the character is not decoded into a `char`.
     #[inline(always)]
     fn ask_character(&self, bytes: &[u8], start: usize) -> (bool, usize) {
-        let lead = u32::from(bytes[start]);
+        let rest = &bytes[start..];
+        let lead = u32::from(rest[0]);
         if lead < 0x80 {
             return (self.ascii[lead as usize], start + 1);
         }
-        let second = u32::from(bytes[start + 1]) % 64;
         if lead < 0xE0 {
+            let second = u32::from(rest[1]) % 64;
             return (self.contains_short(lead % 32, second), start + 2);
         }
-        let third = u32::from(bytes[start + 2]) % 64;
         if lead < 0xF0 {
+            let third = u32::from(rest[2]) % 64;
+            let second = u32::from(rest[1]) % 64;
             let word = lead % 16 * 64 + second;
             return (self.bits.contains_in(word, third), start + 3);
         }
-        let fourth = u32::from(bytes[start + 3]) % 64;
+        let fourth = u32::from(rest[3]) % 64;
+        let third = u32::from(rest[2]) % 64;
+        let second = u32::from(rest[1]) % 64;
         let word = lead % 8 * 4096 + second * 64 + third;
         (self.bits.contains_in(word, fourth), start + 4)
     }
