@@ -250,8 +250,18 @@ EDITS = {
         ),
         (r"use super::packing::word_of;", "use crate::support::boundaries::last_words;", 1),
     ],
-    # A step of a listing of a unit trie. rustc makes a call of it, which takes longer than the step.
+    # A step of a listing of a unit trie, and an entry with its text. rustc makes calls of them, which
+    # take longer than the step.
     "icu_char16trie/pending": [(r"(?m)^(?= +fn enter_part)", "    #[inline(always)]\n", 1)],
+    "icu_char16trie/walk": [(r"(?m)^(?= +pub\(crate\) fn next_item)", "    #[inline(always)]\n", 1)],
+    # A unit in one read: rustc reads both bytes apart if only bits of the low one are used later.
+    "icu_char16trie/encoded": [
+        (
+            r"units\.get\(place\)\n",
+            "let units = units.as_bytes().as_chunks::<2>().0;\n    Some(u16::from_le_bytes(*units.get(place)?))\n",
+            1,
+        ),
+    ],
     "icu_collections_c/cells": [
         (r"let start = i \* T::WIDTH;\n +", "", 1),
         (r"&bytes\[start\.\.start \+ T::WIDTH\]", "proved_cell(bytes, T::WIDTH, i)", 1),

@@ -175,6 +175,7 @@ fn grow(text: &mut String, c: char) -> Result<(), AllocError> {
 
 #[cfg(feature = "alloc")]
 impl TryString for String {
+    #[inline(always)]
     fn from_str(text: &str) -> Result<Self, AllocError> {
         let mut made = String::new();
         if made.try_reserve_exact(text.len()).is_err() {

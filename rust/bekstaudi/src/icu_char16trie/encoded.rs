@@ -10,7 +10,8 @@ use crate::icu_zerovec::ZeroSlice;
 #[inline(always)]
 pub(crate) fn unit_at(units: ZeroSlice<'_, u16>, place: usize) -> Option<u16> {
     // A packed vector has fewer than 2^63 bytes, so adding to an index that was read never wraps.
-    units.get(place)
+    let units = units.as_bytes().as_chunks::<2>().0;
+    Some(u16::from_le_bytes(*units.get(place)?))
 }
 
 /// Returns the units at an index and at the one after it, with a single bounds check. `None` if
