@@ -294,10 +294,25 @@ EDITS = {
         (
             r"(?s)(?: +\x01\d+\x03\n)+( +)#\[inline\(always\)\]\n +pub\(crate\) fn get32.*?\n    \}\n\n",
             r"\1/// Returns the value of a character.\n\1#[inline(always)]\n\1pub(crate) fn get(&self, c: char) -> T {\n"
-            r"\1    let c = u32::from(c);\n\1    self.at(c / 64, c % 64)\n\1}\n\n",
+            r"\1    let c = u32::from(c);\n\1    self.at(c / 64, c % 64)\n\1}\n\n"
+            r"\1/// Returns what `at` returns, for a block of characters of two bytes.\n\1#[inline(always)]\n"
+            r"\1pub(crate) fn at_two(&self, block: u32, place: u32) -> T {\n"
+            r"\1    let offset = u16::from_le_bytes(self.two_bytes[block as usize % 32]);\n"
+            r"\1    self.values.at(usize::from(offset) + place as usize)\n\1}\n\n",
             1,
         ),
-        (r"(?=use icu_zerovec)", "use crate::support::cells::{cell_of_first, usual_cell};\n", 1),
+        # The index needs no test for a character of two bytes.
+        (
+            r"(\n    blocks: u32,\n)",
+            r"\1    /// The offsets of the blocks of characters of two bytes.\n    two_bytes: &'a [[u8; 2]; 32],\n",
+            1,
+        ),
+        (
+            r"(\n +)(blocks: header\.trie_type\.fast_index_len\(\) as u32,)",
+            r"\1\2\1two_bytes: first_cells(index.as_bytes()),",
+            1,
+        ),
+        (r"(?=use icu_zerovec)", "use crate::support::cells::{cell_of_first, first_cells, usual_cell};\n", 1),
     ],
     # The characters that are left: rustc tests whether a slice of a text starts at a character.
     "icu_trie_text/first": [
@@ -337,8 +352,11 @@ EDITS = {
     "icu_trie_text/utf8": [
         (r"bytes: &'a \[u8\],\n(?: +\x01\d+\x03\n)+ +next: usize,", "rest: core::slice::Iter<'a, u8>,", 1),
         (r"bytes,\n +next: 0,", "rest: bytes.iter(),", 1),
-        # The slice tests that the size is in bounds, and so `nth` need not.
-        (r"(?<=trie\.at\(at\.0, at\.1\)\), )size(?=\))", "bytes.len() - bytes[size..].len()", 1),
+        (
+            r"\(\((c), (trie\.at)(\(at\.0, at\.1\))\), size\)",
+            r"let value = if size == 2 { \2_two\3 } else { \2\3 };\n    ((\1, value), size)",
+            1,
+        ),
         (r"(?s)    let lead = bytes\[0\];\n    if let Some\(value\) = trie\.ascii\(.*?\n    \}\n(?=    match character_item)", "", 1),
         (
             r"(?s)( +)if self\.next == self\.bytes\.len\(\) \{.*?self\.next \+= size;\n",
@@ -346,7 +364,7 @@ EDITS = {
             r"\1if let Some(value) = self.trie.ascii(u32::from(lead)) {\n\1    self.rest.next();\n"
             r"\1    return Some((char::from(lead), value));\n\1}\n"
             r"\1let (item, size) = first_item(&self.trie, bytes);\n"
-            r"\1self.rest.nth(size - 1);\n",
+            r"\1self.rest = bytes.get(size..).unwrap_or_default().iter();\n",
             1,
         ),
     ],

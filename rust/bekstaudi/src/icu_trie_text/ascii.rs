@@ -3,7 +3,7 @@
 use crate::icu_trie::cptrie::CodePointTrie;
 use crate::icu_trie_core::value::TrieValue;
 use crate::icu_zerovec::ZeroSlice;
-use crate::support::cells::{cell_of_first, usual_cell};
+use crate::support::cells::{cell_of_first, first_cells, usual_cell};
 
 /// The number of ASCII code points.
 const ASCII_END: u32 = 0x80;
@@ -24,6 +24,8 @@ pub(crate) struct AsciiInPlace<'a, T: TrieValue> {
     end: u32,
     /// The number of blocks of 64 code points in the fast index.
     blocks: u32,
+    /// The offsets of the blocks of characters of two bytes.
+    two_bytes: &'a [[u8; 2]; 32],
 }
 
 /// Returns 0x80 if the first two blocks of the trie are the first two blocks of the data, and
@@ -53,6 +55,7 @@ impl<'a, T: TrieValue> AsciiInPlace<'a, T> {
             values,
             end: ascii_end(index, values),
             blocks: header.trie_type.fast_index_len() as u32,
+            two_bytes: first_cells(index.as_bytes()),
         }
     }
 
@@ -81,6 +84,13 @@ impl<'a, T: TrieValue> AsciiInPlace<'a, T> {
     pub(crate) fn get(&self, c: char) -> T {
         let c = u32::from(c);
         self.at(c / 64, c % 64)
+    }
+
+    /// Returns what `at` returns, for a block of characters of two bytes.
+    #[inline(always)]
+    pub(crate) fn at_two(&self, block: u32, place: u32) -> T {
+        let offset = u16::from_le_bytes(self.two_bytes[block as usize % 32]);
+        self.values.at(usize::from(offset) + place as usize)
     }
 
     /// Returns the value of a character, for those of four bytes: no fast index has their blocks.

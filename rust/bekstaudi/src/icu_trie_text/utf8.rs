@@ -54,7 +54,12 @@ fn item_of<T: TrieValue>(
 ) -> ((char, T), usize) {
     // Without a jump, so that the compiler removes the character if the caller drops it.
     let c = char::from_u32(at.0 * 64 + at.1).unwrap_or(char::REPLACEMENT_CHARACTER);
-    ((c, trie.at(at.0, at.1)), bytes.len() - bytes[size..].len())
+    let value = if size == 2 {
+        trie.at_two(at.0, at.1)
+    } else {
+        trie.at(at.0, at.1)
+    };
+    ((c, value), size)
 }
 
 /// Returns the item of the character at the start of the bytes, which are not empty, and its size.
@@ -108,7 +113,7 @@ impl<'a, T: TrieValue> Iterator for ValuesOfUtf8<'a, T> {
             return Some((char::from(lead), value));
         }
         let (item, size) = first_item(&self.trie, bytes);
-        self.rest.nth(size - 1);
+        self.rest = bytes.get(size..).unwrap_or_default().iter();
         Some(item)
     }
 

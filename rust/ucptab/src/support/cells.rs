@@ -182,6 +182,13 @@ pub(crate) fn first_bytes(bytes: &[u8]) -> &[u8; 0x80] {
     bytes.first_chunk().unwrap_or(&[0; 0x80])
 }
 
+/// Returns the first 32 cells of two bytes, or zeros if there are fewer.
+#[allow(dead_code)] // Only the library uses it.
+#[inline]
+pub(crate) fn first_cells(bytes: &[u8]) -> &[[u8; 2]; 32] {
+    bytes.as_chunks().0.first_chunk().unwrap_or(&[[0; 2]; 32])
+}
+
 /// Returns the cell of one byte of an ASCII code point.
 #[allow(dead_code)] // Only the library uses it.
 #[inline(always)]
