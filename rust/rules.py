@@ -652,7 +652,7 @@ EDITS = {
     "icu_trie_map/blocks": [
         (
             r"(?s)(?:\x01\d+\x03\n| +\x01\d+\x03\n)+ +pub\(crate\) fn hold_one\(.*?\n    \}\n",
-            "    /// Returns how many blocks, of the next `most` from `first` on, hold the number of `first` alone.\n"
+            "    /// Returns how many of the `most` blocks from `first` on hold only the number of `first`.\n"
             "    pub(crate) fn run_of_one(&self, first: usize, most: usize) -> usize {\n"
             "        let (mixed, places) = (&self.mixed[first..first + most], &self.places[first..first + most]);\n"
             "        let number = self.places[first];\n"
@@ -664,8 +664,8 @@ EDITS = {
     "icu_trie_map/number_map": [
         (
             r"(?s)(?: +\x01\d+\x03\n)+ +pub fn repeats\(.*?\n    \}\n",
-            "    /// Returns how many blocks of `size` code points, of the next `most` from this one on, hold one and\n"
-            "    /// the same number. Returns 1 if this one holds several.\n"
+            "    /// Returns how many of the `most` blocks of `size` code points from block `number` on hold one and\n"
+            "    /// the same value. Returns 1 if block `number` holds several.\n"
             "    pub fn repeats(&self, size: usize, number: usize, most: usize) -> usize {\n"
             "        let Numbers::InBlocks(blocks) = &self.numbers else {\n            return most;\n        };\n"
             "        let count = size / 16;\n"

@@ -253,7 +253,7 @@ impl Blocks {
         0
     }
 
-    /// Returns how many blocks, of the next `most` from `first` on, hold the number of `first` alone.
+    /// Returns how many of the `most` blocks from `first` on hold only the number of `first`.
     #[inline]
     pub(crate) fn run_of_one(&self, first: usize, most: usize) -> usize {
         let (mixed, places) = (

@@ -101,8 +101,8 @@ impl NumberMap {
         blocks.used(self.last()).div_ceil(32) * 512
     }
 
-    /// Returns how many blocks of `size` code points, of the next `most` from this one on, hold one and
-    /// the same number. Returns 1 if this one holds several.
+    /// Returns how many of the `most` blocks of `size` code points from block `number` on hold one and
+    /// the same value. Returns 1 if block `number` holds several.
     #[inline]
     pub(crate) fn repeats(&self, size: usize, number: usize, most: usize) -> usize {
         let Numbers::InBlocks(blocks) = &self.numbers else {
