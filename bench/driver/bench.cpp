@@ -27,7 +27,8 @@ static const char *const kernels[] = {"get_u8",              "get_u16",        "
                                       "c_ranges_u8",         "c_setfor_u8",    "c_build_u8",
                                       "c_span_words",        "c_span_long",    "c_set_from_points",
                                       "c_words",             "cpp_copy_u8",    "cpp_span_words",
-                                      "cpp_words",           "range_u8",       "frozen_contains_range"};
+                                      "cpp_words",           "range_u8",       "frozen_contains_range",
+                                      "c16_texts"};
 
 enum { LEAST_ROUNDS = 5, MOST_ROUNDS = 400 };
 // A row takes about this many seconds.

@@ -39,6 +39,20 @@ static uint64_t icu_iter(const UnicodeString &units) {
     return sum;
 }
 
+// The same, with each key as a text of its own in UTF-8, as ours returns it.
+static uint64_t icu_texts(const UnicodeString &units) {
+    UErrorCode error = U_ZERO_ERROR;
+    UCharsTrie::Iterator entries(units.getBuffer(), 0, error);
+    uint64_t sum = 0;
+    while (entries.next(error)) {
+        string key;
+        entries.getString().toUTF8String(key);
+        asm volatile("" : : "r"(key.data()) : "memory");
+        sum = mixed(sum, entries.getValue());
+    }
+    return sum;
+}
+
 static string icu_keys(const UnicodeString &units) {
     UErrorCode error = U_ZERO_ERROR;
     UCharsTrie::Iterator entries(units.getBuffer(), 0, error);
@@ -189,6 +203,10 @@ static void read(const List &list) {
             "c16_iter", list.name, list.keys.size(), [&] { return ours_c16_iter(PARTS(bytes)); },
             [&] { return rust_c16_iter(PARTS(bytes)); }, [&] { return icu_iter(units); });
     }
+    if (wanted("c16_texts"))
+        row(
+            "c16_texts", list.name, list.keys.size(), [&] { return ours_c16_iter(PARTS(bytes)); },
+            [&] { return rust_c16_iter(PARTS(bytes)); }, [&] { return icu_texts(units); });
     if (wanted("c16_entries"))
         row(
             "c16_entries", list.name, list.keys.size(),
@@ -240,7 +258,7 @@ static void build(const List &list) {
 }
 
 void unit_tries() {
-    if (wanted("c16_iter") || wanted("c16_entries") || wanted("c16_look") ||
+    if (wanted("c16_iter") || wanted("c16_texts") || wanted("c16_entries") || wanted("c16_look") ||
         wanted("c16_longest") || wanted("c_words") || wanted("cpp_words"))
         for (const List &list : four_lists()) read(list);
     if (!wanted("c16_build")) return;
