@@ -1,0 +1,556 @@
+"""Changes of rust/make to single sources: the Rust crate's forms, and what rustc needs for speed."""
+
+# Methods that the Rust crate has in the trait of typed tries.
+UNTYPED = """
+    /// Returns a reference to the trie as a [`CodePointTrie`].
+    fn as_untyped_ref(&self) -> &CodePointTrie<'trie, T>;
+
+    /// Converts the trie into a [`CodePointTrie`].
+    fn to_untyped(self) -> CodePointTrie<'trie, T>
+    where
+        Self: Sized;
+"""
+UNTYPED_BODIES = """
+    #[inline(always)]
+    fn as_untyped_ref(&self) -> &CodePointTrie<'trie, T> {
+        &self.inner
+    }
+
+    #[inline(always)]
+    fn to_untyped(self) -> CodePointTrie<'trie, T> {
+        self.inner
+    }
+"""
+# Changes to one source: pattern, replacement, and how often the pattern occurs.
+EDITS = {
+    # The kit's library needs `std::simd`.
+    "icu_collections_c/well_formed": [(r"simdutf8::is_utf8\(", "is_utf8_by_position(", 1)],
+    # Reads of cells, by the functions of rust/support/cells.
+    "icu_zerovec/cells": [
+        (r"let start = i \* T::WIDTH;\n.*", "T::from_unaligned(cell(bytes, T::WIDTH, i)?)", 1),
+        (r"match read\(bytes, i\) \{", "match T::from_unaligned(proved_cell(bytes, T::WIDTH, i)) {", 1),
+        (r"bytes\.split_at\(T::WIDTH\);", "bytes.split_at_checked(T::WIDTH)?;", 1),
+        (
+            r"(?=    if len::<T>\(bytes\) == 0 \{\n +return Err\(0\);)",
+            '    #[cfg(not(feature = "proved-reads"))]\n'
+            "    if let Some(found) = searched(bytes, T::WIDTH, |cell| match T::from_unaligned(cell) {\n"
+            "        Some(value) => value.cmp(x),\n        None => unreachable!(),\n    }) {\n"
+            "        return found;\n    }\n",
+            1,
+        ),
+        (
+            r"(?=use crate::ule)",
+            "use crate::support::cells::{cell, proved_cell};\n"
+            '#[cfg(not(feature = "proved-reads"))]\nuse crate::support::cells::searched;\n',
+            1,
+        ),
+    ],
+    # All boundaries are packed by rust/support/boundaries.
+    "icu_invlist/codepointinvlist/cpinvlist/packing": [
+        (r"(?s)(?:\x01\d+\x03\n)+pub\(super\) fn with_ends\(.*?(?=(?:\x01\d+\x03\n)+pub\(super\) fn pack\()", "", 1),
+        (r"(?s)(?:\x01\d+\x03\n)+#\[inline\(always\)\]\npub\(super\) fn word_of.*?\n\}\n\n", "", 1),
+        (r"(?s)let size = ends\.len\(\) \* 3;.*?Ok\(bytes\)", "Ok(packed(ends)?)", 1),
+        (r"(?m)^(?=pub\(super\) fn pack\()", "#[inline(always)]\n", 1),
+        (r"(?=use icu_zerovec)", "use crate::support::boundaries::packed;\n", 1),
+    ],
+    # In a set of a few ranges, calls of these functions take a tenth of the time of a change.
+    "icu_invlist/fill": [(r"(?m)^(?=fn (?:count_below_from|overwrite)\()", "#[inline(always)]\n", 2)],
+    # The words of three steps with four tests in place of six.
+    "icu_invlist/codepointinvlist/cpinvlist/places": [
+        (r"(?s)(?: +\x01\d+\x03\n)+ +#\[inline\(always\)\]\n +fn is_up_to.*?\n    \}\n\n", "", 1),
+        (
+            r"(?s)let first = self\.is_up_to\(low \+ step - 1, c\);.*?first as usize \+ second as usize \+ third as usize",
+            "let [first, second, third] = match last_words(self.ends.as_bytes(), low, step) {\n"
+            "            Some(words) => words,\n            None => unreachable!(),\n        };\n"
+            "        let limit = (c + 1) << 8;\n"
+            "        usize::from(first < limit) + usize::from(second < limit) + usize::from(third < limit)",
+            1,
+        ),
+        (r"use super::packing::word_of;", "use crate::support::boundaries::last_words;", 1),
+    ],
+    # A step of a listing of a unit trie, and an entry with its text. rustc makes calls of them, which
+    # take longer than the step.
+    "icu_char16trie/pending": [(r"(?m)^(?= +fn enter_part)", "    #[inline(always)]\n", 1)],
+    "icu_char16trie/walk": [(r"(?m)^(?= +pub\(crate\) fn next_item)", "    #[inline(always)]\n", 1)],
+    # A unit in one read: rustc reads both bytes apart if only bits of the low one are used later.
+    "icu_char16trie/encoded": [
+        (
+            r"units\.get\(place\)\n",
+            "let units = units.as_bytes().as_chunks::<2>().0;\n    Some(u16::from_le_bytes(*units.get(place)?))\n",
+            1,
+        ),
+    ],
+    "icu_collections_c/cells": [
+        (r"let start = i \* T::WIDTH;\n +", "", 1),
+        (r"&bytes\[start\.\.start \+ T::WIDTH\]", "proved_cell(bytes, T::WIDTH, i)", 1),
+        (
+            r"(?s)if i >= bytes.len\(\) / T::WIDTH \{.*?Some\(value_there\(bytes, i\)\)",
+            "T::from_unaligned(cell(bytes, T::WIDTH, i)?)",
+            1,
+        ),
+        (r"(?=use icu_trie_core::cells)", "use crate::support::cells::{cell, proved_cell};\n", 1),
+        (r"(count_of::<T>\(bytes\))\.saturating_sub\(1\)", r"\1.checked_sub(1)?", 1),
+    ],
+    # What makes the C library fast: the error value is a cold path.
+    "icu_collections_c/tries": [
+        (r"None => last_value\(values\),", "None => {\n            crate::cold();\n            last_value(values)\n        }", 1),
+    ],
+    # One test finds out both whether a block is in the fast index and whether it has a cell, and the
+    # same for the value of an ASCII character.
+    "icu_trie_text/ascii": [
+        (
+            r"if block < self\.blocks \{\s*let offset = self\.index\.at\(block as usize\);",
+            "if let Some(offset) = usual_cell(T::WIDTH, self.index.as_bytes(), self.blocks, 0, block) {",
+            1,
+        ),
+        (
+            r"(?s)if c < self\.end \{\s*Some\(self\.values\.at\(c as usize\)\)\s*\} else \{\s*None\s*\}",
+            "T::from_unaligned(cell_of_first(self.values.as_bytes(), T::WIDTH, self.end as usize, c as usize)?)",
+            1,
+        ),
+        # An iterator from the end has a character, as std's iterators over text return it.
+        (
+            r"(?s)(?: +\x01\d+\x03\n)+( +)#\[inline\(always\)\]\n +pub\(crate\) fn get32.*?\n    \}\n\n",
+            r"\1/// Returns the value of a character.\n\1#[inline(always)]\n\1pub(crate) fn get(&self, c: char) -> T {\n"
+            r"\1    let c = u32::from(c);\n\1    self.at(c / 64, c % 64)\n\1}\n\n"
+            r"\1/// Returns what `at` returns, for a block of characters of two bytes.\n\1#[inline(always)]\n"
+            r"\1pub(crate) fn at_two(&self, block: u32, place: u32) -> T {\n"
+            r"\1    let offset = u16::from_le_bytes(self.two_bytes[block as usize % 32]);\n"
+            r"\1    self.values.at(usize::from(offset) + place as usize)\n\1}\n\n",
+            1,
+        ),
+        # The index needs no test for a character of two bytes.
+        (
+            r"(\n    blocks: u32,\n)",
+            r"\1    /// The offsets of the blocks of characters of two bytes.\n    two_bytes: &'a [[u8; 2]; 32],\n",
+            1,
+        ),
+        (
+            r"(\n +)(blocks: header\.trie_type\.fast_index_len\(\) as u32,)",
+            r"\1\2\1two_bytes: first_cells(index.as_bytes()),",
+            1,
+        ),
+        (r"(?=use icu_zerovec)", "use crate::support::cells::{cell_of_first, first_cells, usual_cell};\n", 1),
+    ],
+    # The characters that are left: rustc tests whether a slice of a text starts at a character.
+    "icu_trie_text/first": [
+        (
+            r"(?s)(?:\x01\d+\x03\n)+#\[inline\(always\)\]\nfn after_ascii.*?(?=(?:\x01\d+\x03\n)+#\[inline\(always\)\]\npub\(crate\) fn first_value)",
+            "",
+            1,
+        ),
+        (
+            r"(?s)(?:\x01\d+\x03\n)+(?=#\[inline\(always\)\]\npub\(crate\) fn first_value)",
+            "/// Returns the first of these characters with its value, and passes it.\n",
+            1,
+        ),
+        (r"text: &'t str", "text: &mut Chars<'t>", 1),
+        (r"Option<\(\(char, T\), &'t str\)>", "Option<(char, T)>", 1),
+        (
+            r"(?s)    let lead = \*text\.as_bytes.*?\n\}\n",
+            "    let first = text.next()?;\n"
+            "    match trie.ascii(u32::from(first)) {\n"
+            "        Some(value) => Some((first, value)),\n"
+            "        None => Some((first, trie.get(first))),\n"
+            "    }\n}\n",
+            1,
+        ),
+        (r"use crate::places::\{[^}]*\};\n", "use core::str::Chars;\n", 1),
+    ],
+    "icu_trie_text/values": [
+        (r"rest: &'a str,", "rest: core::str::Chars<'a>,", 1),
+        (r"rest: text,", "rest: text.chars(),", 1),
+        (
+            r"let \(item, rest\) = first_value\(&self\.trie, self\.rest\)\?;\n +self\.rest = rest;\n +Some\(item\)",
+            "first_value(&self.trie, &mut self.rest)",
+            1,
+        ),
+    ],
+    # An iterator over a slice is two pointers, so a step changes one of them.
+    "icu_trie_text/utf8": [
+        (r"bytes: &'a \[u8\],\n(?: +\x01\d+\x03\n)+ +next: usize,", "rest: core::slice::Iter<'a, u8>,", 1),
+        (r"bytes,\n +next: 0,", "rest: bytes.iter(),", 1),
+        (
+            r"\(\((c), (trie\.at)(\(at\.0, at\.1\))\), size\)",
+            r"let value = if size == 2 { \2_two\3 } else { \2\3 };\n    ((\1, value), size)",
+            1,
+        ),
+        (r"(?s)    let lead = bytes\[0\];\n    if let Some\(value\) = trie\.ascii\(.*?\n    \}\n(?=    match character_item)", "", 1),
+        (
+            r"(?s)( +)if self\.next == self\.bytes\.len\(\) \{.*?self\.next \+= size;\n",
+            r"\1let bytes = self.rest.as_slice();\n\1let lead = *bytes.first()?;\n"
+            r"\1if let Some(value) = self.trie.ascii(u32::from(lead)) {\n\1    self.rest.next();\n"
+            r"\1    return Some((char::from(lead), value));\n\1}\n"
+            r"\1let (item, size) = first_item(&self.trie, bytes);\n"
+            r"\1self.rest = bytes.get(size..).unwrap_or_default().iter();\n",
+            1,
+        ),
+    ],
+    "icu_trie_text/indices": [
+        (r"rest: &'a str,", "rest: core::str::Chars<'a>,", 1),
+        (r"rest: text,", "rest: text.chars(),", 1),
+        (r"self\.rest\.len\(\)", "self.rest.as_str().len()", 1),
+        (
+            r"let \(item, rest\) = first_value\(&self\.trie, self\.rest\)\?;\n +self\.rest = rest;\n +Some\(\(offset, item\.0, item\.1\)\)",
+            "let (c, value) = first_value(&self.trie, &mut self.rest)?;\n        Some((offset, c, value))",
+            1,
+        ),
+    ],
+    # Eight bytes in one read, and sixteen values with one check of the buffer.
+    "icu_trie_text/copy_parts": [
+        (
+            r"(?s)    u64::from_le_bytes\(\[.*?\]\)\n",
+            "    match bytes.first_chunk::<8>() {\n        Some(eight) => u64::from_le_bytes(*eight),\n        None => 0,\n    }\n",
+            1,
+        ),
+        (
+            r"for k in 0\.\.16 \{\n( +)values\[j \+ k\] = trie\.ascii\(bytes\[i \+ k\]\);",
+            r"for (value, byte) in values[j..j + 16].iter_mut().zip(&bytes[i..i + 16]) {\n\1*value = trie.ascii(*byte);",
+            1,
+        ),
+        # What is left is tested once for each part, an index twice.
+        (
+            r"(?s)    let mut i = front\.bytes;\n(    let mut j = front\.values;\n)    let end = i \+ BLOCK;\n"
+            r"    while i < end \{\n(.*?)&bytes\[i\.\.\](.*?)        i \+= size;\n(.*?)bytes: i,",
+            r"    let mut rest = &bytes[front.bytes..];\n\1    let left = rest.len() - BLOCK;\n"
+            r"    while rest.len() > left {\n\2rest\3        rest = &rest[size..];\n\4bytes: bytes.len() - rest.len(),",
+            1,
+        ),
+        # Near blocks need no test of their own there: see part_values.
+        (
+            r"(?s)    if trie\.blocks\(\) >= THREE_BYTE_BLOCKS \{\n +copy_by::<T, V, AnyBytes<.*?(copy_by::<T, V, AnyBytes<0>>\(trie, bytes, values\))\n    \}",
+            r"    \1",
+            1,
+        ),
+        (
+            r"(#\[inline\(always\)\]\n)(?=pub(?:\(crate\))? fn copy_characters)",
+            r"#[allow(dead_code)] // The C library uses it.\n\1",
+            1,
+        ),
+    ],
+    "icu_trie_text/part_values": [
+        (
+            r"(fn near\(&self, block: u32, place: u32\) -> T;\n)",
+            r"\1\n    /// Returns the same value, or `None` if the block is not one of [`blocks`](Self::blocks).\n"
+            r"    #[inline(always)]\n    fn near_below(&self, block: u32, place: u32) -> Option<T> {\n"
+            r"        if block >= self.blocks() {\n            return None;\n        }\n"
+            r"        Some(self.near(block, place))\n    }\n",
+            1,
+        ),
+    ],
+    "icu_trie_text/any_bytes": [
+        (r", THREE_BYTE_BLOCKS", "", 1),
+        (
+            r"if NEAR < THREE_BYTE_BLOCKS && block >= trie\.blocks\(\) \{\s*return None;\s*\}\s*"
+            r"Some\(trie\.near\((block, third)\)\)",
+            r"trie.near_below(\1)",
+            1,
+        ),
+    ],
+    # A struct with a value of a type parameter is not copied from behind a reference in the source.
+    "icu_collections_c/texts": [
+        (
+            r"(?s)(fn clone\(&self\) -> )Result<([^{]*), AllocError>( \{\s*)Ok\(TextValues \{.*?\}\)",
+            r"\1\2\3*self",
+            1,
+        ),
+        (r"use crate::support::AllocError;\n", "", 1),
+    ],
+    # Values of one byte: those of ASCII are 128 bytes, so none is tested.
+    "icu_trie_text/copy": [
+        (
+            r"(    values: ZeroSlice<'a, T>,\n)",
+            r"\1    /// The first bytes of the data, which are the values of ASCII if `ascii_end` is not 0 and\n"
+            r"    /// each takes one byte.\n    ascii: &'a [u8; 0x80],\n",
+            1,
+        ),
+        (r"(            values,\n)", r"\1            ascii: first_bytes(values.as_bytes()),\n", 1),
+        (
+            r"self\.values\.at\(c as usize\)",
+            "if T::WIDTH == 1 && let Some(value) = byte_cell(self.ascii, c).and_then(T::from_unaligned) {\n"
+            "            return value;\n        }\n        self.values.at(c as usize)",
+            1,
+        ),
+        # One test finds out both whether a block is in the fast index and whether it has a cell.
+        (
+            r"(self\.values\.at\(offset as usize \+ place as usize\)\n    \}\n)",
+            '\\1\n    #[cfg(not(feature = "proved-reads"))]\n    #[inline(always)]\n'
+            "    fn near_below(&self, block: u32, place: u32) -> Option<T> {\n"
+            "        let offset = cell_below(self.index.as_bytes(), self.blocks, 0, block)?;\n"
+            "        Some(self.values.at(offset as usize + place as usize))\n    }\n",
+            1,
+        ),
+        (
+            r"(?=use icu_zerovec)",
+            '#[cfg(not(feature = "proved-reads"))]\nuse crate::support::cells::cell_below;\n'
+            "use crate::support::cells::{byte_cell, first_bytes};\n",
+            1,
+        ),
+    ],
+    # Two types that differ in lifetimes only may have different widths, so a vector of one must not
+    # be accepted as a vector of the other.
+    **dict.fromkeys(
+        ["icu_zerovec/vec", "icu_zerovec/slice", "icu_zerovec/iter"],
+        [(r"\bof: PhantomData<T>", "of: PhantomData<fn(T) -> T>", 1)],
+    ),
+    # The Rust crate passes a reference to a vector.
+    "icu_char16trie/cursor": [
+        (r"pub fn new\(trie: (ZeroSlice<'a, u16>)\)", r"pub fn new(trie: impl Into<\1>)", 1),
+        (r"units: trie,(?=\n +place: Place::Node)", "units: trie.into(),", 1),
+    ],
+    # The bound on positions, also if they are numbers of 32 bits.
+    "icu_char16trie/place": [(r"position >= 1 << 63", "position > isize::MAX as usize", 1)],
+    # That there are as many cells as before is proved only for lawful types, so it is asserted.
+    "icu_trie/map_value": [
+        (r"(\n +)(?=let index = self\.index)", r"\1assert_eq!(data.len(), self.data.len());\1", 1),
+        (r"self\.error_value\)", "self.error_value())", 1),
+    ],
+    # serde spells ranges as JSON does, and reads tables from any format.
+    "icu_invlist/lib": [(r"(?m)^(?=mod spelling;)", "pub(crate) ", 1)],
+    "icu_trie_formats/trie_toml": [
+        (
+            r"(?m)^( *)(?=use toml\b|pub fn from_table\b|fn (?:fields_of|(?:optional_)?numbers?_(?:at|of|of_items)"
+            r"|value_at|items_of)\b)",
+            r'\1#[cfg(feature = "toml")]\n\1',
+            10,
+        ),
+        (r"(?m)^(?=struct TomlFields)", "pub(crate) ", 1),
+        (r"(?m)^(?=use crate::support::\{?AllocError\}?;)", '#[cfg(feature = "toml")]\n', 1),
+        (r"(\n +)(?=value_width: u8,\n)", r"\1#[allow(dead_code)] // The array that is there says the width.\1", 1),
+        (r"(?m)^    (?=(?:index|data_8|data_16|data_32|\w+_width|\w+_start|\w+_offset|trie_type|null_value|fields): [\w<>]+,$)", "    pub(crate) ", 12),
+    ],
+    # So is that the number of boundaries is even, for types with their own `Eq`. In a constant there
+    # is no call of a trait.
+    "icu_invlist/codepointinvlist/cpinvlist": [
+        (r"(\n +)(?=let bytes = pack)", r"\1assert_eq!(ends.len() % 2, 0);\1", 1),
+        (
+            r"(?s)match ZeroVec::parse_bytes\((&\[[^]]*\])\) \{.*?( +size: \w+),?(?: \}|\n +\}),.*?\n        \}",
+            r"CodePointInversionList {\n            ends: ZeroVec::from_packed(\1),\n           \2,\n        }",
+            3,
+        ),
+        (r"(?m)^    (?=ends: ZeroVec<'data|size: u32,)", "    pub(crate) ", 2),
+        # The sizes of the ranges before one are added four boundaries at a time.
+        (
+            r"(?s)let mut before = 0;\n +let mut i = 0;\n +while i \+ 1 < place \{.*?\n        \}\n        Some\(before \+ \(c - self\.end_at\(i\)\) as usize\)",
+            "let start = place - 1;\n        let before = sum_of_sizes(&self.ends.as_bytes()[..3 * start]);\n"
+            "        Some(before + (c - self.end_at(start)) as usize)",
+            1,
+        ),
+        # All boundaries by rust/support/boundaries.
+        (
+            r"(?s)let packed = self\.ends\.as_slice\(\);\n +ends\.\w+\(packed.*?Ok\(\(\)\)",
+            "Ok(unpack(&self.ends.as_bytes()[3 * from..], ends)?)",
+            1,
+        ),
+        (r"(?m)^(?=use icu_zerovec::ule)", "use crate::support::boundaries::{sum_of_sizes, unpack};\n", 1),
+        (r", with_ends\b", "", 1),
+        (r"(?m)^use (?:std|core)::mem;\n", "", 1),
+    ],
+    # A constant cannot read a value of any type, so the error value is not stored beside the data.
+    "icu_trie/cptrie": [
+        (r"\n +\x01\d+\x03\n +pub\(crate\) error_value: T,", "", 1),
+        (r"let Some\(error_value\) = data", "let Some(_) = data", 1),
+        (r"\n +error_value(?:: self\.error_value)?,(?=\n +\})", "", 2),
+        (r"self\.error_value(?=\n)", "self.data.as_slice().at(self.data.len() - 1)", 1),
+        # With each read tested, one test finds out whether a code point is below the fast limit and
+        # whether it has a cell. The limit is computed: LLVM repeats a choice between
+        # two limits for each character.
+        (
+            r"( +)(?=if c < trie_type\.fast_limit\(\) \{\n)",
+            r'\1#[cfg(not(feature = "proved-reads"))]\n'
+            r"\1if let Some(offset) = usual_cell(T::WIDTH, index.as_bytes(), 0x1000 << (4 * u32::from(trie_type == TrieType::Fast)), FAST_TYPE_SHIFT, c) {\n"
+            r"\1    return offset as usize + (c & FAST_TYPE_DATA_MASK) as usize;\n\1}\n"
+            r'\1#[cfg(feature = "proved-reads")]\n\1',
+            2,
+        ),
+        (
+            r"let \(index, data\) = \((self\.index\.as_slice\(\)), self\.data\.as_slice\(\)\);(?=\n +#\[cfg\(not)",
+            r"let index = \1;",
+            2,
+        ),
+        (r"(return fast_place_in\(&self\.header, index, )data, c", r"\1self.data.as_slice(), c", 2),
+        # One test for all cells of the fast index.
+        (
+            r"( +)(?=for i in 0\.\.half \{\n)",
+            r"\1let index: ZeroSlice<'_, u16> = ZeroSlice::from_packed(&index.as_bytes()[..4 * half]);\n\1",
+            1,
+        ),
+        # By value, so that a trie on the stack need not be stored for the call.
+        (
+            r"fn outside_place\(&self, c: u32\) -> usize \{\n +let _ = c;\n +self\.data\.len\(\) - 1",
+            "fn outside_place(cells: usize) -> usize {\n        cells - 1",
+            1,
+        ),
+        (r"self\.outside_place\(c\)", "Self::outside_place(self.data.len())", 1),
+        # Nor is a position tested twice: the read of the value tests it.
+        (
+            r"( +)if place < data\.len\(\) \{\n +place\n",
+            r'\1if cfg!(not(feature = "proved-reads")) || place < data.len() {\n\1    place\n',
+            1,
+        ),
+        (
+            r"( +)(?=self\.data\.as_slice\(\)\.at\(place\)\n)",
+            r'\1#[cfg(not(feature = "proved-reads"))]\n'
+            r"\1if let Some(value) = self.data.get(place) {\n\1    return value;\n\1}\n"
+            r'\1#[cfg(not(feature = "proved-reads"))]\n\1let place = Self::outside_place(self.data.len());\n\1',
+            2,
+        ),
+        (
+            r"(?=use icu_trie_core::error)",
+            r'#[cfg(not(feature = "proved-reads"))]\nuse crate::support::cells::usual_cell;\n'
+            r'#[cfg(not(feature = "proved-reads"))]\n'
+            r"use icu_trie_core::impl_const::{FAST_TYPE_DATA_MASK, FAST_TYPE_SHIFT};\n",
+            1,
+        ),
+    ],
+    "icu_trie/convert": [
+        # rust/face has one with the error of the Rust crate.
+        (r"fn try_into_converted", "fn try_into_converted_explained", 1),
+        (r"\n +error_value(?:: _)?,(?=\n +\})", "", 2),
+        (r"let Some\(error_value\) = data\.last\(\) else \{\s*unreachable!\(\);?\s*\};\s*", "", 1),
+    ],
+    # rust/face has a TryFrom whose error is no failed allocation.
+    "icu_invlist/codepointinvlist/conversions": [(r"fn try_from(?=<R)", "fn try_from_range", 1)],
+    # A vector of strings or a list with the Rust crate's name.
+    "icu_text_sets/codepointinvliststringlist/make": [
+        (r"str_list: Vec<String>,(?=\n +\) -> Result)", "str_list: impl Into<Vec<String>>,", 1),
+        (r"(\n +)(?=match first_fault)", r"\1let str_list = str_list.into();\1", 1),
+        (r"(?<=fn fault_before\(text: &)String", "str", 1),
+        (r"(?<=only_char\()text\.as_str\(\)(?=\)\.is_some)|(?<=match )text\.as_str\(\)(?=\.cmp\(next)", "text", 2),
+    ],
+    # The bounds of the Rust crate.
+    "icu_trie_core/value": [
+        (r"AsULE \+ Eq(?= \{)", "AsULE + Eq + 'static", 1),
+        (r"type TryFromU32Error;", "type TryFromU32Error: core::fmt::Display;", 1),
+    ],
+    "icu_trie/typed": [
+        (r"\n +error_value: self\.error_value,", "", 1),
+        (r"(const TRIE_TYPE: TrieType;\n)", rf"\1{UNTYPED}", 1),
+        (r"(const TRIE_TYPE: TrieType = TrieType::\w+;\n)", rf"\1{UNTYPED_BODIES}", 2),
+    ],
+    # Names and variables that only a proof uses, and what clippy would write in another form.
+    "icu_trie_core/lookup": [
+        (r"(?<=fn fast_place_of<T, C: Cells<T>>\()header(?=:)", "_", 1),
+        (r"(?<=fn high_place_of<T, C: Cells<T>>\()header(: &CodePointTrieHeader, cells: &C, )c(?=:)", r"_\1_", 1),
+        (r"(?m)^(?=pub fn look_up_whole)", "// Tests call it.\n#[allow(dead_code)]\n", 1),
+    ],
+    "icu_trie_core/cells": [(r"(\n +)(?=fn index_len\(&self\) -> usize;)", r"\1// Tests call it.\1#[allow(dead_code)]\1", 1)],
+    "icu_char16trie/spelling": [
+        (r"(fn push_apart\(&mut self, )lead\b", r"\1_", 1),
+        # Rust inlines `String::push` of a character above ASCII.
+        (r"\x01\d+\x03\n +if unit < 0x800 \{(?:\n[^}]*)\}\n(?= +push_wide)", "", 1),
+        (r"(?s) +\x01\d+\x03\n +#\[inline\(never\)\]\n +fn push_far.*?\n    \}\n\n", "", 1),
+        (r"\x01\d+\x03\n +if unit >= 0x80 \{[^}]*\}\n +", "", 1),
+        (
+            r"\x01\d+\x03\n +let mut bytes = \[0; 4\];\n +text\.try_push_str\(c\.encode_utf8\(&mut bytes\)\)",
+            "text.try_push(c)",
+            1,
+        ),
+    ],
+    "icu_trie/lib": [(r"(?m)^(?=pub use icu_trie_core::\{)", "#[allow(unused_imports)] // Tests use them.\n", 1)],
+    "icu_trie_text/lib": [(r"(?m)^(?=(?:pub )?mod characters;)", "#[allow(dead_code)] // The C library uses it.\n", 1)],
+    "icu_trie_binary/binary": [(r"\(\((high_start) \+ 0xfff\) / (0x1000)\)", r"\1.div_ceil(\2)", 1)],
+    "icu_char16trie_builder/sorted": [(r"key: \*key,", "key,", 1)],
+    # The map is searched once for each key that is added.
+    "icu_char16trie_builder/builder": [
+        (r"(?s)(?:\x01\d+\x03\n)+fn has_key\(.*?\n\}\n\n", "", 1),
+        (
+            r"if has_key\(&self\.entries, (key|units\.as_slice\(\))\) \{(\s*)return Err\(AddError::Duplicate\);",
+            r"let Err(place) = self.entries.place_of(\1) else {\2return Err(AddError::Duplicate);",
+            2,
+        ),
+        (r"(?<=return Err\(AddError::Duplicate\);\n        \})(?=\n        match)", ";", 2),
+        (r"(insert(?:_key)?\(&mut self\.entries, )", r"\1place, ", 2),
+        (r"(entries: &mut BTreeMap<Vec<u16>, i32>,)", r"\1\n    place: (usize, usize),", 2),
+        (r"entries\.try_insert\(key, value\)\?", "entries.try_insert_at(place, key, value)?", 1),
+        (r"insert_key\(entries, key, value\)", "insert_key(entries, place, key, value)", 1),
+    ],
+    "icu_trie_compaction/blocks": [(r"&(stored\[stored\.len\(\) - common\.\.\]) == &", r"\1 == ", 1)],
+    # Most blocks hold the number of the block before: one search finds where they end.
+    "icu_trie_map/blocks": [
+        (
+            r"(?s)(?:\x01\d+\x03\n| +\x01\d+\x03\n)+ +pub\(crate\) fn hold_one\(.*?\n    \}\n",
+            "    /// Returns how many of the `most` blocks from `first` on hold only the number of `first`.\n"
+            "    pub(crate) fn run_of_one(&self, first: usize, most: usize) -> usize {\n"
+            "        let (mixed, places) = (&self.mixed[first..first + most], &self.places[first..first + most]);\n"
+            "        let number = self.places[first];\n"
+            "        let end = mixed.iter().zip(places).position(|(is_mixed, place)| *is_mixed || *place != number);\n"
+            "        end.unwrap_or(most)\n    }\n",
+            1,
+        ),
+    ],
+    "icu_trie_map/number_map": [
+        (
+            r"(?s)(?: +\x01\d+\x03\n)+ +pub fn repeats\(.*?\n    \}\n",
+            "    /// Returns how many of the `most` blocks of `size` code points from block `number` on hold one and\n"
+            "    /// the same value. Returns 1 if block `number` holds several.\n"
+            "    pub fn repeats(&self, size: usize, number: usize, most: usize) -> usize {\n"
+            "        let Numbers::InBlocks(blocks) = &self.numbers else {\n            return most;\n        };\n"
+            "        let count = size / 16;\n"
+            "        (blocks.run_of_one(count * number, count * most) / count).max(1)\n    }\n",
+            1,
+        ),
+    ],
+    "icu_trie_builder/map_blocks": [
+        (
+            r"(?s)        for j in 0\.\.count \{\n.*?\n        \}\n(?=        Ok\(offsets\))",
+            "        let mut j = 0;\n        while j < count {\n"
+            "            self.map.copy_block(self.size, first + j, &mut room)?;\n"
+            "            let offset = store.place(&room, MAX_DATA_OFFSET)? as u32;\n"
+            "            j += self.map.repeats(self.size, first + j, count - j);\n"
+            "            offsets.try_resize(j, offset)?;\n        }\n",
+            1,
+        ),
+    ],
+    # One test for all bytes of a character: the last one is read first.
+    "icu_frozen_sets/frozen": [
+        (
+            r"(?s)let lead = u32::from\(bytes\[start\]\);(.*?)"
+            r"        let second = u32::from\(bytes\[start \+ 1\]\) % 64;\n(        if lead < 0xE0 \{\n)"
+            r"(.*?)        let third = u32::from\(bytes\[start \+ 2\]\) % 64;\n(        if lead < 0xF0 \{\n)"
+            r"(.*?)        let fourth = u32::from\(bytes\[start \+ 3\]\) % 64;\n",
+            r"let rest = &bytes[start..];\n        let lead = u32::from(rest[0]);\1\2"
+            r"            let second = u32::from(rest[1]) % 64;\n\3\4"
+            r"            let third = u32::from(rest[2]) % 64;\n            let second = u32::from(rest[1]) % 64;\n\5"
+            r"        let fourth = u32::from(rest[3]) % 64;\n        let third = u32::from(rest[2]) % 64;\n"
+            r"        let second = u32::from(rest[1]) % 64;\n",
+            1,
+        ),
+    ],
+    # Few searches go past the first test. A call would take longer than that.
+    "icu_trie_compaction/window_table": [
+        (r"(?m)^(?= +pub\(crate\) fn find)", "    #[inline(always)]\n", 1),
+        (r"heads: &mut Vec<u32>", "heads: &mut [u32]", 1),
+        (r"\.max\(FIRST_BUCKETS\)\.min\(MOST_BUCKETS\)", ".clamp(FIRST_BUCKETS, MOST_BUCKETS)", 1),
+    ],
+    # The range that the last character has been taken of, for DoubleEndedIterator.
+    "icu_invlist/codepointinvlist/iter": [
+        (
+            r"(?m)^(pub struct IterChars.*\n    next: u32,\n    end: u32,\n)",
+            r"\1    /// What `next_back` has left of the last range: inclusive start, exclusive end.\n"
+            r"    last: (u32, u32),\n",
+            1,
+        ),
+        (r"(\n +)end: 0,", r"\1end: 0,\1last: (0, 0),", 1),
+        (r"(\n +)(?=fn next\(&mut self\) -> Option<char>)", r"\1#[inline]\1", 1),
+        (
+            r"(found;\n +\}\n +)let start = self\.ends\.next\(\)\?;",
+            r"\1let Some(start) = self.ends.next() else {\n                if self.last.0 >= self.last.1 {"
+            r"\n                    return None;\n                }"
+            r"\n                (self.next, self.end) = core::mem::take(&mut self.last);"
+            r"\n                continue;\n            };",
+            1,
+        ),
+    ],
+    # Every RangeBounds is a range: rust/face/src/codepointinvlist.rs says which numbers it contains.
+    # Only these know whether an inclusive range is used up; RangeBounds knows that here.
+    "icu_invlist/codepointinvlist/utils": [
+        (r"(?ms)^impl<X: RangePoint> RangeOf.*?^\}\n", "", 6),
+        (
+            r"fn is_used_up\(range: &RangeInclusive<Self>\) -> bool;",
+            "#[doc(hidden)]\n    #[must_use]\n    fn is_used_up(_: &RangeInclusive<Self>) -> bool {\n        false\n    }",
+            1,
+        ),
+        (r"(?m)^    (?=fn number\(self\) -> u32;)", "    #[must_use]\n    ", 1),
+    ],
+}
