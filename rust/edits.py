@@ -170,6 +170,7 @@ EDITS = {
     "icu_trie_text/utf8": [
         (r"bytes: &'a \[u8\],\n(?: +\x01\d+\x03\n)+ +next: usize,", "rest: core::slice::Iter<'a, u8>,", 1),
         (r"bytes,\n +next: 0,", "rest: bytes.iter(),", 1),
+        (r"(item_of(?:<T: TrieValue>)?\(\s*trie(?:: &AsciiInPlace<'_, T>)?,)\s*bytes(?:: &\[u8\])?,", r"\1", 4),
         (
             r"\(\((c), (trie\.at)(\(at\.0, at\.1\))\), size\)",
             r"let value = if size == 2 { \2_two\3 } else { \2\3 };\n    ((\1, value), size)",

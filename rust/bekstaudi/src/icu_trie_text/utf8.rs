@@ -48,7 +48,6 @@ pub fn values_of_utf8<'a, T: TrieValue>(
 #[inline(always)]
 fn item_of<T: TrieValue>(
     trie: &AsciiInPlace<'_, T>,
-    bytes: &[u8],
     at: (u32, u32),
     size: usize,
 ) -> ((char, T), usize) {
@@ -75,7 +74,6 @@ fn character_item<T: TrieValue>(
         if lead < 0x80 {
             return Some(item_of(
                 trie,
-                bytes,
                 (u32::from(lead / 64), u32::from(lead % 64)),
                 1,
             ));
@@ -83,9 +81,9 @@ fn character_item<T: TrieValue>(
         if lead < 0xC2 {
             return None;
         }
-        Some(item_of(trie, bytes, place_of_two(bytes)?, 2))
+        Some(item_of(trie, place_of_two(bytes)?, 2))
     } else if lead < 0xF0 {
-        Some(item_of(trie, bytes, place_of_three(bytes)?, 3))
+        Some(item_of(trie, place_of_three(bytes)?, 3))
     } else {
         let c = of_four(bytes)?;
         Some(((c, trie.far(c)), 4))
