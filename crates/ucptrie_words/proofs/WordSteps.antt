@@ -6,10 +6,10 @@ use Rattle.std.specs.Str.Lines.{lines}
 use Rattle.std.proofs.lemmas.List.{append-nil, take-append-drop}
 use Rattle.std.proofs.lemmas.List.Elements.{All-push, filter_map-append}
 use Rattle.std.proofs.lemmas.List.Quantifiers.{all_pairs_push}
-use Rattle.icu_char16trie.specs.UnitMap.{UnitMap, same_key, value_of}
+use Rattle.icu_char16trie.specs.UnitMap.{UnitMap, IsAscendingKeys, same_key, value_of}
 use Rattle.icu_char16trie.proofs.CallerLemmas.{same_key_eq, same_key_self}
 use Rattle.icu_char16trie_builder.specs.Entries.{with_entry}
-use Rattle.icu_char16trie_builder.proofs.CallerLemmas.{value_of-with_entry}
+use Rattle.icu_char16trie_builder.proofs.CallerLemmas.{IsAscendingKeys-with_entry, value_of-with_entry}
 use Rattle.ucptab_table.proofs.CallerLemmas.{slice_get_left, left_after, front}
 use Rattle.ucptrie_words.specs.Words.{AreSound, AreWords, HasFault, HasWordFault, IsAdded, IsFaultless, IsFirstFault, entries_in, entry_in}
 use Rattle.ucptrie_words.specs.declared.fault.LineFault.{LineFault}
@@ -72,6 +72,7 @@ module _ (ls : List (List ℕ)) (line : List ℕ) (m after : UnitMap) (words : A
           short = subst (λ es. All (λ e. length e.0 ≤ 65535) es) (sym entries) words.sound.short;
           distinct = subst (λ es. AllPairs (λ a b. a.0 ≢ b.0) es) (sym entries) words.sound.distinct;
         };
+        ascending = subst (λ z. IsAscendingKeys z) (sym same) words.ascending;
         same = λ key. ap (λ z. value_of z key) same ∙ words.same key ∙ ap (λ z. value_of z key) (sym entries);
       }
   by_entry (Some e) said faultless added =
@@ -85,6 +86,7 @@ module _ (ls : List (List ℕ)) (line : List ℕ) (m after : UnitMap) (words : A
           distinct = subst (λ es. AllPairs (λ a b. a.0 ≢ b.0) es) (sym entries)
               (all_pairs_push (λ a b. a.0 ≢ b.0) (entries_in ls) e words.sound.distinct (other_keys (entries_in ls) e.0 new));
         };
+        ascending = subst (λ z. IsAscendingKeys z) (sym added.2) (IsAscendingKeys-with_entry e.0 e.1 m words.ascending);
         same = λ key. ap (λ z. value_of z key) added.2
             ∙ value_of-with_entry e.0 e.1 m key
             ∙ ap (λ z. cond (same_key e.0 key) (Some e.1) z) (words.same key)

@@ -5,7 +5,7 @@ use Rattle.std.specs.Option.{option_map}
 use Rattle.std.specs.Result.{result_unwrap_or}
 use Rattle.std.specs.Str.Lines.{lines}
 use Rattle.icu_char16trie.specs.Matches.{text_units}
-use Rattle.icu_char16trie.specs.UnitMap.{UnitMap, value_of}
+use Rattle.icu_char16trie.specs.UnitMap.{UnitMap, IsAscendingKeys, value_of}
 use Rattle.icu_char16trie_builder.specs.Entries.{with_entry}
 use Rattle.ucptrie_words.specs.Lines.{word_of}
 use Rattle.ucptrie_words.specs.declared.fault.LineFault.{LineFault}
@@ -34,9 +34,11 @@ pub record AreSound (ls : List (List ℕ)) : Type 0 where
   pub short : All (λ e. length e.0 ≤ 65535) (entries_in ls)
   pub distinct : AllPairs (λ a b. a.0 ≢ b.0) (entries_in ls)
 
--- The lines make a trie, and m has exactly their entries: the same value for each key.
+-- The lines make a trie, and m has exactly their entries: each key once, in unit order, with the
+-- value of its line. So there is only one such m.
 pub record AreWords (ls : List (List ℕ)) (m : UnitMap) : Type 0 where
   pub sound : AreSound ls
+  pub ascending : IsAscendingKeys m
   pub same : (key : List ℕ) → value_of m key ≡ value_of (entries_in ls) key
 
 -- The word of the line has this fault after lines with these entries: its key is too long, or is

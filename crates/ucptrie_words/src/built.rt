@@ -1,5 +1,5 @@
 //! The trie of a word list, and the trie that a file of units has.
-ghost use Rattle.std.specs.Prelude.{◌≡◌, ◌<◌, ◌%◌, ℕ, length, Err, IfErr, IfOk, OnOk};
+ghost use Rattle.std.specs.Prelude.{◌≡◌, ◌<◌, ◌≤◌, ◌%◌, ℕ, length, Err, IfErr, IfOk, OnOk};
 ghost use Rattle.std.specs.Str.Lines.{lines};
 ghost use Rattle.icu_char16trie.specs.Grammar.{IsTrieOf};
 ghost use Rattle.icu_char16trie.specs.UnitMap.{UnitMap};
@@ -21,11 +21,12 @@ use std::alloc::Global;
 ///
 /// # Errors
 /// Returns [`WordsFault::Line`] for the first line that has a fault or repeats a key, counted from
-/// 1, [`WordsFault::TooLarge`] if the trie may need more than `0x7FFF_FFFF` units, and
-/// [`WordsFault::Memory`] if an allocation fails.
+/// 1, [`WordsFault::TooLarge`] if and only if no line has a fault and the entries may need more than
+/// `0x7FFF_FFFF` units (two for each unit of a key, and sixteen for each entry), and
+/// [`WordsFault::Memory`] if an allocation fails, even if the entries are too many.
 pub fn trie_of_words(alloc: Global, input: &[u8]) -> Result<Char16Trie<'static>, WordsFault>
-    ensures ok { IfOk result
-        (λ trie. (m : UnitMap) × (IsTrieOf trie m × AreWords (lines input.now) m)) }
+    ensures ok { IfOk result (λ trie. (m : UnitMap)
+        × (IsTrieOf trie m × AreWords (lines input.now) m × (most_units m ≤ 0x7FFF_FFFF))) }
     ensures line { (k : ℕ) (f : LineFault) → IfErr result (λ e. e ≡ Line k f
         → IsFirstFault input.now k f) }
     ensures too_large { IfErr result (λ e. e ≡ TooLarge
