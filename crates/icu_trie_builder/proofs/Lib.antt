@@ -4,6 +4,7 @@ mod NoNullBlock
 mod SharedLemmas
 mod FewWrites
 pub mod DataLemmas
+mod DrawnLemmas
 pub mod Answering
 pub mod AboveLemmas
 pub mod Sizes

@@ -1,11 +1,11 @@
 -- A trie of values, derived from the trie of their numbers.
-use Rattle.std.proofs.Common.{◌≡◌, ℕ, ◌+◌, ◌-◌, ◌*◌, ◌<◌, ◌≤◌, nat_le, nat_lt, true, false, List, [], ◌∷◌, length, Option, Some, None, slice_get, refl, arith, sym, ◌∙◌, ap, subst, inl, inr}
-use Rattle.std.specs.Prelude.{IsSome, is_some, is_none, if◌then◌else◌}
+use Rattle.std.proofs.Common.{◌≡◌, ℕ, ◌+◌, ◌-◌, ◌*◌, ◌<◌, ◌≤◌, nat_le, nat_lt, true, false, List, [], ◌∷◌, length, Option, Some, None, get_or, slice_get, refl, arith, sym, ◌∙◌, ap, subst, inl, inr}
+use Rattle.std.specs.Prelude.{All, IsSome, is_some, is_none, if◌then◌else◌}
 use Rattle.std.specs.Option.{option_and_then, option_map, option_or}
 use Rattle.std.proofs.lemmas.Bool.{le-ltb, cases_lt}
 use Rattle.std.proofs.lemmas.Bool.Decides.{nat_tests}
 use Rattle.std.proofs.lemmas.List.{length-map}
-use Rattle.std.proofs.lemmas.Option.{slice_get-map, same_Some}
+use Rattle.std.proofs.lemmas.Option.{slice_get-get_or, slice_get-map, same_Some}
 use Rattle.icu_trie_core.specs.Contents.{contents_of}
 use Rattle.icu_trie_core.specs.declared.header.CodePointTrieHeader.{CodePointTrieHeader}
 use Rattle.icu_trie_core.specs.Format.{answer, high_cell, high_value, place}
@@ -14,7 +14,7 @@ use Rattle.icu_trie.specs.Parts.{Parts, last_cell, parts_fault}
 use Rattle.icu_trie_core.specs.Coherence.{IsCoherent, IsShared, SameAnswers}
 use Rattle.icu_trie_builder.specs.Inside.NumberTrie.{IsNumberTrie}
 use Rattle.icu_trie_builder.specs.MapAnswers.{AnswersMap}
-use Rattle.icu_trie_builder.specs.Built.{IsWellBuilt}
+use Rattle.icu_trie_builder.specs.Built.{IsDrawnFrom, IsWellBuilt}
 use Rattle.icu_trie_builder.specs.Inside.ValuesOfNumbers.{AreValuesOf}
 use Rattle.icu_trie_builder.specs.Bounds.{data_bound, compact_data_bound}
 use Rattle.icu_trie_builder.proofs.AboveLemmas.{above}
@@ -153,6 +153,18 @@ module _ {T : Type 0} (of_number : ℕ → Option T) (number : T → ℕ) (g : �
             (same_numbers 512 b d (omega (arith, sb.2, aligned, within)) (omega (arith, sd.2, aligned, within)) alike);
       }
 
+  -- Each cell is the value of a code point, or the error value, as its number is.
+  drawn_values : All (IsDrawnFrom of_number (λ c. number (g c)) values) values
+  drawn_values = λ k d l.
+      let inside : k < length numbers = omega (arith, l, length-values of_number numbers values same) in
+      let cell : of_number (get_or numbers k 0) ≡ Some (get_or values k d) =
+      sym (sym (slice_get-get_or values k d l) ∙ get-values of_number numbers values same k
+      ∙ ap (option_and_then of_number) (slice_get-get_or numbers k 0 inside)) in
+      elim (built.well_built.drawn k 0 inside) [
+        | inl w ↦ inl (w.0, w.1, ap of_number (sym (is w.0 w.1) ∙ same_Some _ _ w.2) ∙ cell)
+        | inr last ↦ inr (last_cell-values of_number numbers values same ∙ ap (option_and_then of_number) last ∙ cell)
+      ]
+
   pub well_built : IsWellBuilt of_number (λ c. number (g c)) (record { header = h; index = index; values = values })
   well_built =
       let bound : length numbers ≤ data_bound h.trie_type (λ c. number (g c)) =
@@ -161,6 +173,7 @@ module _ {T : Type 0} (of_number : ℕ → Option T) (number : T → ℕ) (g : �
         header = built.well_built.header;
         coherent = coherent_values;
         shared = shared_values;
+        drawn = drawn_values;
         data_cells = subst (λ n. n ≤ data_bound h.trie_type (λ c. number (g c))) (sym (length-values of_number numbers values same)) bound;
         index_cells = subst (λ n. length index ≤ n) (index_bound-alike f (λ c. number (g c)) is h.trie_type) built.well_built.index_cells;
         compact_data = subst (λ n. n ≤ compact_data_bound h.trie_type (λ c. number (g c)))
@@ -171,6 +184,12 @@ module _ {T : Type 0} (of_number : ℕ → Option T) (number : T → ℕ) (g : �
         tight = tight-alike f (λ c. number (g c)) is h.trie_type (length index) built.well_built.tight;
       }
 
+-- What is drawn from a map is drawn from any map that is equal to it on all code points.
+IsDrawnFrom-alike : {T : Type 0} (of_number : ℕ → Option T) (f g : ℕ → ℕ) → ((c : ℕ) → c < 0x110000 → f c ≡ g c)
+    → (values : List T) (v : T) → IsDrawnFrom of_number f values v → IsDrawnFrom of_number g values v
+IsDrawnFrom-alike of_number f g same values v (inl w) = inl (w.0, w.1, ap of_number (sym (same w.0 w.1)) ∙ w.2)
+IsDrawnFrom-alike of_number f g same values v (inr last) = inr last
+
 -- A trie that is well built from a map is well built from any map that is equal to it on all code
 -- points.
 pub IsWellBuilt-alike : {T : Type 0} (of_number : ℕ → Option T) (f g : ℕ → ℕ) → ((c : ℕ) → c < 0x110000 → f c ≡ g c) → (t : Parts T)
@@ -179,6 +198,7 @@ IsWellBuilt-alike of_number f g same t w = record {
   header = w.header;
   coherent = w.coherent;
   shared = w.shared;
+  drawn = λ k d l. IsDrawnFrom-alike of_number f g same t.values (get_or t.values k d) (w.drawn k d l);
   data_cells = subst (λ n. length t.values ≤ n) (data_bound-alike f g same t.header.trie_type) w.data_cells;
   index_cells = subst (λ n. length t.index ≤ n) (index_bound-alike f g same t.header.trie_type) w.index_cells;
   compact_data = subst (λ n. length t.values ≤ n) (compact_data_bound-alike f g same t.header.trie_type) w.compact_data;

@@ -1,11 +1,11 @@
 -- What a trie that was built from a map is.
-use Rattle.std.specs.Prelude.{◌≡◌, ℕ, ◌+◌, ◌/◌, ◌%◌, ◌≤◌, Option, length}
+use Rattle.std.specs.Prelude.{◌≡◌, ℕ, ◌+◌, ◌/◌, ◌%◌, ◌<◌, ◌≤◌, ◌⊎◌, List, Option, Some, All, length}
 use Rattle.icu_zerovec.specs.CodePoints.{code_point_limit}
 use Rattle.icu_trie_core.specs.Contents.{contents_of}
 use Rattle.icu_trie_core.specs.declared.header.CodePointTrieHeader.{CodePointTrieHeader}
 use Rattle.icu_trie_core.specs.declared.header.TrieType.{TrieType}
 use Rattle.icu_trie_core.specs.Coherence.{IsCoherent, IsShared}
-use Rattle.icu_trie.specs.Parts.{Parts}
+use Rattle.icu_trie.specs.Parts.{Parts, last_cell}
 use Rattle.icu_trie_builder.specs.Bounds.{data_bound, compact_data_bound, index_bound, short_index_bound}
 use Rattle.icu_trie_builder.specs.MapAnswers.{AnswersMap, HasRangesOf}
 use Rattle.icu_trie_builder.specs.NullBlock.{NamesNull, NamesNullIndex}
@@ -17,6 +17,11 @@ pub record IsBuiltHeader (h : CodePointTrieHeader) : Type 0 where
   pub within : h.high_start ≤ code_point_limit
   pub shifted : h.shifted12_high_start ≡ (h.high_start + 0xfff) / 0x1000
 
+-- The value is that of a code point of the map, or the error value, which is the last cell.
+abbrev pub IsDrawnFrom : {T : Type 0} → (ℕ → Option T) → (ℕ → ℕ) → List T → T → Type 0
+IsDrawnFrom of_number f values v =
+    ((c : ℕ) × (c < code_point_limit) × (of_number (f c) ≡ Some v)) ⊎ (last_cell values ≡ Some v)
+
 -- The trie t is well built from a map whose values have the numbers f. of_number gives the value
 -- with a number.
 pub record IsWellBuilt {T : Type 0} (of_number : ℕ → Option T) (f : ℕ → ℕ) (t : Parts T)
@@ -27,6 +32,8 @@ pub record IsWellBuilt {T : Type 0} (of_number : ℕ → Option T) (f : ℕ → 
   pub coherent : IsCoherent of_number t.header (contents_of t.index t.values)
   -- Equal blocks have the same offset or index-2 cell, so that walks are short.
   pub shared : IsShared t.header (contents_of t.index t.values)
+  -- Each data cell is the value of a code point, or the error value.
+  pub drawn : All (IsDrawnFrom of_number f t.values) t.values
   -- The number of cells is bounded by the distinct blocks of the map.
   pub data_cells : length t.values ≤ data_bound t.header.trie_type f
   pub index_cells : length t.index ≤ index_bound t.header.trie_type f

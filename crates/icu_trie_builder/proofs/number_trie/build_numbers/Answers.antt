@@ -6,6 +6,7 @@ use Rattle.icu_trie_compaction.specs.Layout.{IsIndex, IsNullIndex}
 use Rattle.icu_trie_compaction.specs.declared.error.BuildError.TheVariants.{TooLarge}
 use Rattle.icu_trie_builder.proofs.Answering.{answers, coherent, shared, few_offsets, few_all, small_low, fast_within, names_null, names_null_index, fast_index_len-limit}
 use Rattle.icu_trie_compaction.proofs.CallerLemmas.{parts}
+use Rattle.icu_trie_builder.proofs.DrawnLemmas.{all-drawn}
 use Rattle.icu_trie_builder.proofs.Sizes.{lone_blocks-le}
 use Rattle.icu_trie_builder.proofs.number_trie.build_numbers.Goals as goal
 
@@ -48,6 +49,7 @@ returns-clause-built c =
       null_value = null.value;
       trie_type = trie_type;
     } in
+    let whole : length numbers ≡ 0x110000 = search rules in
     let held : c.deref.result.now ≡ fast = search rules in
     let held2 : c.deref-2.result.now ≡ small = search rules in
     let aligned = high.ensures.aligned in
@@ -68,6 +70,7 @@ returns-clause-built c =
         header = record { aligned = aligned; within = within; shifted = omega (arith, c.div_ceil.ensures) };
         coherent = coherent header f fast small index values aligned within laid placed cells;
         shared = shared header f fast small index values aligned within laid placed;
+        drawn = all-drawn numbers values c.args.error whole c.in_ok-values.ensures.error_value c.in_ok-values.ensures.drawn;
         data_cells = omega (arith, compact, lone_blocks-le trie_type f);
         index_cells =
             omega (arith, short, few_offsets trie_type high.result null.offset null.value f fast small values aligned within placed);
