@@ -16,7 +16,7 @@ use Rattle.icu_trie_core.specs.Coherence.{IsCoherent, IsShared, SameAnswers}
 use Rattle.icu_trie_core.proofs.CallerLemmas.{fast_answer, small_answer}
 use Rattle.icu_trie_compaction.specs.Layout.{AllBelow, IsIndex, IsNullIndex}
 use Rattle.icu_trie_builder.specs.Inside.Data.{IsData, SameNumbers}
-use Rattle.icu_trie_builder.specs.NullBlock.{NamesNull, NamesNullIndex}
+use Rattle.icu_trie_builder.specs.NullBlock.{NamesNoNull, NamesNull, NamesNullIndex}
 use Rattle.icu_trie_compaction.proofs.CallerLemmas.{count_different-by, count_different-within, parts, length-window, window-read}
 
 some-injective : (x y : ℕ) → Some x ≡ Some y → x ≡ y
@@ -182,6 +182,11 @@ module _ (h : CodePointTrieHeader) (f : ℕ → ℕ) (fast small index values : 
               ∙ ap (λ n. Some n) (ap (λ j. get_or small (j - fast_limit h.trie_type / 16) 0) same ∙ w.4),
         )
   ]
+
+  -- If there is none, it names no block.
+  pub names_no_null : NamesNoNull h f
+  unfolding NamesNoNull
+  names_no_null = p.no_null
 
   -- Blocks of 512 that are null throughout have the same cell.
   pub names_null_index : IsNullIndex h.trie_type h.high_start h.data_null_offset small index h.index3_null_offset → NamesNullIndex h index

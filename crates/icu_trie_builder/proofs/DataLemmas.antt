@@ -289,19 +289,24 @@ module _ (trie_type : TrieType) (high : ℕ) (numbers stored values fast small :
         let start : b * 16 + 0 ≡ b * 16 = omega arith in
         null-small b i from below li e ∙ (sym (null-small b 0 from below (omega arith) e) ∙ ap (λ n. get_or numbers n 0) start)
 
+    -- The null block is one of the blocks.
+    used : IsNull fast small stored null value → SomeHoldsOne trie_type high (λ c. get_or numbers c 0) (λ b. get_or fast b 0 ≡ null)
+        (λ b. get_or small (b - fast_limit trie_type / 16) 0 ≡ null)
+    used n = let t = parts trie_type in elim n.used [
+      | inl w ↦ inl (w.0, omega (arith, w.1, fast_size, t.1), one-fast w.0 (omega (arith, w.1, fast_size)) w.2, w.2)
+      | inr w ↦
+          let b : ℕ = fast_limit trie_type / 16 + w.0 in
+          let back : b - fast_limit trie_type / 16 ≡ w.0 = omega arith in
+          let below : b * 16 < high = omega (arith, w.1, small_size, t.1, aligned) in
+          let e : get_or small (b - fast_limit trie_type / 16) 0 ≡ null = ap (λ j. get_or small j 0) back ∙ w.2 in
+          inr (b, omega (arith, t.1), below, one-small b (omega arith) below e, e)
+    ]
+
     names : SomeHoldsOne trie_type high (λ c. get_or numbers c 0) (λ _. Unit {0}) (λ _. Unit {0})
         → SomeHoldsOne trie_type high (λ c. get_or numbers c 0) (λ b. get_or fast b 0 ≡ null)
         (λ b. get_or small (b - fast_limit trie_type / 16) 0 ≡ null)
     names given = let t = parts trie_type in elim is [
-      | inl n ↦ elim n.used [
-        | inl w ↦ inl (w.0, omega (arith, w.1, fast_size, t.1), one-fast w.0 (omega (arith, w.1, fast_size)) w.2, w.2)
-        | inr w ↦
-            let b : ℕ = fast_limit trie_type / 16 + w.0 in
-            let back : b - fast_limit trie_type / 16 ≡ w.0 = omega arith in
-            let below : b * 16 < high = omega (arith, w.1, small_size, t.1, aligned) in
-            let e : get_or small (b - fast_limit trie_type / 16) 0 ≡ null = ap (λ j. get_or small j 0) back ∙ w.2 in
-            inr (b, omega (arith, t.1), below, one-small b (omega arith) below e, e)
-      ]
+      | inl n ↦ used n
       | inr none ↦ elim given [
         | inl w ↦
             let l : w.0 < fast_limit trie_type / 64 = omega (arith, w.1, t.1) in
@@ -313,6 +318,12 @@ module _ (trie_type : TrieType) (high : ℕ) (numbers stored values fast small :
             (omega (arith, w.2, from, small_size, t.1, aligned))
             (λ i li. sym (number-small w.0 i from w.2 li) ∙ w.3 i li))
       ]
+    ]
+
+    names_none : (SomeHoldsOne trie_type high (λ c. get_or numbers c 0) (λ _. Unit {0}) (λ _. Unit {0}) → ⊥) → null ≡ 0xfffff
+    names_none never = elim is [
+      | inl n ↦ absurd (never (elim (used n) [ inl w ↦ inl (w.0, w.1, w.2, tt) | inr w ↦ inr (w.0, w.1, w.2, w.3, tt) ]))
+      | inr none ↦ none.1
     ]
 
     -- Placed blocks are valid data for the map of the numbers.
@@ -343,6 +354,7 @@ module _ (trie_type : TrieType) (high : ℕ) (numbers stored values fast small :
           null_fast = null-fast;
           null_small = null-small;
           names_null = names;
+          no_null = names_none;
           fast_fit = fast_fit;
           small_fit = small_fit;
           fast_inside = λ j h. let inside = f.inside j h in omega (arith, inside, values-longer);

@@ -13,7 +13,7 @@ use Rattle.icu_trie_core.specs.Format.{fast_limit, fast_offset, small_offset}
 use Rattle.icu_trie_core.specs.Blocks.{block_of, count_different}
 use Rattle.icu_trie_builder.specs.Bounds.{data_bound, compact_data_bound, index_bound, short_index_bound, fast_blocks, small_blocks, lone_small_blocks, index_blocks, stands_in, stands_below, IsTooLarge}
 use Rattle.icu_trie_compaction.specs.Different.{count_different_but}
-use Rattle.icu_trie_builder.specs.NullBlock.{HoldsOne, SomeHoldsOne, NamesNull}
+use Rattle.icu_trie_builder.specs.NullBlock.{HasDefaultNull, HoldsOne, NamesNoNull, NamesNull, SomeHoldsOne}
 
 -- Functions that are equal on a range give the same list there.
 same_map : {A : Type 0} (f g : ℕ → A) (first count : ℕ) → ((j : ℕ) → first ≤ j → j < first + count → f j ≡ g j)
@@ -139,3 +139,19 @@ NamesNull-alike f g same h index within names = λ given.
     SomeHoldsOne-alike f g same h.trie_type h.high_start (λ b. fast_offset index (b * 64) ≡ Some h.data_null_offset)
     (λ b. small_offset h.trie_type index (b * 16) ≡ Some h.data_null_offset) within
     (names (SomeHoldsOne-alike g f (λ c l. sym (same c l)) h.trie_type h.high_start none none within given))
+
+-- If it belongs to no such block in one map, it belongs to none in the other.
+pub NamesNoNull-alike : (f g : ℕ → ℕ) → ((c : ℕ) → c < 0x110000 → f c ≡ g c) → (h : CodePointTrieHeader) → h.high_start ≤ 0x110000
+    → NamesNoNull h f → NamesNoNull h g
+unfolding NamesNoNull
+NamesNoNull-alike f g same h within names = λ never.
+    let none : ℕ → Type 0 = λ _. Unit {0} in
+    names (λ given. never (SomeHoldsOne-alike f g same h.trie_type h.high_start none none within given))
+
+-- If the null value is the default in the absence of such a block in one map, it is in the other.
+pub HasDefaultNull-alike : (f g : ℕ → ℕ) → ((c : ℕ) → c < 0x110000 → f c ≡ g c) → (default : ℕ) (h : CodePointTrieHeader)
+    → h.high_start ≤ 0x110000 → HasDefaultNull default h f → HasDefaultNull default h g
+unfolding HasDefaultNull
+HasDefaultNull-alike f g same default h within null = λ never.
+    let none : ℕ → Type 0 = λ _. Unit {0} in
+    null (λ given. never (SomeHoldsOne-alike f g same h.trie_type h.high_start none none within given))

@@ -18,7 +18,7 @@ use Rattle.icu_trie_builder.specs.Built.{IsDrawnFrom, IsWellBuilt}
 use Rattle.icu_trie_builder.specs.Inside.ValuesOfNumbers.{AreValuesOf}
 use Rattle.icu_trie_builder.specs.Bounds.{data_bound, compact_data_bound}
 use Rattle.icu_trie_builder.proofs.AboveLemmas.{above}
-use Rattle.icu_trie_builder.proofs.SameMapLemmas.{data_bound-alike, compact_data_bound-alike, index_bound-alike, tight-alike, NamesNull-alike}
+use Rattle.icu_trie_builder.proofs.SameMapLemmas.{data_bound-alike, compact_data_bound-alike, index_bound-alike, tight-alike, NamesNoNull-alike, NamesNull-alike}
 
 option_map-Some : {A B : Type 0} (f : A → Option B) (v : Option B) (n : Option A) → option_map Some v ≡ option_map f n
     → v ≡ option_and_then f n
@@ -180,6 +180,7 @@ module _ {T : Type 0} (of_number : ℕ → Option T) (number : T → ℕ) (g : �
             (sym (length-values of_number numbers values same))
             (subst (λ n. length numbers ≤ n) (compact_data_bound-alike f (λ c. number (g c)) is h.trie_type) built.well_built.compact_data);
         null_block = NamesNull-alike f (λ c. number (g c)) is h index built.well_built.header.within built.well_built.null_block;
+        no_null_block = NamesNoNull-alike f (λ c. number (g c)) is h built.well_built.header.within built.well_built.no_null_block;
         null_index = built.well_built.null_index;
         tight = tight-alike f (λ c. number (g c)) is h.trie_type (length index) built.well_built.tight;
       }
@@ -203,6 +204,7 @@ IsWellBuilt-alike of_number f g same t w = record {
   index_cells = subst (λ n. length t.index ≤ n) (index_bound-alike f g same t.header.trie_type) w.index_cells;
   compact_data = subst (λ n. length t.values ≤ n) (compact_data_bound-alike f g same t.header.trie_type) w.compact_data;
   null_block = NamesNull-alike f g same t.header t.index w.header.within w.null_block;
+  no_null_block = NamesNoNull-alike f g same t.header w.header.within w.no_null_block;
   null_index = w.null_index;
   tight = tight-alike f g same t.header.trie_type (length t.index) w.tight;
 }

@@ -10,8 +10,10 @@ use Rattle.icu_trie_builder.specs.Inside.ValuesOfNumbers.{number_value, AreValue
 use Rattle.icu_trie_builder.specs.Inside.NumberTrie.{IsNumberTrie}
 use Rattle.icu_trie_builder.specs.MapAnswers.{AnswersMap}
 use Rattle.icu_trie_builder.specs.Built.{IsBuiltFrom}
+use Rattle.icu_trie_builder.specs.NullBlock.{HasDefaultNull}
 use Rattle.icu_trie_builder.proofs.BuilderLemmas.{gives_back, all_numbers, number-of_value}
 use Rattle.icu_trie_builder.proofs.RangesOfMap.{HasRangesOf-from_answers}
+use Rattle.icu_trie_builder.proofs.SameMapLemmas.{HasDefaultNull-alike}
 use Rattle.icu_trie_builder.proofs.TypedLemmas.{answers_map, no_fault, well_built}
 
 module _ {T : Type 0} (V : T → Type 0) (number : T → ℕ) (of_number : ℕ → Option T) (back : (x : T) → V x → of_number (number x) ≡ Some x)
@@ -19,6 +21,7 @@ module _ {T : Type 0} (V : T → Type 0) (number : T → ℕ) (of_number : ℕ �
     (h : CodePointTrieHeader) (index cells : List ℕ) (error_number default_number : ℕ) (is_error : error_number ≡ number error)
     (is_default : default_number ≡ number default)
     (built : IsNumberTrie (λ c. slice_index numbers c) error_number h index cells)
+    (no_null : HasDefaultNull default_number h (λ c. slice_index numbers c))
     (null : (p : ℕ → Bool) → AllPass p numbers → p default_number ≡ true → p h.null_value ≡ true) where
   abbrev f : ℕ → T
   f = number_value of_number default numbers
@@ -48,8 +51,8 @@ module _ {T : Type 0} (V : T → Type 0) (number : T → ℕ) (of_number : ℕ �
 
   -- The trie is built from the map.
   pub map_trie : (kind : TrieType) → h.trie_type ≡ kind → (t : Parts T) → t.header ≡ h → t.index ≡ index
-      → AreValuesOf of_number cells t.values → IsBuiltFrom number of_number f error kind t
-  map_trie kind of_kind = by_parts (IsBuiltFrom number of_number f error kind) (λ values v.
+      → AreValuesOf of_number cells t.values → IsBuiltFrom number of_number f default error kind t
+  map_trie kind of_kind = by_parts (IsBuiltFrom number of_number f default error kind) (λ values v.
       let t : Parts T = record { header = h; index = index; values = values } in
       let answers : AnswersMap f error t =
       answers_map of_number number f error (λ c. slice_index numbers c) h index cells values v back_is (back error sound.error_value) is
@@ -58,6 +61,9 @@ module _ {T : Type 0} (V : T → Type 0) (number : T → ℕ) (of_number : ℕ �
         answers = answers;
         ranges = HasRangesOf-from_answers f error t answers;
         trie_type = of_kind;
+        null_value = HasDefaultNull-alike (λ c. slice_index numbers c) (λ c. number (f c)) is (number default) h
+            built_is.well_built.header.within
+            (subst (λ n. HasDefaultNull n h (λ c. slice_index numbers c)) is_default no_null);
         built = well_built of_number number f error (λ c. slice_index numbers c) h index cells values v back_is
             (back error sound.error_value) is built_is null_is;
       })

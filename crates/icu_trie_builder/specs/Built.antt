@@ -8,7 +8,7 @@ use Rattle.icu_trie_core.specs.Coherence.{IsCoherent, IsShared}
 use Rattle.icu_trie.specs.Parts.{Parts, last_cell}
 use Rattle.icu_trie_builder.specs.Bounds.{data_bound, compact_data_bound, index_bound, short_index_bound}
 use Rattle.icu_trie_builder.specs.MapAnswers.{AnswersMap, HasRangesOf}
-use Rattle.icu_trie_builder.specs.NullBlock.{NamesNull, NamesNullIndex}
+use Rattle.icu_trie_builder.specs.NullBlock.{HasDefaultNull, NamesNoNull, NamesNull, NamesNullIndex}
 
 -- The high start is a multiple of 512 and at most 0x110000. `shifted12_high_start` is the high
 -- start shifted right by 12 bits, rounded up.
@@ -41,20 +41,24 @@ pub record IsWellBuilt {T : Type 0} (of_number : ℕ → Option T) (f : ℕ → 
   pub compact_data : length t.values ≤ compact_data_bound t.header.trie_type f
   -- If there is a block of one value, the null data offset is the offset of such a block.
   pub null_block : NamesNull t.header t.index f
+  -- If there is none, the null data offset is 0xfffff.
+  pub no_null_block : NamesNoNull t.header f
   -- Blocks of 512 that consist of null blocks have the null index-3 offset.
   pub null_index : NamesNullIndex t.header t.index
   -- If the bound on the data is at most 0x10000 cells, the index needs no 18-bit offsets.
   pub tight : compact_data_bound t.header.trie_type f ≤ 0x10000
       → length t.index ≤ short_index_bound t.header.trie_type f
 
--- The trie t is built from the map f, with this error value and of this type. `number` gives the
--- number of a value, and of_number the value with a number.
+-- The trie t is built from the map f, with this default, this error value and of this type.
+-- `number` gives the number of a value, and of_number the value with a number.
 pub record IsBuiltFrom {T : Type 0} (number : T → ℕ) (of_number : ℕ → Option T) (f : ℕ → T)
-    (error : T) (kind : TrieType) (t : Parts T) : Type 0 where
+    (default error : T) (kind : TrieType) (t : Parts T) : Type 0 where
   -- It has the map's values.
   pub answers : AnswersMap f error t
   -- It has the map's ranges and value sets.
   pub ranges : HasRangesOf f t
   pub trie_type : t.header.trie_type ≡ kind
+  -- The null value is that of the null block, or the default if there is none.
+  pub null_value : HasDefaultNull (number default) t.header (λ c. number (f c))
   -- It is coherent, and its size is bounded.
   pub built : IsWellBuilt of_number (λ c. number (f c)) t

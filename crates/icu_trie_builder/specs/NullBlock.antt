@@ -23,6 +23,18 @@ NamesNull h index f = SomeHoldsOne h.trie_type h.high_start f (λ _. Unit {0}) (
     (λ b. fast_offset index (b * 64) ≡ Some h.data_null_offset)
     (λ b. small_offset h.trie_type index (b * 16) ≡ Some h.data_null_offset)
 
+-- If no aligned block has one number throughout, the null data offset is 0xfffff. No block has this
+-- offset.
+unfoldable pub NamesNoNull : CodePointTrieHeader → (ℕ → ℕ) → Type 0
+NamesNoNull h f = (SomeHoldsOne h.trie_type h.high_start f (λ _. Unit {0}) (λ _. Unit {0}) → ⊥)
+    → h.data_null_offset ≡ 0xfffff
+
+-- If no aligned block has one number throughout, the null value is the default.
+unfoldable pub HasDefaultNull : ℕ → CodePointTrieHeader → (ℕ → ℕ) → Type 0
+HasDefaultNull default h f =
+    (SomeHoldsOne h.trie_type h.high_start f (λ _. Unit {0}) (λ _. Unit {0}) → ⊥)
+    → h.null_value ≡ default
+
 -- From the fast limit up to the high start, a block of 512 whose 32 data offsets all are null has
 -- the null index-3 offset as its index-2 cell.
 unfoldable pub NamesNullIndex : CodePointTrieHeader → List ℕ → Type 0

@@ -67,7 +67,7 @@ fn build_map<T: TrieValue>(
 ) -> Result<CodePointTrie<'static, T>, BuildError>
     requires { IsBuilder T.is_value T.number numbers.now default error }
     ensures trie { IfOk result (IsBuiltFrom T.number T.of_number
-        (number_value T.of_number default numbers.now) error trie_type) }
+        (number_value T.of_number default numbers.now) default error trie_type) }
     ensures too_large { result ≡ Err TooLarge
         → IsTooLarge (λ c. T.number (number_value T.of_number default numbers.now c)) }
 {
@@ -93,7 +93,8 @@ impl<T: TrieValue> CodePointTrieBuilder<T> {
     /// - `BuildError::Memory` if an allocation fails.
     pub fn build(self) -> Result<CodePointTrie<'static, T>, BuildError>
         ensures trie { IfOk result
-            (IsBuiltFrom T.number T.of_number (map_value self) self.error self.trie_type) }
+            (IsBuiltFrom T.number T.of_number (map_value self) self.default self.error
+            self.trie_type) }
         ensures too_large { result ≡ Err TooLarge → IsTooLarge (λ c. T.number (map_value self c)) }
     {
         build_map(
@@ -127,7 +128,7 @@ pub fn build_from_writes<T: TrieValue>(
     writes: &[Write<T>],
 ) -> Result<CodePointTrie<'static, T>, BuildError>
     ensures trie { IfOk result (IsBuiltFrom T.number T.of_number
-        (value_after writes.now default) error trie_type) }
+        (value_after writes.now default) default error trie_type) }
     ensures too_large { result ≡ Err TooLarge → IsTooLarge
         (λ c. T.number (value_after writes.now default c)) }
     ensures few { count_by (is_accepted) writes.now ≤ 256 → result ≢ Err TooLarge }

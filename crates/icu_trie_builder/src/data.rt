@@ -7,6 +7,7 @@ ghost use Rattle.icu_trie_core.specs.Format.{fast_limit, high_value};
 ghost use Rattle.icu_trie.specs.Parts.{last_cell};
 ghost use Rattle.icu_trie_builder.specs.Bounds.{compact_data_bound, IsTooLarge};
 ghost use Rattle.icu_trie_builder.specs.Inside.Data.{IsData};
+ghost use Rattle.icu_trie_builder.specs.NullBlock.{SomeHoldsOne};
 ghost use Rattle.icu_trie_map.specs.NumberMap.{IsHighFrom};
 ghost use Rattle.icu_trie_compaction.specs.declared.error.BuildError.TheVariants.{TooLarge};
 
@@ -157,6 +158,9 @@ pub(crate) fn place_data(
         IsData trie_type high_start d.null.offset d.null.value (slice_index numbers.now)
         d.fast.items d.small.items d.values.items) }
     ensures null_fit { IfOk result (λ d. d.null.offset ≤ 0xfffff) }
+    ensures null_default { IfOk result (λ d. (SomeHoldsOne trie_type high_start
+        (slice_index numbers.now) (λ _. Unit {0}) (λ _. Unit {0}) → ⊥)
+        → d.null.value ≡ default) }
     ensures null_drawn { IfOk result (λ d. (p : ℕ → Bool) → AllPass p numbers.now → p default ≡ true
         → p d.null.value ≡ true) }
     ensures error_value { IfOk result (λ d. last_cell d.values.items ≡ Some error) }

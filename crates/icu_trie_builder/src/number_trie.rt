@@ -3,6 +3,7 @@ ghost use Rattle.std.specs.Prelude.{◌≡◌, ℕ, Bool, true, slice_index, IfO
 ghost use Rattle.std.specs.List.{AllPass};
 ghost use Rattle.icu_trie_builder.specs.Bounds.{IsTooLarge};
 ghost use Rattle.icu_trie_builder.specs.Inside.NumberTrie.{IsNumberTrie};
+ghost use Rattle.icu_trie_builder.specs.NullBlock.{HasDefaultNull};
 ghost use Rattle.icu_trie_compaction.specs.declared.error.BuildError.TheVariants.{TooLarge};
 
 use crate::data::{PlacedData, place_data};
@@ -40,6 +41,8 @@ pub(crate) fn build_numbers(
     ensures built { IfOk result (λ t.
         IsNumberTrie (λ c. slice_index numbers.now c) error t.header t.index.items t.values.items) }
     ensures trie_type { IfOk result (λ t. t.header.trie_type ≡ trie_type) }
+    ensures null_default { IfOk result (λ t.
+        HasDefaultNull default t.header (λ c. slice_index numbers.now c)) }
     ensures null_value { IfOk result (λ t. (p : ℕ → Bool) → AllPass p numbers.now → p default ≡ true
         → p t.header.null_value ≡ true) }
 

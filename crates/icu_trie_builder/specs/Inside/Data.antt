@@ -39,6 +39,8 @@ pub record IsData (t : TrieType) (high null null_value : ℕ) (f : ℕ → ℕ) 
   pub names_null : SomeHoldsOne t high f (λ _. Unit {0}) (λ _. Unit {0})
       → SomeHoldsOne t high f (λ b. slice_index fast b ≡ null)
       (λ b. slice_index small (b - fast_limit t / 16) ≡ null)
+  -- If no block has one number throughout, the null offset is 0xfffff.
+  pub no_null : (SomeHoldsOne t high f (λ _. Unit {0}) (λ _. Unit {0}) → ⊥) → null ≡ 0xfffff
   -- Offsets of fast blocks have at most 16 bits, and those of small blocks at most 18.
   pub fast_fit : AllBelow 0x10000 fast
   pub small_fit : AllBelow 0x40000 small

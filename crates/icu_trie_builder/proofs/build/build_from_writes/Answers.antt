@@ -30,10 +30,12 @@ returns-clause-trie g c =
     let done = after g c in
     let number = g.T.TrieValue.number in
     let of_number = g.T.TrieValue.of_number in
-    IfOk-weaker c.build.result (IsBuiltFrom number of_number (map_value new) new.error new.trie_type)
-    (IsBuiltFrom number of_number (value_after c.args.writes.now c.args.default) c.args.error c.args.trie_type)
+    IfOk-weaker c.build.result (IsBuiltFrom number of_number (map_value new) new.default new.error new.trie_type)
+    (IsBuiltFrom number of_number (value_after c.args.writes.now c.args.default) c.args.default c.args.error
+    c.args.trie_type)
     (λ t. IsBuiltFrom-alike (map_value new) (value_after c.args.writes.now c.args.default) (same_value g c) new.error c.args.error
-    (done.error ∙ c.new-builder.ensures.error) t number of_number new.trie_type c.args.trie_type
+    (done.error ∙ c.new-builder.ensures.error) t number of_number new.default c.args.default
+    (done.default ∙ c.new-builder.ensures.default) new.trie_type c.args.trie_type
     (done.trie_type ∙ c.new-builder.ensures.trie_type))
     c.build.ensures.trie
 

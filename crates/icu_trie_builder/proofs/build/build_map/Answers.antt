@@ -39,10 +39,11 @@ returns-clause-trie g c =
     let f : ℕ → g.row.T.Denot = number_value of_number c.args.default c.args.numbers.now in
     let error = c.args.error in
     IfOk-three c.trie_of.result (λ t. t.header ≡ trie.header) (λ t. t.index ≡ trie.index.items)
-    (λ t. AreValuesOf of_number trie.values.items t.values) (IsBuiltFrom number of_number f error c.args.trie_type)
+    (λ t. AreValuesOf of_number trie.values.items t.values) (IsBuiltFrom number of_number f c.args.default error c.args.trie_type)
     (map_trie g.T.AsULE.is_value number of_number g.met.T.TrieValue.number_gives_back c.args.numbers.now c.args.default error c.requires
     trie.header trie.index.items trie.values.items c.to_u32.result c.to_u32-2.result c.to_u32.ensures c.to_u32-2.ensures
-    c.in_ok-trie.ensures.built c.in_ok-trie.ensures.null_value c.args.trie_type c.in_ok-trie.ensures.trie_type)
+    c.in_ok-trie.ensures.built c.in_ok-trie.ensures.null_default c.in_ok-trie.ensures.null_value c.args.trie_type
+    c.in_ok-trie.ensures.trie_type)
     c.trie_of.ensures.header c.trie_of.ensures.index c.trie_of.ensures.values
 
 pub trie_of-requires-clause-sound : goal.trie_of-requires-clause-sound
@@ -51,4 +52,4 @@ trie_of-requires-clause-sound g c =
     map_no_fault g.T.AsULE.is_value g.T.TrieValue.number g.T.TrieValue.of_number g.met.T.TrieValue.number_gives_back c.args.numbers.now
     c.args.default c.args.error c.requires
     trie.header trie.index.items trie.values.items c.to_u32.result c.to_u32-2.result c.to_u32.ensures c.to_u32-2.ensures
-    c.in_ok-trie.ensures.built c.in_ok-trie.ensures.null_value
+    c.in_ok-trie.ensures.built c.in_ok-trie.ensures.null_default c.in_ok-trie.ensures.null_value

@@ -273,6 +273,25 @@ returns-clause-null_fit c = elim (null_is c) [
   | inr none ↦ omega (arith, none.1)
 ]
 
+pub returns-clause-null_default : goal.returns-clause-null_default
+returns-clause-null_default c = λ never.
+    let held : c.deref-2.result.now ≡ fast c = c.deref-2.ensures.value in
+    let offset : ℕ = c.null_or.result.offset in
+    let value : ℕ = c.null_or.result.value in
+    let none = (returns-clause-placed c).no_null never in
+    let cases = null-cases c.deref-2.result.now (small c)
+    (three c) c.args.default c.in_ok-null.null c.null_or.result c.in_ok-null.ensures.null c.in_ok-null.ensures.none
+    c.null_or.ensures in
+    elim cases [
+      | inl n ↦
+          let used = (subst (λ os. IsNull os (small c) (three c) offset value) held n).used in
+          absurd (elim used [
+            | inl w ↦ omega (arith, none, low c w.0 w.1, w.2)
+            | inr w ↦ omega (arith, none, small_low c w.0 w.1, w.2)
+          ])
+      | inr without ↦ without.2
+    ]
+
 pub returns-clause-null_drawn : goal.returns-clause-null_drawn
 returns-clause-null_drawn c = λ test pass end.
     let offset : ℕ = c.null_or.result.offset in

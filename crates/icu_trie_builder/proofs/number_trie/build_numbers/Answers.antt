@@ -2,9 +2,10 @@ use Rattle.std.proofs.Common.{rules, ◌≡◌, ℕ, ◌≤◌, length, Err, get
 use Rattle.icu_trie_core.specs.declared.header.CodePointTrieHeader.{CodePointTrieHeader}
 use Rattle.icu_trie_builder.specs.Bounds.{compact_data_bound}
 use Rattle.icu_trie_builder.specs.Inside.Data.{IsData}
+use Rattle.icu_trie_builder.specs.NullBlock.{HasDefaultNull}
 use Rattle.icu_trie_compaction.specs.Layout.{IsIndex, IsNullIndex}
 use Rattle.icu_trie_compaction.specs.declared.error.BuildError.TheVariants.{TooLarge}
-use Rattle.icu_trie_builder.proofs.Answering.{answers, coherent, shared, few_offsets, few_all, small_low, fast_within, names_null, names_null_index, fast_index_len-limit}
+use Rattle.icu_trie_builder.proofs.Answering.{answers, coherent, shared, few_offsets, few_all, small_low, fast_within, names_no_null, names_null, names_null_index, fast_index_len-limit}
 use Rattle.icu_trie_compaction.proofs.CallerLemmas.{parts}
 use Rattle.icu_trie_builder.proofs.DrawnLemmas.{all-drawn}
 use Rattle.icu_trie_builder.proofs.Sizes.{lone_blocks-le}
@@ -28,6 +29,10 @@ returns-in_err-built-clause-too_large c = λ e.
       few_all c.args.trie_type high.result null.offset null.value (λ n. get_or c.args.numbers.now n 0) fast small
           c.in_ok-values.field-0.values.items high.ensures.aligned high.ensures.within c.in_ok-values.ensures.placed,
     ))
+
+pub returns-clause-null_default : goal.returns-clause-null_default
+unfolding HasDefaultNull
+returns-clause-null_default c = c.in_ok-values.ensures.null_default
 
 pub returns-clause-built : goal.returns-clause-built
 returns-clause-built c =
@@ -76,6 +81,7 @@ returns-clause-built c =
             omega (arith, short, few_offsets trie_type high.result null.offset null.value f fast small values aligned within placed);
         compact_data = compact;
         null_block = names_null header f fast small index values aligned within laid placed;
+        no_null_block = names_no_null header f fast small index values aligned within laid placed;
         null_index = names_null_index header f fast small index values aligned within laid placed cells;
         tight = λ small_data. omega (
           arith,

@@ -13,5 +13,5 @@ returns-clause-too_large g c = λ e.
 pub returns-clause-trie : goal.returns-clause-trie
 returns-clause-trie g c =
     let P : CodePointMap g.row.T.Denot → Type 0 = λ m. IfOk c.build_map.result
-    (IsBuiltFrom g.T.TrieValue.number g.T.TrieValue.of_number (map_value m) m.error m.trie_type) in
+    (IsBuiltFrom g.T.TrieValue.number g.T.TrieValue.of_number (map_value m) m.default m.error m.trie_type) in
     subst P c.self.view_is c.build_map.ensures.trie
