@@ -70,7 +70,7 @@ impl<'a, T: TrieValue> Iterator for ValueIndicesOf<'a, T> {
 
     ghost remaining = { item_count (λ left. left) };
 
-    #[inline]
+    #[inline(always)]
     fn next(&mut self) -> Option<(usize, char, T)> {
         let offset = self.end - self.rest.len();
         let (item, rest) = first_value(&self.trie, self.rest)?;

@@ -62,7 +62,7 @@ impl<'a, T: TrieValue> Iterator for ValuesOfUtf16<'a, T> {
 
     ghost remaining = { item_count (λ left. left) };
 
-    #[inline]
+    #[inline(always)]
     fn next(&mut self) -> Option<(u32, T)> {
         let (first, rest) = first_code_point(self.rest)?;
         self.rest = rest;

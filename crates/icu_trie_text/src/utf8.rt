@@ -136,7 +136,7 @@ impl<'a, T: TrieValue> Iterator for ValuesOfUtf8<'a, T> {
 
     ghost remaining = { item_count (λ left. left.bytes) };
 
-    #[inline]
+    #[inline(always)]
     fn next(&mut self) -> Option<(char, T)> {
         if self.next == self.bytes.len() {
             return None;

@@ -61,7 +61,7 @@ impl<'a, T: TrieValue> Iterator for ValuesOf<'a, T> {
 
     ghost remaining = { item_count (λ left. left) };
 
-    #[inline]
+    #[inline(always)]
     fn next(&mut self) -> Option<(char, T)> {
         let (item, rest) = first_value(&self.trie, self.rest)?;
         self.rest = rest;
