@@ -1,5 +1,5 @@
 impl<T: TrieValue> DoubleEndedIterator for ValueIndicesOf<'_, T> {
-    #[inline]
+    #[inline(always)]
     fn next_back(&mut self) -> Option<(usize, char, T)> {
         let last = self.rest.next_back()?;
         self.end -= last.len_utf8();

@@ -1,5 +1,5 @@
 impl<T: TrieValue> DoubleEndedIterator for ValuesOfUtf16<'_, T> {
-    #[inline]
+    #[inline(always)]
     fn next_back(&mut self) -> Option<(u32, T)> {
         let last = self.rest.len().checked_sub(1)?;
         let start = match self.rest.get(last.wrapping_sub(1)..).and_then(first_code_point) {

@@ -1,5 +1,5 @@
 impl<T: TrieValue> DoubleEndedIterator for ValuesOf<'_, T> {
-    #[inline]
+    #[inline(always)]
     fn next_back(&mut self) -> Option<(char, T)> {
         let last = self.rest.next_back()?;
         Some((last, self.trie.get(last)))
