@@ -10,6 +10,11 @@ pub use Rattle.icu_trie_text.proofs.Utf8ValueLemmas.{values_of_bytes_drained, va
 pub use Rattle.icu_trie_text.proofs.CharacterLemmas.{last_same}
 -- There are no more code points than units.
 pub use Rattle.icu_trie_text.proofs.Utf16Lemmas.{length-code_points}
+-- Values that are copied to a buffer: the first parts of bytes, then those of the bytes that follow, are
+-- all parts, and a part is copied if there is a byte and room for a value.
+pub use Rattle.icu_trie_text.proofs.CopiedItems.{copied_some, first_values_append}
+-- A part takes at least one byte, and is within the bytes.
+pub use Rattle.icu_trie_text.proofs.Utf8Parts.{part_size}
 -- The first part of a text is its first character.
 pub use Rattle.icu_trie_text.proofs.CopiedItems.{text_next}
 -- The code points that have their values at their own index in the data.

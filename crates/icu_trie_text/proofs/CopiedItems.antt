@@ -50,6 +50,22 @@ module _ {T : Type 0} (trie : Parts T) where
       let others = first_values_fit (drop h.0 bytes) items h.1 h.3 in
       omega (arith, own, others, h.4, length-drop h.0 bytes)
 
+  -- Each part takes at least one byte.
+  first_values_least : (bytes : List ℕ) (items : List (ℕ × T)) (size : ℕ) → AreFirstValues trie bytes items size → length items ≤ size
+  first_values_least bytes [] size h = omega (arith, h)
+  first_values_least bytes (item ∷ items) size h =
+      let own = (part_size bytes h.2.part h.0 h.2.stands).0 in
+      let others = first_values_least (drop h.0 bytes) items h.1 h.3 in
+      omega (arith, own, others, h.4)
+
+  -- The first parts, and then those of the bytes that follow, are all parts.
+  pub first_values_append : (bytes : List ℕ) (items more : List (ℕ × T)) (size : ℕ) → AreFirstValues trie bytes items size
+      → AreValuesOfBytes trie (drop size bytes) more → AreValuesOfBytes trie bytes (items ++ more)
+  first_values_append bytes [] more size h a = rw h at a
+  first_values_append bytes (item ∷ items) more size h a =
+      let both : drop size bytes ≡ drop h.1 (drop h.0 bytes) = ap (λ k. drop k bytes) h.4 ∙ sym (drop-drop h.1 h.0 bytes) in
+      (h.0, h.2, first_values_append (drop h.0 bytes) items more h.1 h.3 (rw both at a))
+
   -- The parts that take all bytes are all parts.
   all_values : (bytes : List ℕ) (items : List (ℕ × T)) (size : ℕ) → AreFirstValues trie bytes items size → size ≡ length bytes
       → AreValuesOfBytes trie bytes items
@@ -73,6 +89,13 @@ module _ {T : Type 0} (trie : Parts T) where
       rw both at pair
 
   module _ (bytes : List ℕ) (old new : List T) (copied : Copied) where
+    -- If there is a byte and room for a value, a part is copied, which is not empty.
+    pub copied_some : IsCopied trie bytes old new copied → 0 < length bytes → 0 < length old → 0 < copied.bytes
+    copied_some c some room =
+        let count = c.count in
+        let least = first_values_least bytes c.items copied.bytes c.parts in
+        elim c.stops [ inl full ↦ omega (arith, full, count, least, room) | inr ended ↦ omega (arith, ended, some) ]
+
     -- A text is copied to its end if its characters fit.
     pub copied_whole : IsCopied trie bytes old new copied → IsUtf8 bytes → length (chars bytes) ≤ length old → copied.bytes ≡ length bytes
     copied_whole c u room = elim c.stops [
@@ -118,6 +141,8 @@ module _ {T : Type 0} (trie : Parts T) where
           items = r.0;
           parts = r.1;
           count = count;
+          fits = within;
+          within = first_values_fit bytes r.0 copied.bytes r.1;
           buffer = sym (take-append-drop n new) ∙ ap (λ (xs : List T). xs ++ drop n new) (sym r.2)
               ∙ ap (λ (xs : List T). own ++ xs) h.rest ∙ ap (λ (k : ℕ). own ++ drop k old) count;
           stops = h.stops;
