@@ -5,6 +5,7 @@
 //! - `sets`: sets of code points
 //! - `words`: word lists in unit tries
 //! - `texts`: a quick check of a text, as in a normalizer
+//! - `pages`: the values of bytes that may be ill-formed, page by page
 //! - `own_cells`: a look-up over user-defined cells, which counts its reads
 //! - `categories`: a user-defined enum as the value of a trie
 //! - `built`: what is known about a built trie besides its values
@@ -17,6 +18,7 @@ pub mod built;
 pub mod categories;
 pub mod errors;
 pub mod own_cells;
+pub mod pages;
 pub mod sets;
 pub mod stored;
 pub mod tables;
