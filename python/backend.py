@@ -1,4 +1,4 @@
-"""Builds the wheel of this folder, for pip (PEP 517): the module in C is compiled over the static
+"""Builds the wheel of this folder, for pip (PEP 517 and 660): the module in C is compiled over the static
 library that c/build makes, and is packed with the Python files.
 
 The wheel has the module twice: once for every CPython from 3.9 on, and once for the version that runs
@@ -69,14 +69,19 @@ def _metadata():
     return f"{head}\n{(HERE / 'README.md').read_text(encoding='utf-8')}"
 
 
-def _files(modules):
-    """Return the content of each file of the wheel, by its name."""
-    info = f"bekstaudi-{_version()}.dist-info"
+def _package(modules):
+    """Return the content of each file of the package, by its name."""
     files = {f"bekstaudi/{it.name}": it.read_bytes() for it in modules}
     for path in sorted((HERE / "src/bekstaudi").glob("*.py*")):
         if path.is_file():
             files[f"bekstaudi/{path.name}"] = path.read_bytes()
     files["bekstaudi/py.typed"] = b""
+    return files
+
+
+def _described(files):
+    """Add to the files of a wheel those that describe it."""
+    info = f"bekstaudi-{_version()}.dist-info"
     wheel = f"Wheel-Version: 1.0\nGenerator: bekstaudi\nRoot-Is-Purelib: false\nTag: {TAG}\n"
     files[f"{info}/LICENSE"] = (HERE.parent / "LICENSE").read_bytes()
     files[f"{info}/METADATA"] = _metadata().encode()
@@ -89,25 +94,34 @@ def _files(modules):
     return files
 
 
-def _pack(path, files):
-    """Write a wheel whose bytes depend only on the files and on SOURCE_DATE_EPOCH."""
+def _pack(folder, files):
+    """Write a wheel whose bytes depend only on the files and on SOURCE_DATE_EPOCH. Return its name."""
+    name = f"bekstaudi-{_version()}-{TAG}.whl"
     # A zip archive has no time before 1980.
     moment = max(int(os.environ.get("SOURCE_DATE_EPOCH", 315532800)), 315532800)
-    with zipfile.ZipFile(path, "w") as wheel:
-        for name, content in files.items():
-            entry = zipfile.ZipInfo(name, time.gmtime(moment)[:6])
+    with zipfile.ZipFile(os.path.join(folder, name), "w") as wheel:
+        for path, content in _described(files).items():
+            entry = zipfile.ZipInfo(path, time.gmtime(moment)[:6])
             entry.compress_type = zipfile.ZIP_DEFLATED
-            entry.external_attr = (0o100755 if name.endswith(".so") else 0o100644) << 16
+            entry.external_attr = (0o100755 if path.endswith(".so") else 0o100644) << 16
             entry.create_system = 3
             wheel.writestr(entry, content)
+    return name
 
 
 def build_wheel(wheel_directory, config_settings=None, metadata_directory=None):
     """Build the wheel (the hook of PEP 517). Return its name."""
-    name = f"bekstaudi-{_version()}-{TAG}.whl"
     with tempfile.TemporaryDirectory(prefix="bekstaudi-") as folder:
-        _pack(os.path.join(wheel_directory, name), _files(_compiled(pathlib.Path(folder))))
-    return name
+        return _pack(wheel_directory, _package(_compiled(pathlib.Path(folder))))
+
+
+def build_editable(wheel_directory, config_settings=None, metadata_directory=None):
+    """Build a wheel that refers to the sources (the hook of PEP 660). Return its name.
+
+    The modules are compiled into src/bekstaudi, beside the Python files.
+    """
+    _compiled(HERE / "src/bekstaudi")
+    return _pack(wheel_directory, {"bekstaudi.pth": f"{HERE / 'src'}\n".encode()})
 
 
 def build_sdist(sdist_directory, config_settings=None):
