@@ -135,7 +135,10 @@ class Tries(unittest.TestCase):
             with self.assertRaises(TrieRefused) as told:
                 Trie(bytes(fault))
             self.assertEqual(told.exception.status, name)
-            self.assertEqual({it.status for it in copies(told.exception)}, {name})
+            self.assertRegex(str(told.exception), rf"^the bytes are not a trie: [a-z0-9 ,-]{{15,}} \({name}\)$")
+            told.exception.more = 5
+            for it in copies(told.exception):
+                self.assertEqual((it.status, str(it), it.more), (name, str(told.exception), 5))
         with self.assertRaises(TrieRefused):
             Trie(b"")
 

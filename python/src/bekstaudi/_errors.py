@@ -11,17 +11,31 @@ class BekstaudiError(Exception):
 class TrieRefused(BekstaudiError, ValueError):
     """The bytes are not a trie. `status` names the first fault, as in enum bks_status."""
 
-    NAMES = (
-        "OK SHORT SIGNATURE SWAPPED UNKNOWN_TYPE UNKNOWN_WIDTH RESERVED OTHER_WIDTH CUT_OFF CELL"
-        " EMPTY_DATA NULL_VALUE SHORT_INDEX SHORT_DATA UNKNOWN_NUMBER"
-    ).split()
+    FAULTS = {
+        "OK": "there is no fault",
+        "SHORT": "they are fewer than the 16 bytes of a header",
+        "SIGNATURE": "they do not start with the signature of a trie",
+        "SWAPPED": "this is a trie of a big-endian machine",
+        "UNKNOWN_TYPE": "the type is neither fast nor small",
+        "UNKNOWN_WIDTH": "the values have none of the widths 8, 16 and 32 bits",
+        "RESERVED": "a reserved bit is not 0",
+        "OTHER_WIDTH": "the values have another width",
+        "CUT_OFF": "they are fewer than the index and the data take",
+        "CELL": "a cell is not a value",
+        "EMPTY_DATA": "the data is empty",
+        "NULL_VALUE": "the null value is not a value",
+        "SHORT_INDEX": "the index has fewer cells than blocks below the fast limit",
+        "SHORT_DATA": "a block below the fast limit ends after the data",
+        "UNKNOWN_NUMBER": "a number is unknown",
+    }
+    NAMES = tuple(FAULTS)
 
     def __init__(self, status: int) -> None:
         self.status = self.NAMES[status]
-        super().__init__(self.status)
+        super().__init__(f"the bytes are not a trie: {self.FAULTS[self.status]} ({self.status})")
 
-    def __reduce__(self) -> "tuple[type, tuple[int]]":
-        return type(self), (self.NAMES.index(self.status),)
+    def __reduce__(self) -> "tuple[type, tuple[int], dict[str, object]]":
+        return type(self), (self.NAMES.index(self.status),), self.__dict__
 
 
 class NoMemory(BekstaudiError, MemoryError):
