@@ -44,13 +44,6 @@ static code_point_set *set_owning(PyTypeObject *type, uint32_t *ends, size_t cou
     return self;
 }
 
-/* Raises NoSet with a message. Takes over the reference to it. */
-static void *raise_no_set(PyObject *message) {
-    if (message) raise_error("NoSet", message);
-    Py_XDECREF(message);
-    return NULL;
-}
-
 /* Reads a boundary, which is above the one before it. Returns 0, or -1 with an exception set. */
 static int read_end(PyObject *all, Py_ssize_t index, uint32_t *ends) {
     PyObject *given = PyTuple_GetItem(all, index);
@@ -61,9 +54,11 @@ static int read_end(PyObject *all, Py_ssize_t index, uint32_t *ends) {
     int64_t number = code_point(given);
     if (number == POINT_ERROR) return -1;
     if (number == POINT_OUTSIDE || number > 0x110000)
-        raise_no_set(PyUnicode_FromFormat("ends[%zd]: expected a number from 0 to 0x110000, found %S", index, given));
+        raise_message("NoSet", PyUnicode_FromFormat("ends[%zd]: expected a number from 0 to 0x110000, found %S", index,
+                                                    given));
     else if (index && number <= ends[index - 1])
-        raise_no_set(PyUnicode_FromFormat("ends[%zd]: expected more than %u, found %S", index, ends[index - 1], given));
+        raise_message("NoSet", PyUnicode_FromFormat("ends[%zd]: expected more than %u, found %S", index,
+                                                    ends[index - 1], given));
     ends[index] = (uint32_t)number;
     return PyErr_Occurred() ? -1 : 0;
 }
@@ -83,11 +78,10 @@ static PyObject *set_new(PyTypeObject *type, PyObject *args, PyObject *keywords)
     if (!ends) PyErr_NoMemory();
     while (ends && read < count && !read_end(all, read, ends)) read++;
     bool is_read = ends && read == count, is_set = is_read && bks_set_test(ends, (size_t)count);
-    if (is_read && !is_set) raise_no_set(PyUnicode_FromFormat("ends: expected an even count, found %zd", count));
     Py_DECREF(all);
     if (is_set) return (PyObject *)set_owning(type, ends, (size_t)count);
     PyMem_Free(ends);
-    return NULL;
+    return is_read ? raise_message("NoSet", PyUnicode_FromFormat("ends: expected an even count, found %zd", count)) : NULL;
 }
 
 /* The set of boundaries that are packed as uint32_t. */

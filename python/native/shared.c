@@ -28,6 +28,12 @@ void *raise_error(const char *name, PyObject *argument) {
     return NULL;
 }
 
+void *raise_message(const char *name, PyObject *message) {
+    if (message) raise_error(name, message);
+    Py_XDECREF(message);
+    return NULL;
+}
+
 void *raise_refusal(int64_t refusal) {
     switch (refusal) {
         case BKS_NO_MEMORY: return raise_error("NoMemory", NULL);

@@ -29,6 +29,9 @@
 /* Raises the exception `name` of bekstaudi._errors with one argument, or with none if it is NULL. */
 void *raise_error(const char *name, PyObject *argument);
 
+/* Raises it with a message, a new reference that it takes over, or NULL with an exception set. */
+void *raise_message(const char *name, PyObject *message);
+
 /* Raises the exception for an `enum bks_refusal`. */
 void *raise_refusal(int64_t refusal);
 

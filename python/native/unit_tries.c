@@ -35,7 +35,7 @@ static int64_t read_unit(PyObject *item) {
     long number = PyLong_AsLongAndOverflow(index, &overflow);
     Py_DECREF(index);
     if (!overflow && number >= 0 && number <= 0xFFFF) return number;
-    PyErr_Format(PyExc_OverflowError, "expected a unit of 16 bits, found %S", item);
+    raise_message("WideUnit", PyUnicode_FromFormat("key: %S is not an unsigned number of 16 bits", item));
     return -1;
 }
 

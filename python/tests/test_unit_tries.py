@@ -3,7 +3,7 @@ import collections.abc
 import os
 import unittest
 
-from bekstaudi import LongKey, NoTrie, SameKey, UnitTrie, WideValue
+from bekstaudi import BekstaudiError, LongKey, NoTrie, SameKey, UnitTrie, WideUnit, WideValue
 from samples import FOLDER, copies
 
 
@@ -177,11 +177,14 @@ class UnitTries(unittest.TestCase):
                 asks(b"a")
             with self.assertRaisesRegex(TypeError, "^start: expected an int, found float$"):
                 asks("a", start=1.0)
-        for wrong in ([-1], [0x10000], [1 << 70]):
-            with self.assertRaises(OverflowError):
-                self.worked.get(wrong)
-            with self.assertRaises(OverflowError):
-                UnitTrie.build([(wrong, 1)])
+        for wrong in ([-1], [0x10000], [1 << 70], (97, -5)):
+            for error in (WideUnit, OverflowError, ValueError, BekstaudiError):
+                with self.assertRaisesRegex(error, f"^key: {wrong[-1]} is not an unsigned number of 16 bits$"):
+                    self.worked.get(wrong)
+                with self.assertRaisesRegex(error, rf"^key \[(97, )?{wrong[-1]}\]: {wrong[-1]} is not an unsigned number of 16 bits$"):
+                    UnitTrie.build([(wrong, 1)])
+        with self.assertRaisesRegex(WideUnit, r"^key \[0, 1, 2, 3, 4, 5, \.\.\.\]: 70000 is not an unsigned"):
+            UnitTrie.build([(iter([*range(50), 70000]), 1)])
         with self.assertRaises(TypeError):
             UnitTrie.build({"a": 1.0})
         self.assertEqual(self.worked.get("b", default=7), 7)

@@ -18,6 +18,7 @@ import collections.abc
 import functools
 import itertools
 import operator
+import reprlib
 from array import array
 
 try:
@@ -34,11 +35,12 @@ from ._errors import (
     SameKey,
     TooLarge,
     TrieRefused,
+    WideUnit,
     WideValue,
 )
 
 __all__ = ["BekstaudiError", "CodePointSet", "FrozenCodePointSet", "LongKey", "NoForm", "NoMemory"]
-__all__ += ["NoSet", "NoTrie", "SameKey", "TooLarge", "Trie", "TrieRefused", "UnitTrie", "WideValue"]
+__all__ += ["NoSet", "NoTrie", "SameKey", "TooLarge", "Trie", "TrieRefused", "UnitTrie", "WideUnit", "WideValue"]
 __version__ = _native.version
 
 
@@ -83,9 +85,13 @@ def _units(key):
         return key.encode("utf-16-le", "surrogatepass")
     try:
         # An array takes bytes for items of two bytes each.
-        return array("H", None if isinstance(key, (bytes, bytearray)) else key).tobytes()
+        units = None if isinstance(key, (bytes, bytearray)) else list(key)
+        return array("H", units).tobytes()
     except TypeError:
         raise TypeError(f"key: expected a str or a list of 16-bit units, found {type(key).__name__}") from None
+    except OverflowError:
+        wrong = next(it for it in units if not 0 <= operator.index(it) <= 0xFFFF)
+        raise WideUnit(f"key {reprlib.repr(units)}: {wrong} is not an unsigned number of 16 bits") from None
 
 
 def _shown(units):

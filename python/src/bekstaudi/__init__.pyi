@@ -14,12 +14,13 @@ from ._errors import (
     SameKey as SameKey,
     TooLarge as TooLarge,
     TrieRefused as TrieRefused,
+    WideUnit as WideUnit,
     WideValue as WideValue,
 )
 
 __all__ = [
     "BekstaudiError", "CodePointSet", "FrozenCodePointSet", "LongKey", "NoForm", "NoMemory",
-    "NoSet", "NoTrie", "SameKey", "TooLarge", "Trie", "TrieRefused", "UnitTrie", "WideValue",
+    "NoSet", "NoTrie", "SameKey", "TooLarge", "Trie", "TrieRefused", "UnitTrie", "WideUnit", "WideValue",
 ]
 __version__: str
 

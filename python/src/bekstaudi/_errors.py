@@ -68,3 +68,7 @@ class LongKey(BekstaudiError, ValueError):
 
 class SameKey(BekstaudiError, ValueError):
     """Two entries have the same key."""
+
+
+class WideUnit(BekstaudiError, ValueError, OverflowError):
+    """A unit of a key is not an unsigned number of 16 bits."""
