@@ -132,9 +132,12 @@ static PyObject *trie_set_of(over_bytes *self, PyObject *given) {
     Py_BEGIN_ALLOW_THREADS
     count = bks_trie_set(&self->trie, value, nothing, 0);
     Py_END_ALLOW_THREADS
-    if (count < 0) return raise_refusal(count);
-    uint32_t *ends = PyMem_Malloc(((size_t)count + 1) * sizeof *ends);
-    int64_t written = ends ? bks_trie_set(&self->trie, value, ends, (size_t)count) : BKS_NO_MEMORY;
+    uint32_t *ends = count < 0 ? NULL : PyMem_Malloc(((size_t)count + 1) * sizeof *ends);
+    int64_t written = ends ? bks_trie_set(&self->trie, value, ends, (size_t)count) : count < 0 ? count : BKS_NO_MEMORY;
+    if (written == BKS_NO_TRIE) {
+        PyMem_Free(ends);
+        return raise_message("NoTrie", PyUnicode_FromString("the bytes of the trie have changed since it was opened"));
+    }
     /* The set is another one if somebody changed the bytes between the two calls. */
     if (written > count) written = count;
     PyObject *packed = written < 0 ? raise_refusal(written)

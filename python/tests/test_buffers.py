@@ -7,7 +7,7 @@ import tempfile
 import tracemalloc
 import unittest
 
-from bekstaudi import Trie, TrieRefused, UnitTrie
+from bekstaudi import CodePointSet, NoTrie, Trie, TrieRefused, UnitTrie
 from samples import NAMES, read
 
 try:
@@ -66,6 +66,8 @@ class ReadInPlace(unittest.TestCase):
             self.assertEqual(len(trie.values(range(0x110001))), 0x110001)
             self.assertLess(max(trie[it] for it in range(0, 0x110001, 7)), 1 << 32)
             self.assertGreaterEqual(len(list(trie.ranges())), 0)
+        with self.assertRaisesRegex(NoTrie, "^the bytes of the trie have changed since it was opened$"):
+            trie.set_of(0)
         with self.assertRaises(TrieRefused):
             Trie(data)
 
