@@ -221,8 +221,17 @@ over_bytes *over_bytes_new(PyTypeObject *type, const char *name, PyObject *data)
     return self;
 }
 
+/* Without it a buffer that refers to its own trie would never be freed. */
+int over_bytes_traverse(over_bytes *self, visitproc visit, void *arg) {
+    /* From CPython 3.9 on an object of such a type visits its type. */
+    Py_VISIT(Py_TYPE(self));
+    Py_VISIT(self->owner);
+    return 0;
+}
+
 void over_bytes_free(over_bytes *self) {
     PyTypeObject *type = Py_TYPE(self);
+    PyObject_GC_UnTrack(self);
     Py_XDECREF(self->owner);
     ((freefunc)PyType_GetSlot(type, Py_tp_free))(self);
     Py_DECREF(type);

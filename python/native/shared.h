@@ -128,6 +128,7 @@ typedef struct {
  * read-only. */
 over_bytes *over_bytes_new(PyTypeObject *type, const char *name, PyObject *data);
 void over_bytes_free(over_bytes *self);
+int over_bytes_traverse(over_bytes *self, visitproc visit, void *arg);
 
 /* Returns the first `size` bytes as a bytes object. */
 PyObject *leading_bytes(over_bytes *self, size_t size);

@@ -32,6 +32,7 @@ static int spans_traverse(spans *self, visitproc visit, void *arg) {
     /* From CPython 3.9 on an object of such a type visits its type. */
     Py_VISIT(Py_TYPE(self));
     Py_VISIT(self->set);
+    Py_VISIT(self->from.object);
     return 0;
 }
 

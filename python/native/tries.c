@@ -221,9 +221,9 @@ static PyGetSetDef fields[] = {
     {NULL, NULL, NULL, NULL, NULL}};
 
 static PyType_Slot slots[] = {
-    {Py_tp_new, trie_new}, {Py_tp_dealloc, over_bytes_free}, {Py_tp_hash, trie_hash},
-    {Py_tp_richcompare, trie_compare}, {Py_mp_subscript, trie_item}, {Py_tp_methods, methods},
-    {Py_tp_getset, fields}, {0, NULL}};
+    {Py_tp_new, trie_new}, {Py_tp_dealloc, over_bytes_free}, {Py_tp_traverse, over_bytes_traverse},
+    {Py_tp_hash, trie_hash}, {Py_tp_richcompare, trie_compare}, {Py_mp_subscript, trie_item},
+    {Py_tp_methods, methods}, {Py_tp_getset, fields}, {0, NULL}};
 
 PyType_Spec trie_spec = {"bekstaudi._native.Trie", sizeof(over_bytes), 0,
-                         Py_TPFLAGS_DEFAULT | Py_TPFLAGS_BASETYPE, slots};
+                         Py_TPFLAGS_DEFAULT | Py_TPFLAGS_BASETYPE | Py_TPFLAGS_HAVE_GC, slots};

@@ -423,9 +423,10 @@ static PyGetSetDef fields[] = {
     {NULL, NULL, NULL, NULL, NULL}};
 
 static PyType_Slot slots[] = {
-    {Py_tp_new, units_new}, {Py_tp_dealloc, over_bytes_free}, {Py_tp_hash, units_hash},
-    {Py_tp_richcompare, units_compare}, {Py_mp_subscript, units_item}, {Py_mp_length, units_length},
-    {Py_sq_contains, units_contains}, {Py_tp_methods, methods}, {Py_tp_getset, fields}, {0, NULL}};
+    {Py_tp_new, units_new}, {Py_tp_dealloc, over_bytes_free}, {Py_tp_traverse, over_bytes_traverse},
+    {Py_tp_hash, units_hash}, {Py_tp_richcompare, units_compare}, {Py_mp_subscript, units_item},
+    {Py_mp_length, units_length}, {Py_sq_contains, units_contains}, {Py_tp_methods, methods},
+    {Py_tp_getset, fields}, {0, NULL}};
 
 PyType_Spec units_spec = {"bekstaudi._native.UnitTrie", sizeof(over_bytes), 0,
-                          Py_TPFLAGS_DEFAULT | Py_TPFLAGS_BASETYPE, slots};
+                          Py_TPFLAGS_DEFAULT | Py_TPFLAGS_BASETYPE | Py_TPFLAGS_HAVE_GC, slots};
