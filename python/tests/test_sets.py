@@ -110,6 +110,12 @@ class Sets(unittest.TestCase):
         self.assertNotEqual(same, {0x41})
         self.assertEqual(repr(same), "CodePointSet([0x41, 0x5b, 0x61, 0x7b])")
 
+    def test_repr_of_many_ranges(self):
+        for count, shown in ((20, 20), (21, 20), (4000, 20)):
+            made = CodePointSet.from_chars(range(0, 2 * count, 2))
+            ends = ", ".join(map(hex, range(2 * shown))) + (", ..." if count > shown else "")
+            self.assertEqual((repr(made), repr(made.freeze())), (f"CodePointSet([{ends}])", f"FrozenCodePointSet([{ends}])"))
+
     def test_copies(self):
         for made in (self.letters, CodePointSet(), CodePointSet([0, 0x110000])):
             for it in copies(made):

@@ -44,6 +44,10 @@ __all__ += ["NoSet", "NoTrie", "SameKey", "TooLarge", "Trie", "TrieRefused", "Un
 __version__ = _native.version
 
 
+# The repr of a set shows at most so many boundaries.
+_SHOWN = 40
+
+
 def _int(name, given):
     """Return an int. Raises a TypeError that names the argument."""
     try:
@@ -256,7 +260,9 @@ class CodePointSet(_native.CodePointSet):
         return type(self), (self.ends,)
 
     def __repr__(self):
-        return f"{type(self).__name__}([{', '.join(map(hex, self.ends))}])"
+        ends = self.ends
+        more = ", ..." if len(ends) > _SHOWN else ""
+        return f"{type(self).__name__}([{', '.join(map(hex, ends[:_SHOWN]))}{more}])"
 
 
 class FrozenCodePointSet(CodePointSet):
