@@ -29,7 +29,7 @@ static int view_kind(PyObject *view) {
 /* Reads the characters of a str, in place if that is possible. */
 static int text_numbers(PyObject *given, numbers *found) {
     text characters;
-    if (text_of("code_points", given, &characters)) return -1;
+    if (text_of(found->as->name, given, &characters)) return -1;
     found->count = characters.length;
 #ifdef Py_LIMITED_API
     found->copy = PyMem_Malloc(((size_t)found->count + 1) * sizeof(uint32_t));
@@ -76,37 +76,81 @@ static int buffer_numbers(PyObject *given, numbers *found) {
     return 0;
 }
 
-static int iterable_numbers(PyObject *given, numbers *found) {
-    PyObject *iterator = PyObject_GetIter(given);
-    PyObject *items = iterator ? PySequence_Tuple(iterator) : NULL;
-    if (!iterator && PyErr_ExceptionMatches(PyExc_TypeError))
-        raise_type("code_points", "a str, integers in a buffer or an iterable", given);
-    Py_XDECREF(iterator);
-    if (!items) return -1;
-    found->owner = items;
-    found->count = PyTuple_Size(items);
-    uint32_t *points = found->copy = PyMem_Malloc(((size_t)found->count + 1) * sizeof *points);
-    if (!points) return PyErr_NoMemory(), -1;
+/* Makes `copy` an array of so many numbers. Returns it, or NULL with an exception set. */
+static uint32_t *new_numbers(numbers *found, Py_ssize_t count) {
+    uint32_t *points = PyMem_Malloc(((size_t)count + 1) * sizeof *points);
+    if (!points) return PyErr_NoMemory(), NULL;
+    found->copy = points;
     found->items = found->copy;
+    found->count = count;
+    return points;
+}
+
+static int64_t point_at(const numbers *found, PyObject *sequence, Py_ssize_t index) {
+    PyObject *item = PySequence_GetItem(sequence, index);
+    int64_t point = item ? found->as->read(item) : -1;
+    Py_XDECREF(item);
+    return point;
+}
+
+/* Reads a range without an object for each number. */
+static int range_numbers(PyObject *given, numbers *found) {
+    Py_ssize_t count = PyObject_Size(given);
+    int64_t first = count > 0 ? point_at(found, given, 0) : count;
+    int64_t last = count > 0 && first >= 0 ? point_at(found, given, count - 1) : first;
+    uint32_t *points = last < 0 ? NULL : new_numbers(found, count);
+    if (!points) return -1;
+    int64_t step = count > 1 ? (last - first) / (count - 1) : 0;
+    for (Py_ssize_t i = 0; i < count; i++) points[i] = (uint32_t)(first + i * step);
+    return 0;
+}
+
+PyObject *items_of(const reading *as, PyObject *given) {
+    PyObject *iterator = PyObject_GetIter(given);
+    if (!iterator && PyErr_ExceptionMatches(PyExc_TypeError)) raise_type(as->name, as->expected, given);
+    /* PySequence_Tuple copies a list in one piece, but an iterator item by item. */
+    PyObject *items = iterator ? PySequence_Tuple(PyList_CheckExact(given) ? given : iterator) : NULL;
+    Py_XDECREF(iterator);
+    return items;
+}
+
+static int iterable_numbers(PyObject *given, numbers *found) {
+    found->owner = items_of(found->as, given);
+    uint32_t *points = found->owner ? new_numbers(found, PyTuple_Size(found->owner)) : NULL;
+    if (!points) return -1;
     for (Py_ssize_t i = 0; i < found->count; i++) {
-        int64_t point = checked_code_point(PyTuple_GetItem(items, i));
+        int64_t point = found->as->read(PyTuple_GetItem(found->owner, i));
         if (point < 0) return -1;
         points[i] = (uint32_t)point;
     }
     return 0;
 }
 
-int numbers_of(PyObject *given, numbers *found) {
-    *found = (numbers){.width = 4};
-    int status = PyUnicode_Check(given) ? text_numbers(given, found)
-                 : PyList_Check(given) || PyTuple_Check(given) ? 1
-                                                               : buffer_numbers(given, found);
+int numbers_of(const reading *as, PyObject *given, numbers *found) {
+    *found = (numbers){.as = as, .width = 4};
+    bool has_no_buffer = PyList_Check(given) || PyTuple_Check(given) || PyAnySet_Check(given);
+    int status = PyUnicode_Check(given)  ? text_numbers(given, found)
+                 : PyRange_Check(given) ? range_numbers(given, found)
+                 : has_no_buffer        ? 1
+                                        : buffer_numbers(given, found);
     if (status > 0) {
-        *found = (numbers){.width = 4};
+        *found = (numbers){.as = as, .width = 4};
         status = iterable_numbers(given, found);
     }
     if (status) numbers_free(found);
     return status;
+}
+
+int numbers_own(numbers *found) {
+    if (found->copy) return 0;
+    numbers borrowed = *found;
+    uint32_t *points = new_numbers(found, borrowed.count);
+    if (!points) return -1;
+    Py_ssize_t copied = numbers_copy(&borrowed, 0, borrowed.count, points);
+    if (copied < borrowed.count) return raise_outside(&borrowed, copied), -1;
+    found->width = 4;
+    found->is_signed = 0;
+    return 0;
 }
 
 void numbers_free(numbers *found) {
@@ -154,7 +198,7 @@ void *raise_outside(const numbers *given, Py_ssize_t index) {
     uint64_t bits = item(given, index);
     PyObject *number = given->is_signed ? PyLong_FromLongLong((int64_t)bits)
                                         : PyLong_FromUnsignedLongLong(bits);
-    if (number) checked_code_point(number);
+    if (number) given->as->read(number);
     Py_XDECREF(number);
     return NULL;
 }

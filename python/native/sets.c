@@ -11,17 +11,6 @@
 #define MANY_ENDS 16
 #define MANY_TESTS 512
 
-struct code_point_set {
-    PyObject_HEAD
-    uint32_t *ends;
-    size_t count;
-    PyObject *words;        /* the table, a bytes object; NULL if there is none yet */
-    const uint64_t *table;  /* its words, or NULL */
-    bool is_frozen;         /* whether the table has to be there: of a FrozenCodePointSet */
-    size_t tests;
-    Py_hash_t hash;         /* -1 if not computed yet */
-};
-
 static void set_free(code_point_set *self) {
     PyTypeObject *type = Py_TYPE(self);
     PyMem_Free(self->ends);
@@ -32,7 +21,7 @@ static void set_free(code_point_set *self) {
 
 bool is_set(PyObject *object) { return is_freed_by(object, set_free); }
 
-static code_point_set *set_owning(PyTypeObject *type, uint32_t *ends, size_t count) {
+code_point_set *set_owning(PyTypeObject *type, uint32_t *ends, size_t count) {
     code_point_set *self = (code_point_set *)PyType_GenericAlloc(type, 0);
     if (!self) {
         PyMem_Free(ends);
@@ -65,13 +54,10 @@ static int read_end(PyObject *all, Py_ssize_t index, uint32_t *ends) {
 
 static PyObject *set_new(PyTypeObject *type, PyObject *args, PyObject *keywords) {
     static char *names[] = {"ends", NULL};
+    static const reading as = {"ends", "an iterable of ints", code_point};
     PyObject *given = NULL;
     if (!PyArg_ParseTupleAndKeywords(args, keywords, "|O", names, &given)) return NULL;
-    PyObject *iterator = given ? PyObject_GetIter(given) : NULL;
-    if (given && !iterator)
-        return PyErr_ExceptionMatches(PyExc_TypeError) ? raise_type("ends", "an iterable of ints", given) : NULL;
-    PyObject *all = given ? PySequence_Tuple(iterator) : PyTuple_New(0);
-    Py_XDECREF(iterator);
+    PyObject *all = given ? items_of(&as, given) : PyTuple_New(0);
     if (!all) return NULL;
     Py_ssize_t count = PyTuple_Size(all), read = 0;
     uint32_t *ends = PyMem_Malloc(((size_t)count + 1) * sizeof *ends);
@@ -95,6 +81,16 @@ static PyObject *set_from_bytes(PyTypeObject *type, PyObject *args) {
     if (bks_set_test(ends, count)) return (PyObject *)set_owning(type, ends, count);
     PyMem_Free(ends);
     return raise_error("NoSet", NULL);
+}
+
+static PyObject *set_from_points(PyTypeObject *type, PyObject *given) {
+    boundaries found;
+    return boundaries_of_points(given, &found) ? NULL : (PyObject *)set_owning(type, found.made, found.count);
+}
+
+static PyObject *set_from_ranges(PyTypeObject *type, PyObject *pairs) {
+    boundaries found;
+    return boundaries_of_ranges(pairs, &found) ? NULL : (PyObject *)set_owning(type, found.made, found.count);
 }
 
 /* Makes the table, if there is none. Returns 0, or -1 with an exception set. */
@@ -153,17 +149,18 @@ static PyObject *set_words(code_point_set *self, void *none) {
     return self->words;
 }
 
-static int set_contains(code_point_set *self, PyObject *key) {
+int set_contains(code_point_set *self, PyObject *key) {
     int64_t c = code_point(key);
     if (c == POINT_ERROR) return -1;
     set_count_tests(self, 1);
     return c >= 0 && contains(self, (uint32_t)c);
 }
 
-static Py_ssize_t set_length(code_point_set *self) {
-    int64_t size = bks_set_size(self->ends, self->count);
-    if (size < 0) raise_refusal(size);
-    return size < 0 ? -1 : (Py_ssize_t)size;
+/* bks_set_size copies the set. */
+Py_ssize_t set_length(code_point_set *self) {
+    Py_ssize_t length = 0;
+    for (size_t i = 0; i + 1 < self->count; i += 2) length += self->ends[i + 1] - self->ends[i];
+    return length;
 }
 
 static PyObject *set_ends(code_point_set *self, void *none) {
@@ -265,50 +262,9 @@ static PyObject *set_span_back(code_point_set *self, PyObject *const *args, Py_s
     return start < 0 ? NULL : PyLong_FromSsize_t(at - start);
 }
 
-/* ---- Operations on two sets ---- */
+/* ---- Results, hash and size ---- */
 
-typedef int64_t operation(const uint32_t *, size_t, const uint32_t *, size_t, uint32_t *, size_t);
-
-static PyObject *not_implemented(void) {
-    Py_INCREF(Py_NotImplemented);
-    return Py_NotImplemented;
-}
-
-/* Returns collections.abc.Set if `object` is an instance of it, None if it is not, or NULL with an
- * exception set. */
-static PyObject *set_class_of(PyObject *object) {
-    PyObject *module = PyImport_ImportModule("collections.abc");
-    PyObject *class = module ? PyObject_GetAttrString(module, "Set") : NULL;
-    int is_one = class ? PyObject_IsInstance(object, class) : -1;
-    Py_XDECREF(module);
-    if (is_one > 0) return class;
-    Py_XDECREF(class);
-    return is_one < 0 ? NULL : (Py_INCREF(Py_None), Py_None);
-}
-
-/* Returns an iterable of code points as a set of this module, a new one of the class of `like` unless it
- * is one. */
-static PyObject *set_of(PyObject *given, PyObject *like) {
-    if (is_set(given)) return Py_INCREF(given), given;
-    PyObject *made = PyObject_CallMethod(like, "from_chars", "O", given);
-    if (!made || is_set(made)) return made;
-    /* A subclass may have a from_chars of its own. */
-    raise_type("from_chars", "a CodePointSet", made);
-    Py_DECREF(made);
-    return NULL;
-}
-
-/* Returns an operand as a set of this module, and NotImplemented if it is no collections.abc.Set. */
-static PyObject *as_set(PyObject *operand, PyObject *like) {
-    if (is_set(operand)) return Py_INCREF(operand), operand;
-    PyObject *class = set_class_of(operand);
-    PyObject *made = class == Py_None ? not_implemented() : class ? set_of(operand, like) : NULL;
-    Py_XDECREF(class);
-    return made;
-}
-
-/* Returns a new set that owns `ends` and has the class of another one. A count below 0 is an error. */
-static PyObject *set_like(const code_point_set *like, uint32_t *ends, int64_t count) {
+PyObject *set_like(const code_point_set *like, uint32_t *ends, int64_t count) {
     if (count < 0) {
         PyMem_Free(ends);
         return raise_refusal(count);
@@ -321,94 +277,17 @@ static PyObject *set_like(const code_point_set *like, uint32_t *ends, int64_t co
     return NULL;
 }
 
-static PyObject *joined_sets(const code_point_set *a, const code_point_set *b, operation *call) {
-    size_t room = a->count + b->count;
-    uint32_t *ends = PyMem_Malloc((room + 1) * sizeof *ends);
-    if (!ends) return raise_refusal(BKS_NO_MEMORY);
-    int64_t count;
-    if (room > LONG_CALL) {
-        Py_BEGIN_ALLOW_THREADS
-        count = call(a->ends, a->count, b->ends, b->count, ends, room);
-        Py_END_ALLOW_THREADS
-    } else {
-        count = call(a->ends, a->count, b->ends, b->count, ends, room);
-    }
-    return set_like(a, ends, count);
-}
-
-static PyObject *joined(PyObject *left, PyObject *right, operation *call) {
-    PyObject *a = as_set(left, right), *b = a ? as_set(right, left) : NULL, *result = NULL;
-    if (a == Py_NotImplemented || b == Py_NotImplemented) result = not_implemented();
-    else if (b) result = joined_sets((code_point_set *)a, (code_point_set *)b, call);
-    Py_XDECREF(a);
-    Py_XDECREF(b);
-    return result;
-}
-
-static PyObject *set_or(PyObject *a, PyObject *b) { return joined(a, b, bks_set_union); }
-static PyObject *set_and(PyObject *a, PyObject *b) { return joined(a, b, bks_set_intersection); }
-static PyObject *set_subtract(PyObject *a, PyObject *b) { return joined(a, b, bks_set_difference); }
-static PyObject *set_xor(PyObject *a, PyObject *b) {
-    return joined(a, b, bks_set_symmetric_difference);
-}
-
 static PyObject *set_invert(code_point_set *self) {
-    static const uint32_t all[] = {0, 0x110000};
-    uint32_t *ends = PyMem_Malloc((self->count + 2) * sizeof *ends);
-    int64_t count = ends ? bks_set_difference(all, 2, self->ends, self->count, ends, self->count + 2)
-                         : BKS_NO_MEMORY;
-    return set_like(self, ends, count);
-}
-
-/* Returns how many boundaries the result of an operation has, or -1 with an exception set. */
-static int64_t count_of(operation *call, const code_point_set *a, const code_point_set *b) {
-    uint32_t nothing[1];
-    int64_t count = call(a->ends, a->count, b->ends, b->count, nothing, 0);
-    if (count < 0) raise_refusal(count);
-    return count < 0 ? -1 : count;
-}
-
-static PyObject *set_is_disjoint(code_point_set *self, PyObject *other) {
-    PyObject *set = set_of(other, (PyObject *)self);
-    int64_t count = set ? count_of(bks_set_intersection, self, (code_point_set *)set) : -1;
-    Py_XDECREF(set);
-    return count < 0 ? NULL : PyBool_FromLong(count == 0);
-}
-
-/* Compares with a set of another kind, element by element, as collections.abc.Set does. */
-static PyObject *compare_elements(PyObject *self, PyObject *other, int how) {
-    /* In the order of Py_LT to Py_GE. `!=` is the negation of `==`. */
-    static const char *const names[] = {"__lt__", "__le__", "__eq__", "__eq__", "__gt__", "__ge__"};
-    PyObject *class = set_class_of(other), *result;
-    if (!class) return NULL;
-    if (class == Py_None) result = not_implemented();
-    else result = PyObject_CallMethod(class, names[how], "OO", self, other);
-    Py_DECREF(class);
-    if (how != Py_NE || !result || result == Py_NotImplemented) return result;
-    int is_equal = PyObject_IsTrue(result);
-    Py_DECREF(result);
-    return is_equal < 0 ? NULL : PyBool_FromLong(!is_equal);
-}
-
-/* Equality, and whether one set is a subset of the other. */
-static PyObject *set_compare(PyObject *left, PyObject *right, int how) {
-    if (!is_set(right)) return compare_elements(left, right, how);
-    const code_point_set *a = (code_point_set *)left, *b = (code_point_set *)right;
-    bool same = a->count == b->count && !memcmp(a->ends, b->ends, a->count * sizeof *a->ends);
-    if (how == Py_EQ || how == Py_NE) return PyBool_FromLong(same == (how == Py_EQ));
-    if (same) return PyBool_FromLong(how == Py_LE || how == Py_GE);
-    bool is_smaller = how == Py_LE || how == Py_LT;
-    int64_t outside = count_of(bks_set_difference, is_smaller ? a : b, is_smaller ? b : a);
-    return outside < 0 ? NULL : PyBool_FromLong(outside == 0);
+    size_t room = self->count + 2;
+    uint32_t *ends = PyMem_Malloc(room * sizeof *ends);
+    return set_like(self, ends, ends ? bks_set_complement(self->ends, self->count, ends, room) : BKS_NO_MEMORY);
 }
 
 /* A set equals a frozenset of the same ints, so it has the same hash: this is the algorithm of
  * frozenset, and of collections.abc.Set. The hash of such an int is the int. */
 static Py_hash_t set_hash(code_point_set *self) {
     if (self->hash != -1) return self->hash;
-    Py_ssize_t length = set_length(self);
-    if (length < 0) return -1;
-    uint64_t hash = 1927868237u * ((uint64_t)length + 1);
+    uint64_t hash = 1927868237u * ((uint64_t)set_length(self) + 1);
     for (size_t i = 0; i + 1 < self->count; i += 2)
         for (uint64_t c = self->ends[i]; c < self->ends[i + 1]; c++) hash ^= (c ^ c << 16 ^ 89869747u) * 3644798167u;
     hash ^= hash >> 11 ^ hash >> 25;
@@ -430,6 +309,8 @@ static PyMethodDef methods[] = {
      "isdisjoint($self, other, /)\n--\n\n"
      "Return whether the set has no code point in common with another set or iterable of code points."},
     {"_from_bytes", METHOD(set_from_bytes), METH_VARARGS | METH_CLASS, NULL},
+    {"_from_points", METHOD(set_from_points), METH_O | METH_CLASS, NULL},
+    {"_from_ranges", METHOD(set_from_ranges), METH_O | METH_CLASS, NULL},
     {"_frozen", METHOD(set_frozen), METH_O | METH_CLASS, NULL},
     {"__sizeof__", METHOD(set_size_in_memory), METH_NOARGS,
      "__sizeof__($self, /)\n--\n\nReturn the size in memory, in bytes."},

@@ -159,6 +159,13 @@ int64_t checked_code_point(PyObject *given) {
     return found;
 }
 
+int64_t code_point_of_set(PyObject *given) {
+    int64_t found = code_point(given);
+    if (found == POINT_ERROR || (found >= 0 && found <= 0x10FFFF)) return found;
+    raise_message("NoSet", PyUnicode_FromFormat("code point: expected a number from 0 to 0x10FFFF, found %S", given));
+    return POINT_ERROR;
+}
+
 Py_ssize_t slice_index(const char *name, PyObject *given, Py_ssize_t length, Py_ssize_t otherwise) {
     if (!given || given == Py_None) return otherwise;
     Py_ssize_t index = PyNumber_AsSsize_t(given, NULL);

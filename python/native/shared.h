@@ -99,6 +99,9 @@ int64_t code_point(PyObject *given);
 /* As `code_point`, but raises ValueError for an int outside 0..=0xFFFFFFFF. */
 int64_t checked_code_point(PyObject *given);
 
+/* As `code_point`, but raises NoSet for an int outside 0..=0x10FFFF. */
+int64_t code_point_of_set(PyObject *given);
+
 /* Returns an index of a slice, as `text[index:]` means it, and `otherwise` if it is NULL or None. Returns
  * -1 with an exception set: TypeError if it is not an int. */
 Py_ssize_t slice_index(const char *name, PyObject *index, Py_ssize_t length, Py_ssize_t otherwise);
@@ -141,8 +144,15 @@ int is_freed_by(PyObject *object, void *release);
 
 /* ---- Numbers in buffers ---- */
 
+/* How an argument is read as numbers: how errors name it, and which code points it may have. */
+typedef struct {
+    const char *name, *expected;
+    int64_t (*read)(PyObject *);    /* one code point; raises for those that are not allowed */
+} reading;
+
 /* Code points in memory. `owner` keeps them alive, or `copy` is memory to free. */
 typedef struct {
+    const reading *as;
     PyObject *owner;
     void *copy;
     const uint8_t *items;
@@ -151,15 +161,23 @@ typedef struct {
     int is_signed;
 } numbers;
 
-/* Reads a str, a one-dimensional buffer of integers, or any iterable of code points. */
-int numbers_of(PyObject *given, numbers *found);
+/* Returns the items of an iterable as a tuple, or NULL with an exception set. */
+PyObject *items_of(const reading *as, PyObject *given);
+
+/* Reads a str, a range, a one-dimensional buffer of integers, or any iterable of code points. It does not
+ * test the numbers of a buffer. Returns 0, or -1 with an exception set. */
+int numbers_of(const reading *as, PyObject *given, numbers *found);
 void numbers_free(numbers *found);
+
+/* Makes `copy` an array of uint32_t with all numbers, if it is not one. Returns 0, or -1 with an
+ * exception set, for a number outside 0..=0xFFFFFFFF too. */
+int numbers_own(numbers *found);
 
 /* Copies items `from..from + count` as 32-bit numbers. Returns how many it copied: it stops before
  * the first that is outside 0..=0xFFFFFFFF. */
 Py_ssize_t numbers_copy(const numbers *given, Py_ssize_t from, Py_ssize_t count, uint32_t *points);
 
-/* Raises ValueError for an item at which `numbers_copy` stopped. */
+/* Raises the exception of `as->read` for an item that is not allowed. */
 void *raise_outside(const numbers *given, Py_ssize_t index);
 
 /* Returns a memoryview of the first `count` items of a writable buffer of unsigned integers of
@@ -171,10 +189,49 @@ PyObject *new_view(Py_ssize_t count, Py_ssize_t width, void **address);
 
 /* ---- Sets ---- */
 
-typedef struct code_point_set code_point_set;
+typedef struct {
+    PyObject_HEAD
+    uint32_t *ends;
+    size_t count;
+    PyObject *words;        /* the table, a bytes object; NULL if there is none yet */
+    const uint64_t *table;  /* its words, or NULL */
+    bool is_frozen;         /* whether the table has to be there: of a FrozenCodePointSet */
+    size_t tests;
+    Py_hash_t hash;         /* -1 if not computed yet */
+} code_point_set;
 
 /* Whether `object` is a set of this module or of a subclass. */
 bool is_set(PyObject *object);
+
+/* Returns a new set that takes over `ends`, which PyMem_Malloc gave: of a type, or of the class of
+ * another set. A count below 0 is an `enum bks_refusal`. */
+code_point_set *set_owning(PyTypeObject *type, uint32_t *ends, size_t count);
+PyObject *set_like(const code_point_set *like, uint32_t *ends, int64_t count);
+
+/* Whether a set has a code point: 1, 0, or -1 with an exception set. */
+int set_contains(code_point_set *self, PyObject *key);
+
+Py_ssize_t set_length(code_point_set *self);
+
+/* Boundaries of a set. `made` is memory to free, or NULL if they are borrowed. */
+typedef struct {
+    const uint32_t *ends;
+    size_t count;
+    uint32_t *made;
+} boundaries;
+
+/* Make the boundaries of a set: of code points, as `numbers_of` reads them, and of an iterable of pairs of
+ * a first and a last code point. Return 0, or -1 with an exception set. */
+int boundaries_of_points(PyObject *given, boundaries *found);
+int boundaries_of_ranges(PyObject *pairs, boundaries *found);
+
+/* Operations on two sets. */
+PyObject *set_or(PyObject *a, PyObject *b);
+PyObject *set_and(PyObject *a, PyObject *b);
+PyObject *set_subtract(PyObject *a, PyObject *b);
+PyObject *set_xor(PyObject *a, PyObject *b);
+PyObject *set_is_disjoint(code_point_set *self, PyObject *other);
+PyObject *set_compare(PyObject *left, PyObject *right, int how);
 
 /* Says that so many code points are looked up: after many, the set makes its table. */
 void set_count_tests(code_point_set *self, size_t tests);

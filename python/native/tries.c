@@ -81,9 +81,10 @@ PyDoc_STRVAR(trie_values_text,
 
 static PyObject *trie_values(over_bytes *self, PyObject *const *args, Py_ssize_t count, PyObject *keywords) {
     static const parameters wanted = {"values", {"code_points", "out", NULL}, 1};
+    static const reading as = {"code_points", "a str, integers in a buffer or an iterable", checked_code_point};
     PyObject *found[2];
     numbers points;
-    if (sort_arguments(&wanted, args, count, keywords, found) || numbers_of(found[0], &points)) return NULL;
+    if (sort_arguments(&wanted, args, count, keywords, found) || numbers_of(&as, found[0], &points)) return NULL;
     PyObject *view = values_of(self, &points, found[1] == Py_None ? NULL : found[1]);
     numbers_free(&points);
     return view;

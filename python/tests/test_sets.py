@@ -12,6 +12,11 @@ from samples import copies
 ENDS = ([0x41, 0x5B, 0x61, 0x7B], [it for first in range(0, 0x110000, 4999) for it in (first, first + 700 + first % 1999)])
 
 
+def ends_of(points):
+    """The boundaries of a set of code points, one by one."""
+    return sorted(set(points) ^ {it + 1 for it in points})
+
+
 def both_kinds(ends):
     """The set of some boundaries, not frozen and frozen."""
     return CodePointSet(ends), FrozenCodePointSet(ends)
@@ -149,6 +154,92 @@ class Sets(unittest.TestCase):
         ])
         self.assertEqual(CodePointSet.from_chars(""), CodePointSet())
         self.assertEqual(CodePointSet.from_chars(map(chr, self.letters)), self.letters)
+
+    def test_of_points_in_all_forms(self):
+        for points in ([], [0], [0x10FFFF, 0], [5, 3, 4, 3, 9], [*range(0x41, 0x5B)], [0xD7FF, 0xD800, 0xDFFF, 0xE000, 0xD800]):
+            forms = [points, tuple(points), set(points), frozenset(points), dict.fromkeys(points), dict.fromkeys(points).keys()]
+            forms += [iter(points), map(chr, points), "".join(map(chr, points)), list(map(chr, points)), (it for it in points)]
+            forms += [array.array(it, points) for it in "BHIQ" if max(points, default=0) >> 8 * array.array(it).itemsize == 0]
+            forms += [array.array(it, points) for it in "iq"]
+            forms += [memoryview(array.array("I", [it for point in points for it in (point, 7)]))[::2], CodePointSet(ends_of(points))]
+            for given in forms:
+                made = CodePointSet.from_chars(given)
+                self.assertEqual((made.ends, type(made)), (tuple(ends_of(points)), CodePointSet))
+        for given in (range(0), range(5, 900), range(7, 60000, 11), range(0x10FFFF, -1, -3), range(9, 2), range(4, 5, 100)):
+            self.assertEqual(CodePointSet.from_chars(given), CodePointSet(ends_of(list(given))))
+        self.assertEqual(CodePointSet.from_chars(b"ab"), CodePointSet.from_chars(bytearray(b"ab")))
+
+    def test_of_many_points(self):
+        # The set with the most boundaries, and more points and ranges than it has.
+        every_other, wanted = list(range(0, 0x110000, 2)), tuple(range(0x110000))
+        for given in (range(0, 0x110000, 2), every_other[::-1], every_other + every_other[:9000], array.array("I", every_other)):
+            self.assertEqual(CodePointSet.from_chars(given).ends, wanted)
+        self.assertEqual(CodePointSet.from_ranges(zip(every_other * 2, every_other * 2)).ends, wanted)
+        text = "a\u4e16\U0001f600" * 9000
+        for given in (text, text.encode("utf-32-le")[:0] + b"ab" * 9000):
+            self.assertEqual(len(CodePointSet.from_chars(given)), len(set(given)))
+
+    def test_what_is_outside(self):
+        outside = [[-1], [0x110000], [1 << 32], {-(1 << 70)}, array.array("b", [-1]), array.array("q", [-(1 << 63)]), range(-2, 5)]
+        outside += [array.array("I", [0x110000]), array.array("I", [(1 << 32) - 1]), array.array("Q", [1 << 40]), range(0x110000, 7, -1)]
+        for given in outside:
+            number = next(it for it in given if not 0 <= it <= 0x10FFFF)
+            for make in (CodePointSet.from_chars, FrozenCodePointSet.from_chars, self.letters.union, self.letters.isdisjoint):
+                with self.assertRaisesRegex(NoSet, f"^code point: expected a number from 0 to 0x10FFFF, found {number}$"):
+                    make(given)
+        for wrong in (5, None, [None], [1.5], ["ab"], [b"a"], array.array("d", [1.0]), 5.0, object()):
+            for make in (CodePointSet.from_chars, self.letters.union, self.letters.isdisjoint, self.letters.issuperset):
+                with self.assertRaises(TypeError):
+                    make(wrong)
+
+        def broken():
+            yield 5
+            raise KeyError("own")
+
+        for make in (CodePointSet.from_chars, CodePointSet.from_ranges, self.letters.union):
+            with self.assertRaisesRegex(KeyError, "own"):
+                make(broken() if make != CodePointSet.from_ranges else ((it, it) for it in broken()))
+
+    def test_of_pairs_in_all_forms(self):
+        pairs = [(0x61, 0x7A), (0x41, 0x5A)]
+        forms = [pairs, pairs[::-1], set(pairs), dict(pairs).items(), map(list, pairs), ["az", "AZ"], [iter(it) for it in pairs]]
+        for given in (*forms, [(0x41, "M"), *pairs, ("M", "Z")], (it for it in pairs)):
+            for kind in (CodePointSet, FrozenCodePointSet):
+                made = kind.from_ranges(given if kind is CodePointSet else pairs)
+                self.assertEqual((made.ends, type(made)), ((0x41, 0x5B, 0x61, 0x7B), kind))
+        for wrong, error, said in (
+            ([(1, 2), (5, 4)], NoSet, r"^pairs\[1\]: the range 0x5..=0x4 ends before it starts$"),
+            ([(1, 0x110000)], NoSet, "^code point: expected a number from 0 to 0x10FFFF, found 1114112$"),
+            ([(1, 2), (1, 2, 3)], ValueError, r"^pairs\[1\]: expected a first and a last code point, found \(1, 2, 3\)$"),
+            ([()], ValueError, r"^pairs\[0\]: expected a first and a last code point, found \(\)$"),
+            ("ab", ValueError, r"^pairs\[0\]: expected a first and a last code point, found 'a'$"),
+            ([(1, 2), 5], TypeError, r"^pairs\[1\]: expected a first and a last code point, found int$"),
+            ([(1, "ab")], TypeError, "^code point: expected one character, found a str of length 2$"),
+        ):
+            with self.assertRaisesRegex(error, said):
+                CodePointSet.from_ranges(wrong)
+
+    def test_elements_that_are_no_code_points(self):
+        class Even(collections.abc.Set):
+            def __contains__(self, it):
+                return it % 2 == 0
+
+            def __iter__(self):
+                return iter(range(0, 100, 2))
+
+            def __len__(self):
+                return 50
+
+        for made in both_kinds([0x60, 0x61, 0x62, 0x63]):
+            self.assertTrue(made <= {0x60, 0x62, None, "a"} and made < {0x60, 0x62, -1} and made >= {"`"})
+            self.assertTrue(made <= Even() and made < Even() and not made >= Even() and not made == Even() and Even() > made)
+            self.assertFalse(made == {None, "b"} or made >= {-1} or made > {1 << 70} or made <= {None, "a"})
+            self.assertEqual(made | Even(), set(made) | set(range(0, 100, 2)))
+            for compare in (operator.gt, operator.ge):
+                with self.assertRaises(TypeError):
+                    compare(made, {None})
+        with self.assertRaises(ZeroDivisionError):
+            CodePointSet([1, 2]) <= type("Broken", (Even,), {"__contains__": lambda self, it: 1 // 0})()
 
     def test_span_from_a_start(self):
         greek = CodePointSet([0x370, 0x400])

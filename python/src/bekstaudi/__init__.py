@@ -191,22 +191,25 @@ class CodePointSet(_native.CodePointSet):
         """Make the set of ranges: pairs of a first and a last code point, both inclusive.
 
         They may be in any order and may overlap. Raises NoSet if a first code point is above its
-        last one, or if one is above 0x10FFFF.
+        last one, or if one is outside 0..=0x10FFFF.
         """
-        ends, pairs = [], _iter("pairs", "an iterable of pairs", pairs)
-        for first, last in sorted((_as_int(first), _as_int(last)) for first, last in pairs):
-            if first > last:
-                raise NoSet(f"the range {first:#x}..={last:#x} ends before it starts")
-            if ends and first <= ends[-1]:
-                ends[-1] = max(ends[-1], last + 1)
-            else:
-                ends += [first, last + 1]
-        return cls(ends)
+        made = CodePointSet._from_ranges(pairs)
+        return made if cls is CodePointSet else cls._made_of(made)
 
     @classmethod
     def from_chars(cls, text):
-        """Make the set of the characters of a text, or of any iterable of code points."""
-        return cls.from_ranges((it, it) for it in set(_iter("text", "a str or code points", text)))
+        """Make the set of the characters of a text, or of any code points.
+
+        These may be any iterable, or integers in a buffer, such as a numpy array. Raises NoSet if one is
+        outside 0..=0x10FFFF.
+        """
+        made = CodePointSet._from_points(text)
+        return made if cls is CodePointSet else cls._made_of(made)
+
+    @classmethod
+    def _made_of(cls, made):
+        """Return a CodePointSet as an object of this class."""
+        return cls(made.ends)
 
     def freeze(self):
         """Return the same set as a FrozenCodePointSet, for many look-ups."""
@@ -243,9 +246,9 @@ class CodePointSet(_native.CodePointSet):
         """Return the set of the code points in either this set or another set or iterable."""
         return self ^ self._as_set(other)
 
-    @classmethod
-    def _as_set(cls, other):
-        return other if isinstance(other, CodePointSet) else cls.from_chars(other)
+    @staticmethod
+    def _as_set(other):
+        return other if isinstance(other, CodePointSet) else CodePointSet.from_chars(other)
 
     def ranges(self):
         """Return the ranges of code points in order: a list of first and last ones, inclusive."""
@@ -276,6 +279,10 @@ class FrozenCodePointSet(CodePointSet):
 
     def __new__(cls, ends=()):
         return cls._frozen(CodePointSet(ends))
+
+    @classmethod
+    def _made_of(cls, made):
+        return made.freeze() if cls is FrozenCodePointSet else cls(made.ends)
 
     def freeze(self):
         """Return the set itself."""
