@@ -22,6 +22,18 @@ def both_kinds(ends):
     return CodePointSet(ends), FrozenCodePointSet(ends)
 
 
+class Letters(CodePointSet):
+    """A subclass with attributes."""
+
+    __slots__ = ("slot", "__dict__")
+
+
+class FrozenLetters(FrozenCodePointSet):
+    """A subclass of the other class."""
+
+    __slots__ = ("slot", "__dict__")
+
+
 class Sets(unittest.TestCase):
     letters = CodePointSet([0x41, 0x5B, 0x61, 0x7B])
 
@@ -125,6 +137,15 @@ class Sets(unittest.TestCase):
         for made in (self.letters, CodePointSet(), CodePointSet([0, 0x110000])):
             for it in copies(made):
                 self.assertEqual((it, hash(it), len(it)), (made, hash(made), len(made)))
+
+    def test_copies_of_subclasses(self):
+        for kind in (Letters, FrozenLetters):
+            made = kind([1, 2])
+            made.name, made.more, made.slot = "A", [1, 2], {3}
+            for it in copies(made):
+                self.assertEqual((it, it.ends, type(it)), (made, (1, 2), kind))
+                self.assertEqual((it.name, it.more, it.slot), ("A", [1, 2], {3}))
+            self.assertEqual([vars(it) for it in copies(kind([1, 2]))], [{}] * len(list(copies(made))))
 
     def test_ends_stay(self):
         self.assertEqual(self.letters.ends, (0x41, 0x5B, 0x61, 0x7B))

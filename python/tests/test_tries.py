@@ -5,6 +5,12 @@ from bekstaudi import CodePointSet, NoForm, TooLarge, Trie, TrieRefused, WideVal
 from samples import NAMES, copies, read, runs_of
 
 
+class Table(Trie):
+    """A subclass with attributes."""
+
+    __slots__ = ("slot", "__dict__")
+
+
 class Tries(unittest.TestCase):
     def setUp(self):
         self.assertTrue(NAMES)
@@ -58,6 +64,12 @@ class Tries(unittest.TestCase):
                 self.assertEqual(list(it.ranges()), list(trie.ranges()))
         self.assertEqual(len({Trie(read(it)) for it in NAMES}), len({read(it) for it in NAMES}))
         self.assertNotEqual(trie, trie.data)
+
+    def test_copies_of_subclasses(self):
+        made = Table(read(NAMES[0]) + b"more")
+        made.name, made.slot = "A", {3}
+        for it in copies(made):
+            self.assertEqual((it, it.data, type(it), it.name, it.slot), (made, read(NAMES[0]), Table, "A", {3}))
 
     def test_slices_are_values_of_ranges(self):
         for name in NAMES:

@@ -64,11 +64,10 @@ def _iter(name, expected, given):
         raise TypeError(f"{name}: expected {expected}, found {type(given).__name__}") from None
 
 
-def _as_int(code_point):
-    """Return a code point as an int of any size."""
-    if isinstance(code_point, str) and len(code_point) == 1:
-        return ord(code_point)
-    return _int("code point", code_point) if not isinstance(code_point, str) else _native.point(code_point)
+def _reduce_ex(self, protocol):
+    """Return what copies are made of: the arguments of `__new__`, and the attributes of a subclass."""
+    # By itself Python passes no arguments to `__new__` in protocols 0 and 1.
+    return object.__reduce_ex__(self, max(protocol, 2))
 
 
 def _wide_value(rows, default, error, bits):
@@ -163,8 +162,10 @@ class Trie(_native.Trie):
             return CodePointSet()
         return CodePointSet._from_bytes(self._set_of(operator.index(value)))
 
-    def __reduce__(self):
-        return type(self), (self.data,)
+    __reduce_ex__ = _reduce_ex
+
+    def __getnewargs__(self):
+        return (self.data,)
 
     def __repr__(self):
         kind = "fast" if self.is_fast else "small"
@@ -259,8 +260,10 @@ class CodePointSet(_native.CodePointSet):
         ends = self.ends
         return itertools.chain.from_iterable(map(range, ends[::2], ends[1::2]))
 
-    def __reduce__(self):
-        return type(self), (self.ends,)
+    __reduce_ex__ = _reduce_ex
+
+    def __getnewargs__(self):
+        return (self.ends,)
 
     def __repr__(self):
         ends = self.ends
@@ -356,8 +359,8 @@ class UnitTrie(_native.UnitTrie):
     def __iter__(self):
         return iter(self.keys())
 
-    def __reduce__(self):
-        return type(self), (self.data,)
+    def __getnewargs__(self):
+        return (self.data,)
 
     def __repr__(self):
         return f"<{type(self).__name__}: {len(self.data) // 2} units>"
