@@ -219,6 +219,10 @@ PyObject *output_view(PyObject *out, Py_ssize_t count, Py_ssize_t width, void **
             PyErr_SetString(PyExc_TypeError, "out: expected a writable buffer, found a read-only one");
         goto done;
     }
+    if ((uintptr_t)*address % (uintptr_t)width) {
+        PyErr_Format(PyExc_ValueError, "out: expected a buffer that is aligned to %d bytes", (int)width);
+        goto done;
+    }
     if (size / width < count) {
         PyErr_Format(PyExc_ValueError, "out: expected room for %zd values, found %zd", count, size / width);
         goto done;
@@ -230,13 +234,16 @@ done:
 }
 
 PyObject *new_view(Py_ssize_t count, Py_ssize_t width, void **address) {
-    PyObject *bytes = PyBytes_FromStringAndSize(NULL, count * width);
+    /* memoryview.cast rejects an empty view, so it gets one item. */
+    PyObject *bytes = PyBytes_FromStringAndSize(NULL, (count || width == 1 ? count : 1) * width);
     PyObject *view = bytes ? PyMemoryView_FromObject(bytes) : NULL;
     if (view) *address = PyBytes_AsString(bytes);
     Py_XDECREF(bytes);
-    /* memoryview.cast rejects an empty view. */
-    if (!view || width == 1 || count == 0) return view;
+    if (!view || width == 1) return view;
     PyObject *cast = PyObject_CallMethod(view, "cast", "s", width == 2 ? "H" : "I");
     Py_DECREF(view);
-    return cast;
+    if (!cast || count) return cast;
+    PyObject *empty = PySequence_GetSlice(cast, 0, 0);
+    Py_DECREF(cast);
+    return empty;
 }

@@ -53,12 +53,25 @@ static Py_ssize_t write_values(const bks_trie *trie, const numbers *points, void
     return points->count;
 }
 
-static PyObject *values_of(over_bytes *self, const numbers *points, PyObject *out) {
+/* Whether `write_values` would overwrite code points that it has not read yet. It reads each part before
+ * it writes its values. */
+static bool is_overwritten(const numbers *points, const void *values, Py_ssize_t width) {
+    uintptr_t from = (uintptr_t)points->items, to = (uintptr_t)values;
+    if (points->copy || from >= to + (uintptr_t)(points->count * width)) return false;
+    return to < from + (uintptr_t)(points->count * points->width) && (to > from || width > points->width);
+}
+
+/* Returns the values of the code points, of which it may make a copy. */
+static PyObject *values_of(over_bytes *self, numbers *points, PyObject *out) {
     void *values;
     Py_ssize_t width = (Py_ssize_t)self->trie.width, written;
     PyObject *view = out ? output_view(out, points->count, width, &values)
                          : new_view(points->count, width, &values);
     if (!view || points->count == 0) return view;
+    if (is_overwritten(points, values, width) && numbers_own(points)) {
+        Py_DECREF(view);
+        return NULL;
+    }
     if (points->count > LONG_CALL) {
         Py_BEGIN_ALLOW_THREADS
         written = write_values(&self->trie, points, values);
@@ -76,8 +89,9 @@ PyDoc_STRVAR(trie_values_text,
     "Return the values of many code points, as a memoryview of unsigned integers.\n\n"
     "`code_points` is a str, a one-dimensional buffer of integers such as a numpy array, which is\n"
     "read in place, or any iterable of code points.\n\n"
-    "The values are written to the start of `out`, if it is given: a contiguous writable buffer of\n"
-    "unsigned integers of `value_bits` bits. ValueError if it has other items or is too short.");
+    "The values are written to the start of `out`, if it is given: a contiguous, aligned, writable buffer\n"
+    "of unsigned integers of `value_bits` bits. ValueError if it has other items or is too short. It may\n"
+    "overlap `code_points`: the result is the same as if it did not.");
 
 static PyObject *trie_values(over_bytes *self, PyObject *const *args, Py_ssize_t count, PyObject *keywords) {
     static const parameters wanted = {"values", {"code_points", "out", NULL}, 1};

@@ -123,6 +123,39 @@ class Arrays(unittest.TestCase):
             self.assertEqual((values[1:3].tolist(), values[-1]), ([trie["b"], trie["c"]], trie["\u4e16"]))
             self.assertEqual(values, trie.values("abc \u4e16"))
 
+    def test_results_without_items(self):
+        for name in NAMES:
+            trie = Trie(read(name))
+            some = trie.values("a")
+            for given in ("", [], b"", array.array("q"), range(0), iter("")):
+                found = trie.values(given)
+                self.assertEqual((found.format, found.itemsize, found.shape, found.nbytes), (some.format, some.itemsize, (0,), 0))
+            self.assertEqual((trie[9:3].format, trie[9:3].tolist()), (some.format, []))
+
+    def test_out_that_overlaps(self):
+        for name in NAMES:
+            trie = Trie(read(name))
+            size, code = trie.value_bits // 8, "BH?I"[trie.value_bits // 8 - 1]
+            for kind, count in (("B", 3000), ("H", 1200), ("I", 2500), ("b", 9000), ("q", 1100), ("Q", 40)):
+                points = array.array(kind, [it * 7 % 120 for it in range(count)])
+                wanted, width = list(trie.values(points)), points.itemsize
+                for out in (0, width * 8, width * 1024, width * count - 8 * size):
+                    for start in (0, width * 8, width * 1024):
+                        room = memoryview(bytearray(max(start + width * count, out + size * count)))
+                        given, found = room[start:start + width * count].cast(kind), room[out:out + size * count].cast(code)
+                        given[:] = points
+                        self.assertEqual(trie.values(given, out=found).tolist(), wanted)
+        trie, room = Trie.build([(0, 9, 5)]), array.array("b", [1, 2, -3, 4])
+        with self.assertRaisesRegex(ValueError, "^the code point -3 is outside"):
+            trie.values(memoryview(room)[:3], out=memoryview(room)[1:].cast("B"))
+        self.assertEqual(room.tolist(), [1, 2, -3, 4])
+
+    def test_out_that_is_not_aligned(self):
+        trie, room = Trie.build([(0, 9, 300)]), memoryview(bytearray(9))
+        with self.assertRaisesRegex(ValueError, "^out: expected a buffer that is aligned to 2 bytes$"):
+            trie.values("ab", out=room[1:].cast("H"))
+        self.assertEqual(trie.values(memoryview(bytes(9))[1:].cast("I")).tolist(), [300, 300])
+
     def test_out(self):
         for name in NAMES:
             trie = Trie(read(name))
@@ -171,6 +204,20 @@ class Numpy(unittest.TestCase):
                 frozen.flags.writeable = False
                 with self.assertRaises(TypeError):
                     trie.values(points, out=frozen)
+
+    def test_results_without_items(self):
+        for name in NAMES:
+            trie = Trie(read(name))
+            self.assertEqual(numpy.asarray(trie.values("")).dtype, numpy.dtype(f"u{trie.value_bits // 8}"))
+
+    def test_sets(self):
+        for kind in ("u1", "i2", "u4", "i8"):
+            points = numpy.array([9, 65, 66, 97, 9], kind)
+            for given in (points, points[::2], list(points), points.reshape(5, 1)[:, 0]):
+                self.assertEqual(CodePointSet.from_chars(given), set(map(int, given)))
+            self.assertEqual(CodePointSet([5, 8]) | set(points), {5, 6, 7, 9, 65, 66, 97})
+        self.assertEqual(CodePointSet.from_ranges(numpy.array([[5, 6], [9, 9]])).ends, (5, 7, 9, 10))
+        self.assertTrue(CodePointSet([9, 10, 65, 67]) >= set(numpy.array([9, 65])))
 
     def test_tables_in_arrays(self):
         table = numpy.frombuffer(read(NAMES[0]), "u1")
