@@ -225,6 +225,7 @@ over_bytes *over_bytes_new(PyTypeObject *type, const char *name, PyObject *data)
     self->size = (size_t)size;
     self->hash = -1;
     self->is_fixed = PyBytes_CheckExact(owner);
+    self->entries = BKS_NO_MEMORY;
     return self;
 }
 

@@ -124,6 +124,7 @@ typedef struct {
     size_t size;
     Py_hash_t hash;         /* -1 if not computed yet */
     bool is_fixed;          /* whether nobody can change the bytes: the owner is a bytes object */
+    int64_t entries;        /* how many a unit trie has, or BKS_NO_TRIE; BKS_NO_MEMORY if not counted yet */
     bks_trie trie;
 } over_bytes;
 

@@ -334,6 +334,39 @@ PyDoc_STRVAR(units_items_text,
     "always the value beside it. A few units from an untrusted source can have very many entries:\n"
     "call `count` first.");
 
+/* Lists at most `most` entries after the first `skipped` ones. Returns how many, or an `enum bks_refusal`.
+ * The texts get more memory until all of them fit. */
+static int64_t list_page(const over_bytes *self, uint64_t skipped, bks_word *words, size_t most, char **texts) {
+    size_t room = 16 * most, needed;
+    for (;;) {
+        int64_t count;
+        char *larger = PyMem_Realloc(*texts, room + 1);
+        if (!larger) return BKS_NO_MEMORY;
+        *texts = larger;
+        Py_BEGIN_ALLOW_THREADS
+        count = bks_units_list_below(self->bytes, self->size, "", 0, skipped, words, most, larger, room, &needed);
+        Py_END_ALLOW_THREADS
+        if (count < 0 || (size_t)count == most || needed <= room) return count;
+        room = needed > 2 * room ? needed : 2 * room;
+    }
+}
+
+/* Returns at most `most` entries after the first `skipped` ones: fewer only if no other one is left. */
+static PyObject *units_page(over_bytes *self, PyObject *args) {
+    unsigned long long skipped;
+    Py_ssize_t most;
+    char *texts = NULL;
+    if (!PyArg_ParseTuple(args, "Kn", &skipped, &most)) return NULL;
+    bks_word *words = PyMem_Malloc((size_t)most * sizeof *words);
+    int64_t count = words ? list_page(self, skipped, words, (size_t)most, &texts) : BKS_NO_MEMORY;
+    PyObject *head = count < 0 ? raise_refusal(count) : PyUnicode_FromString("");
+    PyObject *list = head ? pairs_of(words, (size_t)count, texts, head) : NULL;
+    Py_XDECREF(head);
+    PyMem_Free(texts);
+    PyMem_Free(words);
+    return list;
+}
+
 static PyObject *units_items(over_bytes *self, PyObject *const *args, Py_ssize_t count, PyObject *keywords) {
     static const parameters wanted = {"items", {"prefix", NULL}, 0};
     PyObject *given[1];
@@ -348,12 +381,14 @@ static PyObject *units_items(over_bytes *self, PyObject *const *args, Py_ssize_t
     return list;
 }
 
+/* Returns how many entries there are, or an `enum bks_refusal`. It counts them once. */
 static int64_t counted(over_bytes *self) {
-    int64_t count;
+    int64_t count = self->entries;
+    if (count != BKS_NO_MEMORY) return count;
     Py_BEGIN_ALLOW_THREADS
     count = bks_units_count(self->bytes, self->size);
     Py_END_ALLOW_THREADS
-    return count;
+    return self->entries = count;
 }
 
 static PyObject *units_count(over_bytes *self, PyObject *none) {
@@ -415,7 +450,9 @@ static PyMethodDef methods[] = {
     {"items", METHOD(units_items), METH_FASTCALL | METH_KEYWORDS, units_items_text},
     {"count", METHOD(units_count), METH_NOARGS,
      "count($self, /)\n--\n\n"
-     "Return the number of entries, at most 2 ** 63 - 1; None if the units are not a trie."},
+     "Return the number of entries, at most 2 ** 63 - 1; None if the units are not a trie.\n\n"
+     "Only the first call counts them."},
+    {"_page", METHOD(units_page), METH_VARARGS, NULL},
     {NULL, NULL, 0, NULL}};
 
 static PyGetSetDef fields[] = {

@@ -1,10 +1,17 @@
 """Unit tries."""
 import collections.abc
 import os
+import tracemalloc
 import unittest
 
 from bekstaudi import BekstaudiError, LongKey, NoTrie, SameKey, UnitTrie, WideUnit, WideValue
 from samples import FOLDER, copies
+
+
+class Words(UnitTrie):
+    """A subclass with attributes."""
+
+    __slots__ = ("slot", "__dict__")
 
 
 class UnitTries(unittest.TestCase):
@@ -93,6 +100,43 @@ class UnitTries(unittest.TestCase):
             with self.assertRaisesRegex(NoTrie, "units are not a trie"):
                 asks(UnitTrie(b"\x30\0"))
 
+    def test_the_units_are_validated_once(self):
+        words = {f"{it:x}": it for it in range(300)}
+        units = bytearray(UnitTrie.build(words).data)
+        trie, none = UnitTrie(memoryview(units).toreadonly()), UnitTrie(b"\x30\0")
+        self.assertEqual((len(trie), bool(trie), trie == words, none.count()), (300, True, True, None))
+        # What these units say now is unspecified; the count shows that nobody asks them.
+        units[:] = bytes(len(units))
+        self.assertEqual((len(trie), bool(trie), trie.count(), trie == {}, none.count()), (300, True, 300, False, None))
+        for asks in (len, bool):
+            with self.assertRaises(NoTrie):
+                asks(none)
+
+    def test_iteration(self):
+        for count in (0, 1, 15, 16, 17, 79, 80, 81, 335, 336, 337, 5000):
+            trie = UnitTrie.build({f"{it:x}\u4e16": it for it in range(count)})
+            self.assertEqual(list(trie), trie.keys())
+            self.assertEqual(list(zip(trie, range(count))), list(zip(trie.keys(), range(count))))
+        words = {"": 1, "\ud83d": 2, "\U0001f600": 3, "a" * 5000: 4, "\u4e16" * 9000: 5, "b" * 60000: 6}
+        self.assertEqual(list(UnitTrie.build(words)), UnitTrie.build(words).keys())
+        units = UnitTrie.build({f"{it:x}": it for it in range(900)}).data
+        for damaged in (units[:999], units[:98], units[7:999], b"", b"\x30\0"):
+            self.assertEqual(list(iter(UnitTrie(damaged))), UnitTrie(damaged).keys())
+
+    def test_the_first_key_lists_no_others(self):
+        trie = UnitTrie.build({f"{it:x}": it for it in range(30000)})
+        tracemalloc.start()
+        self.assertEqual(next(iter(trie)), "0")
+        taken = tracemalloc.get_traced_memory()[1]
+        tracemalloc.stop()
+        self.assertLess(taken, 20000)
+
+    def test_copies_of_subclasses(self):
+        made = Words(self.worked.data)
+        made.name, made.slot = "A", {3}
+        for it in copies(made):
+            self.assertEqual((it, it.items(), type(it), it.name, it.slot), (made, made.items(), Words, "A", {3}))
+
     def test_equal_to_mappings(self):
         words = {"car": 2, "cat": 3, "\ud83d": 5, "\U0001f600": 6}
         trie = UnitTrie.build(words)
@@ -102,6 +146,7 @@ class UnitTries(unittest.TestCase):
         more, less = {**words, "x": 1}, {it: words[it] for it in ("car", "cat")}
         for other in (more, less, {**words, "cat": 4}, {**less, "x": 5, "y": 6}, {**less, 5: 5, 6: 6}, {}, [*words], 5, None):
             self.assertTrue(trie != other and other != trie and not trie == other)
+        self.assertNotEqual(UnitTrie.build({"a": 1, "b": 2}), {"a": 1, "x": None})
         # Two keys of a dict that are one key of a trie.
         self.assertNotEqual(UnitTrie.build({"\U0001f600": 2, "x": 2}), {"\U0001f600": 2, "\ud83d\ude00": 2})
         self.assertEqual(UnitTrie(b""), {})

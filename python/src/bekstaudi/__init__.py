@@ -352,12 +352,21 @@ class UnitTrie(_native.UnitTrie):
         """Return whether a mapping has the same entries, or not; NotImplemented for anything else."""
         if not isinstance(other, collections.abc.Mapping):
             return NotImplemented
-        entries = {_units(key): value for key, value in other.items() if isinstance(key, str)}
-        same = len(entries) == len(other) == self.count() and all(self.get(it) == other[it] for it in other)
+        same = len(other) == self.count() and all(
+            isinstance(key, str) and key in self and self[key] == value for key, value in other.items()
+        )
+        # Two keys of a dict may be one key here: a character, and its two surrogates.
+        same = same and len(set(map(_units, other))) == len(other)
         return same is bool(is_equal)
 
     def __iter__(self):
-        return iter(self.keys())
+        # A page takes time for the entries before it too, so each one is larger than all of these.
+        skipped, most = 0, 16
+        while page := self._page(skipped, most):
+            yield from (key for key, _ in page)
+            skipped, most = skipped + len(page), min(4 * most, 1 << 20)
+
+    __reduce_ex__ = _reduce_ex
 
     def __getnewargs__(self):
         return (self.data,)
