@@ -135,6 +135,32 @@ def words_of_letters(letters):
         ], len(text))
 
 
+def making_sets(letters):
+    """Sets made of code points and of ranges."""
+    points = random.Random(5).sample(sorted(letters), 2000)
+    text, packed, ranges = "".join(map(chr, points)), array.array("I", points), letters.ranges()
+    made, frozen = CodePointSet.from_chars(points), frozenset(points)
+
+    def by_add():
+        found = icu.UnicodeSet()
+        for first, last in ranges:
+            found.add(chr(first), chr(last))
+
+    table(f"A set made of {len(points)} random code points; per point", [
+        ("frozenset(list)", lambda: frozenset(points), None),
+        *([("PyICU: addAll(text)", lambda: icu.UnicodeSet().addAll(text), None)] if icu else []),
+        ("CodePointSet.from_chars(list)", lambda: CodePointSet.from_chars(points), None),
+        ("CodePointSet.from_chars(text)", lambda: CodePointSet.from_chars(text), None),
+        ("CodePointSet.from_chars(array of uint32)", lambda: CodePointSet.from_chars(packed), None),
+        ("set | frozenset", lambda: made | frozen, None),
+        ("set == frozenset", lambda: made == frozen, None),
+    ], len(points))
+    table(f"A set made of {len(ranges)} ranges; per range", [
+        *([("PyICU: add for each", by_add, None)] if icu else []),
+        ("CodePointSet.from_ranges(pairs)", lambda: CodePointSet.from_ranges(ranges), None),
+    ], len(ranges))
+
+
 def sets(trie):
     """Membership, spans and operations."""
     letters = CodePointSet().union(*(trie.set_of(it) for it, name in enumerate(categories.NAMES) if name[0] == "L"))
@@ -158,6 +184,7 @@ def sets(trie):
     words_of_letters(letters)
     other = CodePointSet(it + 3 for it in letters.ends[:-2])
     globals().update(other=other, mine=set(letters), theirs=set(other))
+    making_sets(letters)
     table("Two sets joined, and one frozen; per call", [
         ("set of Python | set of Python", looped("mine | theirs", range(2)), None),
         ("set | set", looped("letters | other", range(2)), None),
@@ -216,10 +243,17 @@ def units():
         *([("datrie: items(prefix)", looped("datrie_trie.items(it)", prefixes), None)] if datrie else []),
         ("trie.items(prefix)", looped("unit_trie.items(it)", prefixes), None),
     ], below)
+    table("Asked of the whole dictionary; per call", [
+        ("len(dict)", looped("len(words)", range(100)), None),
+        ("len(trie)", looped("len(unit_trie)", range(100)), None),
+        ("next(iter(trie))", looped("next(iter(unit_trie))", range(100)), None),
+    ], 100)
     table("All words; per word", [
         ("sorted(dict.items())", lambda: sorted(words.items()), None),
         *([("datrie: items()", lambda: datrie_trie.items(), None)] if datrie else []),
         ("trie.items()", trie.items, None),
+        ("list(trie)", lambda: list(trie), None),
+        ("trie == dict", lambda: trie == words, None),
         ("UnitTrie.build(dict)", lambda: UnitTrie.build(words), None),
     ], len(keys))
 

@@ -306,8 +306,8 @@ class UnitTrie(_native.UnitTrie):
     `trie[key]` is the value of a key and raises KeyError if there is none; `key in trie` asks
     whether there is one. A key is a str, which stands for its units in UTF-16, or a list of units.
     Iteration yields the keys as str, in the order of their units, with U+FFFD for a lone surrogate:
-    such a str is not a key, or is another one. `len` is the number of entries; it raises NoTrie if
-    the units are not a trie, as `bool` and `list` do. Two tries are equal if their units are the
+    such a str is not a key, or is another one. `len` is the number of entries, which are counted
+    once; it raises NoTrie if the units are not a trie, as `bool` and `list` do. Two tries are equal if their units are the
     same, and a trie equals any other mapping with the same entries.
     """
 
