@@ -80,14 +80,8 @@ fn made(
     }
 }
 
-/// Sends what a command makes of a file, or of standard input, to its target. `words` are the
-/// command.
-fn make(
-    rt: &HostRuntime,
-    words: &[String],
-    command: &str,
-    matches: &ArgMatches<'_>,
-) -> Result<(), Fault> {
+/// Sends what a command makes of a file, or of standard input, to its target.
+fn make(rt: &HostRuntime, command: &str, matches: &ArgMatches<'_>) -> Result<(), Fault> {
     let start = started(rt);
     let target = target_of(rt.alloc(), matches)?;
     test_name(rt.alloc(), matches)?;
@@ -97,7 +91,7 @@ fn make(
     report(rt, start, "read", file.len());
     let bytes = made(rt, command, matches, input_name(path), &file)?;
     report(rt, start, "made", bytes.len());
-    let whole = with_heading(rt.alloc(), matches, words, path, &file, bytes)?;
+    let whole = with_heading(rt.alloc(), command, matches, path, &file, bytes)?;
     let is_binary = matches.get_str("as") == Some("icu");
     deliver(rt, target, &whole, is_binary)
 }
@@ -163,14 +157,9 @@ fn diff(rt: &HostRuntime, matches: &ArgMatches<'_>) -> Result<u8, Fault> {
 }
 
 /// Does what a command asks for, and returns the status.
-fn run(
-    rt: &HostRuntime,
-    words: &[String],
-    name: &str,
-    matches: &ArgMatches<'_>,
-) -> Result<u8, Fault> {
+fn run(rt: &HostRuntime, name: &str, matches: &ArgMatches<'_>) -> Result<u8, Fault> {
     match name {
-        "build" | "convert" | "set" | "words" => make(rt, words, name, matches)?,
+        "build" | "convert" | "set" | "words" => make(rt, name, matches)?,
         "show" => show(rt, matches)?,
         "get" | "explain" => get(rt, name, matches)?,
         _ => return diff(rt, matches),
@@ -208,11 +197,11 @@ fn given_words(rt: &HostRuntime) -> Result<Vec<String>, Fault> {
 }
 
 /// Does what the command asks for, and returns the status.
-fn status_of(rt: &HostRuntime, words: &[String], matches: &ArgMatches<'_>) -> u8 {
+fn status_of(rt: &HostRuntime, matches: &ArgMatches<'_>) -> u8 {
     let Some((name, matches)) = matches.subcommand() else {
         return 2;
     };
-    match run(rt, words, name, matches) {
+    match run(rt, name, matches) {
         Ok(status) => status,
         Err(fault) => failed(rt, &fault, name == "diff"),
     }
@@ -224,7 +213,7 @@ fn status(rt: &HostRuntime, words: &[String]) -> u8 {
         return failed(rt, &Fault::Memory, false);
     };
     match command.try_get_matches_from(words) {
-        Ok(matches) => status_of(rt, words, &matches),
+        Ok(matches) => status_of(rt, &matches),
         Err(error) => not_taken(rt, &error),
     }
 }

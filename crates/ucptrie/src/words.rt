@@ -8,7 +8,7 @@ const VERSION: &str = "0.2.0";
 
 /// How an argument is given.
 #[derive(Clone, Copy)]
-enum Place {
+pub enum Place {
     /// `--id VALUE`, anywhere.
     Option,
     /// The same, or this letter after one `-`.
@@ -21,16 +21,16 @@ enum Place {
 
 /// One argument of a command.
 #[derive(Clone, Copy)]
-struct Argument {
-    id: &'static str,
+pub struct Argument {
+    pub id: &'static str,
     place: Place,
     required: bool,
     /// What help calls the value. If it is empty, help shows the id.
     value_name: &'static [&'static str],
     /// Which values are accepted.
-    values: ValueParser<'static>,
+    pub values: ValueParser<'static>,
     /// The value if the argument is left out, if there is one.
-    default: &'static [&'static str],
+    pub default: &'static [&'static str],
     help: &'static str,
 }
 
@@ -383,6 +383,16 @@ static COMMANDS: [Row; 8] = [
         arguments: &DIFF,
     },
 ];
+
+/// Returns the arguments of the command with this name, in the order of the help.
+pub fn arguments_of(name: &str) -> &'static [Argument] {
+    for row in &COMMANDS {
+        if row.name == name {
+            return row.arguments;
+        }
+    }
+    &[]
+}
 
 /// Sets what help calls the argument's value.
 fn with_value_name<'a>(argument: Arg<'a>, row: &Argument) -> Arg<'a> {
