@@ -1,6 +1,6 @@
 //! The numbers that the arguments of `get` ask for.
 use crate::fault::{Fault, about, about_arguments, said};
-use crate::streams::{input_name, text_at};
+use crate::streams::{input_name, text_at, without_mark};
 use clap::ArgMatches;
 use std::alloc::Global;
 use ucptab_table::input::line_at;
@@ -18,12 +18,13 @@ fn unasked(alloc: Global, name: &str, text: &[u8], number: u64) -> Fault {
 
 /// Appends the numbers that the lines of a file ask for.
 fn push_file(rt: &HostRuntime, asked: &mut Vec<u32>, path: &str) -> Result<(), Fault> {
-    let text = text_at(rt, path)?;
-    match push_asked_lines(asked, &text) {
+    let bytes = text_at(rt, path)?;
+    let text = without_mark(&bytes);
+    match push_asked_lines(asked, text) {
         Ok(()) => Ok(()),
         Err(AskedFault::Memory) => Err(Fault::Memory),
         Err(AskedFault::Line(number)) => {
-            Err(unasked(rt.alloc(), input_name(path), &text, number))
+            Err(unasked(rt.alloc(), input_name(path), text, number))
         }
     }
 }

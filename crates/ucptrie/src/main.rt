@@ -37,8 +37,8 @@ use crate::offsets::{Start, start_of};
 use crate::output::{deliver, target_of};
 use crate::progress::{report, started};
 use crate::sets::set;
-use crate::streams::{INPUT, bytes_at, input_name, put, say};
-use crate::tables::table_at;
+use crate::streams::{INPUT, bytes_at, input_name, put, say, without_mark};
+use crate::tables::{number, table_at};
 use crate::word_lists::word_list;
 use crate::words::program_words;
 use clap::ArgMatches;
@@ -80,6 +80,25 @@ fn made(
     }
 }
 
+/// Returns whether the input of a command may be binary and start with any bytes: the arguments say
+/// that it is a serialized set or units, or where its trie starts.
+fn may_be_binary(command: &str, matches: &ArgMatches<'_>) -> bool {
+    match (command, matches.get_str("format")) {
+        ("set", Some("serialized")) | ("words", Some("icu")) => true,
+        ("set" | "convert", _) => number(matches, "offset").is_some(),
+        _ => false,
+    }
+}
+
+/// Returns the input of a command, in a text without a byte order mark at its start.
+fn input_of<'f>(command: &str, matches: &ArgMatches<'_>, file: &'f [u8]) -> &'f [u8] {
+    if may_be_binary(command, matches) {
+        file
+    } else {
+        without_mark(file)
+    }
+}
+
 /// Sends what a command makes of a file, or of standard input, to its target.
 fn make(rt: &HostRuntime, command: &str, matches: &ArgMatches<'_>) -> Result<(), Fault> {
     let start = started(rt);
@@ -89,9 +108,10 @@ fn make(rt: &HostRuntime, command: &str, matches: &ArgMatches<'_>) -> Result<(),
     test_once(rt.alloc(), path, matches.get_str("aliases"))?;
     let file = bytes_at(rt, path)?;
     report(rt, start, "read", file.len());
-    let bytes = made(rt, command, matches, input_name(path), &file)?;
+    let input = input_of(command, matches, &file);
+    let bytes = made(rt, command, matches, input_name(path), input)?;
     report(rt, start, "made", bytes.len());
-    let whole = with_heading(rt.alloc(), command, matches, path, &file, bytes)?;
+    let whole = with_heading(rt.alloc(), command, matches, path, input, bytes)?;
     let is_binary = matches.get_str("as") == Some("icu");
     deliver(rt, target, &whole, is_binary)
 }

@@ -3,7 +3,7 @@ use crate::compressed::expect_text;
 use crate::fault::{Fault, about, said};
 use crate::names::name_in;
 use crate::offsets::{Start, from_trie, starts_trie};
-use crate::streams::{bytes_at, input_name};
+use crate::streams::{bytes_at, input_name, without_mark};
 use clap::ArgMatches;
 use icu_trie_core::header::TrieType;
 use std::alloc::{AllocError, Global};
@@ -224,5 +224,9 @@ pub fn table_at(
 ) -> Result<Table, Fault> {
     let path = matches.get_str(id).unwrap_or("-");
     let bytes = bytes_at(rt, path)?;
-    table_in(rt.alloc(), matches, input_name(path), &bytes, start)
+    let file = match start {
+        Start::At(_) => bytes.as_slice(),
+        Start::Found | Start::Only => without_mark(&bytes),
+    };
+    table_in(rt.alloc(), matches, input_name(path), file, start)
 }

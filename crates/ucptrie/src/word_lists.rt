@@ -49,10 +49,6 @@ fn trie<'f>(
         };
     }
     expect_text(alloc, name, file)?;
-    if file.starts_with(b"\xef\xbb\xbf".as_slice()) {
-        let why = "found a byte order mark: save the file without it";
-        return Err(about(alloc, name, why));
-    }
     expect_line_feeds(alloc, name, file)?;
     match trie_of_words(alloc, file) {
         Ok(trie) => Ok(trie),
