@@ -8,10 +8,12 @@ use crate::unicode_files::{build_file, column_option, named_kind, not_of_rows};
 use crate::wide::{row_with, too_wide};
 use clap::ArgMatches;
 use icu_trie_core::header::TrieType;
-use std::alloc::Global;
+use std::alloc::{AllocError, Global};
 use ucd_files::kind::{FileKind, kind_of};
-use ucptab_table::fault::TableError;
+use ucptab_table::fault::{RowFault, TableError};
+use ucptab_table::input::line_at;
 use ucptab_table::message::row_message;
+use ucptab_table::rows::{after, before, code_points_of, content_of, trimmed};
 use ucptrie_tables::built;
 use ucptrie_tables::fault::BuildFault;
 use ucptrie_tables::stated::stated_values;
@@ -39,6 +41,32 @@ fn options_of_rows(matches: &ArgMatches<'_>, rows: &[u8]) -> TableOptions {
     }
 }
 
+/// Returns whether a line would be a row if its value were a number, and not a name.
+fn has_name(line: &[u8]) -> bool {
+    let content = content_of(line);
+    match trimmed(after(b';', content)) {
+        [first, ..] if first.is_ascii_alphabetic() => {
+            code_points_of(trimmed(before(b';', content))).is_some()
+        }
+        _ => false,
+    }
+}
+
+/// Returns the line about the fault of a row.
+fn row_line(
+    alloc: Global,
+    name: &str,
+    rows: &[u8],
+    number: u64,
+    fault: RowFault,
+) -> Result<String, AllocError> {
+    let mut line = row_message(alloc, name, rows, number, fault)?;
+    if matches!(fault, RowFault::NotARow) && has_name(line_at(rows, number).unwrap_or(&[])) {
+        line.push_str("; for names give --format properties")?;
+    }
+    Ok(line)
+}
+
 /// Returns the fault of rows that make no table, or of a table that is not written. `name` is what
 /// they were read from.
 pub fn unbuilt(alloc: Global, name: &str, rows: &[u8], fault: BuildFault) -> Fault {
@@ -49,7 +77,7 @@ pub fn unbuilt(alloc: Global, name: &str, rows: &[u8], fault: BuildFault) -> Fau
             about(alloc, name, why)
         }
         BuildFault::Table(TableError::Row(number, fault)) => {
-            said(row_message(alloc, name, rows, number, fault))
+            said(row_line(alloc, name, rows, number, fault))
         }
         _ => about(alloc, name, fault),
     }

@@ -1,6 +1,7 @@
 //! The tables of files, and how a table is to be written.
 use crate::compressed::expect_text;
 use crate::fault::{Fault, about, said};
+use crate::forms::is_toml;
 use crate::names::name_in;
 use crate::offsets::{Start, from_trie, starts_trie};
 use crate::streams::{bytes_at, input_name, without_mark};
@@ -155,10 +156,15 @@ fn without_trie(
     }
 }
 
+/// What is said of a text that is no table, as rows and the files that Unicode publishes.
+const NO_TABLE: &str =
+    "expected a table in ICU's binary form, JSON or TOML; ucptrie build makes one of lines";
+
 /// Returns a file with its TOML. `name` is what it was read from.
 fn parsed<'f>(alloc: Global, name: &str, bytes: &'f [u8]) -> Result<ParsedFile<'f>, Fault> {
     match ParsedFile::new(alloc, bytes) {
         Ok(file) => Ok(file),
+        Err(ReadFault::Toml(_)) if !is_toml(bytes) => Err(about(alloc, name, NO_TABLE)),
         Err(fault) => Err(unread(alloc, name, fault)),
     }
 }
