@@ -1,4 +1,5 @@
 //! How the values of a file become numbers, by the arguments.
+use crate::aliases::{Aliases, name_in_values, unknown_property};
 use crate::fault::{Fault, about};
 use clap::ArgMatches;
 use std::alloc::Global;
@@ -15,8 +16,8 @@ pub struct UnicodeFile<'f> {
     pub bytes: &'f [u8],
     /// Where its lines have their values.
     pub columns: Columns<'f>,
-    /// The bytes of the file of aliases, or none if the arguments name no such file.
-    pub aliases: Vec<u8>,
+    /// The files of aliases that the arguments name.
+    pub aliases: Aliases,
 }
 
 /// Returns the names of the property's values in the file of aliases, and what they are.
@@ -29,10 +30,11 @@ fn choice_of_aliases<'f>(
         let why = "--aliases needs --property, the property whose values are named";
         return Err(about(alloc, "arguments", why));
     };
-    let choice = alias_choice(alloc, &file.aliases, property.as_bytes(), file.columns)?;
+    let aliases = &file.aliases;
+    let name = name_in_values(aliases, property.as_bytes());
+    let choice = alias_choice(alloc, &aliases.values, name, file.columns)?;
     if choice.names.as_slice().is_empty() {
-        let why = "the file of aliases has no value of this property";
-        return Err(about(alloc, property, why));
+        return Err(unknown_property(alloc, aliases, property));
     }
     Ok(choice)
 }
@@ -44,7 +46,7 @@ pub fn choice_of<'f>(
     matches: &ArgMatches<'_>,
     file: &'f UnicodeFile<'f>,
 ) -> Result<Choice<'f>, Fault> {
-    if matches.get_str("aliases").is_none() {
+    if file.aliases.values.is_empty() {
         return Ok(own_choice(alloc, file.bytes, file.columns)?);
     }
     choice_of_aliases(alloc, matches, file)

@@ -2,6 +2,7 @@
 //! and reads and shows them.
 #![tactic(auto)]
 
+mod aliases;
 mod asked;
 mod build;
 mod choice;
@@ -11,6 +12,7 @@ mod fault;
 mod forms;
 mod fractions;
 mod heading;
+mod line_faults;
 mod missing;
 mod names;
 mod offsets;
@@ -51,11 +53,32 @@ use ucptrie_tables::explain::explained;
 use ucptrie_tables::shown::{answered, shown};
 use ucptrie_tables::table::Table;
 
+/// Returns whether an input is standard input.
+fn is_input(path: &str) -> bool {
+    path == "-"
+}
+
+/// Returns the fault of two inputs that are standard input.
+fn read_twice(alloc: Global) -> Fault {
+    about_arguments(alloc, INPUT, "can be read once, and two inputs are -")
+}
+
 /// Tests that not both of two inputs are standard input, all of which the first one reads.
 fn test_once(alloc: Global, first: &str, second: Option<&str>) -> Result<(), Fault> {
-    if first == "-" && second == Some("-") {
-        let why = "can be read once, and two inputs are -";
-        return Err(about_arguments(alloc, INPUT, why));
+    match second {
+        Some(second) if is_input(first) && is_input(second) => Err(read_twice(alloc)),
+        _ => Ok(()),
+    }
+}
+
+/// Tests that not two of an input and the files of aliases are standard input.
+fn test_inputs(alloc: Global, matches: &ArgMatches<'_>, path: &str) -> Result<(), Fault> {
+    let mut is_read = is_input(path);
+    for name in matches.get_strs("aliases").unwrap_or(&[]) {
+        if is_read && is_input(name) {
+            return Err(read_twice(alloc));
+        }
+        is_read = is_read || is_input(name);
     }
     Ok(())
 }
@@ -105,7 +128,7 @@ fn make(rt: &HostRuntime, command: &str, matches: &ArgMatches<'_>) -> Result<(),
     let target = target_of(rt.alloc(), matches)?;
     test_name(rt.alloc(), matches)?;
     let path = matches.get_str("file").unwrap_or("-");
-    test_once(rt.alloc(), path, matches.get_str("aliases"))?;
+    test_inputs(rt.alloc(), matches, path)?;
     let file = bytes_at(rt, path)?;
     report(rt, start, "read", file.len());
     let input = input_of(command, matches, &file);

@@ -1,4 +1,5 @@
 //! The values of code points without a line.
+use crate::aliases::name_in_values;
 use crate::choice::UnicodeFile;
 use crate::fault::{Fault, about, said};
 use crate::properties::push_text;
@@ -15,8 +16,8 @@ fn only_missing_line(alloc: Global, name: &str, value: &[u8]) -> Result<String, 
     let mut line = String::new(alloc);
     write!(line, "{name}: the value ")?;
     push_text(&mut line, value)?;
-    line.push_str(" is only in an @missing line: give --aliases PropertyValueAliases.txt, ")?;
-    line.push_str("which has all names of each value")?;
+    line.push_str(" is only in an @missing line: give --property and --aliases ")?;
+    line.push_str("PropertyValueAliases.txt, which has all names of each value")?;
     Ok(line)
 }
 
@@ -65,18 +66,27 @@ pub fn default_of(
     other: u32,
     how: &str,
 ) -> Result<u32, Fault> {
+    let aliases = &file.aliases;
     let property = matches.get_str("property").unwrap_or("").as_bytes();
     match missing_value(
         alloc,
         file.bytes,
         file.columns,
         numbering,
-        &file.aliases,
-        property,
+        &aliases.values,
+        name_in_values(aliases, property),
     ) {
         Ok(MissingValue::Numbers | MissingValue::InLines) => Ok(other),
         Ok(MissingValue::Number(number)) => Ok(number),
         Ok(MissingValue::Unsaid) => Err(about(alloc, file.name, how)),
-        Err(fault) => Err(unread(alloc, file.name, file.bytes, UnicodeFileFault::File(fault))),
+        Err(fault) => {
+            Err(unread(
+                alloc,
+                file.name,
+                file.bytes,
+                numbering,
+                UnicodeFileFault::File(fault),
+            ))
+        }
     }
 }

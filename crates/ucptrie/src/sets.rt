@@ -157,7 +157,7 @@ fn set_of_lines(
     let default = default_in_set(alloc, matches, file, choice, numbering)?;
     match table_of_file(alloc, file.bytes, file.columns, numbering, options(default)) {
         Ok(table) => set_in_table(alloc, file.name, &table, value),
-        Err(fault) => Err(unread(alloc, file.name, file.bytes, fault)),
+        Err(fault) => Err(unread(alloc, file.name, file.bytes, numbering, fault)),
     }
 }
 

@@ -1,13 +1,15 @@
 //! Tables of files of the Unicode Character Database.
+use crate::aliases::{Aliases, name_in_lines, named_aliases};
 use crate::build::{options, unbuilt};
 use crate::choice::{UnicodeFile, choice_of, numbering};
 use crate::fault::{Fault, about, about_arguments, said};
 use crate::fractions::say_fractions;
+use crate::line_faults::fault_line;
 use crate::missing::{default_of, test_numbers, test_own_names};
 use crate::overlap::overlap;
-use crate::properties::{has_unihan_property, missing_property};
+use crate::properties::{expect_field, has_unihan_property, missing_property};
 use crate::static_trie::{is_static, with_static};
-use crate::streams::{say, text_at};
+use crate::streams::say;
 use crate::tables::{form, number};
 use crate::wide::{line_with, too_wide};
 use clap::ArgMatches;
@@ -18,8 +20,6 @@ use ucd_files::kind::{FileKind, has_missing_lines, has_property, has_values};
 use ucd_files::names::{Name, Numbering, is_same_name};
 use ucd_files::statement::Columns;
 use ucd_files::title::title_of;
-use ucptab_table::input::line_at;
-use ucptab_table::message::line_message;
 use ucptrie_tables::fault::{BuildFault, UnicodeFileFault};
 use ucptrie_tables::table::TableOptions;
 use ucptrie_tables::unicode_file::table_of_file;
@@ -86,6 +86,17 @@ fn is_named(short: &str, long: &str, property: &[u8]) -> bool {
 
 /// Returns the field of a property in `UnicodeData.txt`. `name` is what the file was read from.
 fn unicode_data_field(alloc: Global, name: &str, property: Option<&str>) -> Result<usize, Fault> {
+/// Returns whether two texts are names of one property: the same name, or the short and the long
+/// name of a property of `UnicodeData.txt`.
+pub fn are_names_of_one(property: &[u8], name: &[u8]) -> bool {
+    for (short, long, _) in UNICODE_DATA.iter() {
+        if is_named(short, long, property) && is_named(short, long, name) {
+            return true;
+        }
+    }
+    is_same_name(property, name)
+}
+
     let Some(property) = property else {
         let why = "the file has many properties: name one by --property or --field";
         return Err(about(alloc, name, why));
@@ -176,16 +187,22 @@ fn columns_of_all(
 fn columns_of_lines<'a>(
     alloc: Global,
     property: Option<&'a str>,
-    has_aliases: bool,
+    aliases: &Aliases,
     name: &str,
-    file: &[u8],
+    file: &'a [u8],
 ) -> Result<Columns<'a>, Fault> {
     match property {
         Some(property) if has_property(file, property.as_bytes()) => {
             Ok(Columns::Property(property.as_bytes()))
         }
         property if is_simple_folding(file, property) => Ok(Columns::SimpleFolding),
-        Some(property) => columns_of_all(alloc, property, has_aliases, name, file),
+        Some(property) => match name_in_lines(aliases, file, property.as_bytes()) {
+            Some(own_name) => Ok(Columns::Property(own_name)),
+            None => {
+                let has_values = !aliases.values.is_empty();
+                columns_of_all(alloc, property, has_values, name, file)
+            }
+        },
         None => only_field(alloc, name, file),
     }
 }
@@ -210,7 +227,8 @@ fn columns<'a>(
     matches: &ArgMatches<'a>,
     kind: FileKind,
     name: &str,
-    file: &[u8],
+    aliases: &Aliases,
+    file: &'a [u8],
 ) -> Result<Columns<'a>, Fault> {
     if !has_values(file) {
         return Err(about(
@@ -238,22 +256,11 @@ fn columns<'a>(
                 Err(about(alloc, name, why))
             }
         },
-        _ => {
-            let has_aliases = matches.get_str("aliases").is_some();
-            columns_of_lines(alloc, property, has_aliases, name, file)
-        }
+        _ => columns_of_lines(alloc, property, aliases, name, file),
     }
 }
 
-/// Returns the bytes of the file of aliases, or none if the arguments name no such file.
-fn named_file(rt: &HostRuntime, matches: &ArgMatches<'_>) -> Result<Vec<u8>, Fault> {
-    match matches.get_str("aliases") {
-        Some(path) => text_at(rt, path),
-        None => Ok(Vec::new(rt.alloc())),
-    }
-}
-
-/// Returns a file of the Unicode Character Database, with the file of aliases that the arguments
+/// Returns a file of the Unicode Character Database, with the files of aliases that the arguments
 /// name. `name` is what it was read from.
 pub fn unicode_file<'f, 'a: 'f>(
     rt: &HostRuntime,
@@ -262,8 +269,9 @@ pub fn unicode_file<'f, 'a: 'f>(
     bytes: &'f [u8],
     kind: FileKind,
 ) -> Result<UnicodeFile<'f>, Fault> {
-    let columns = columns(rt.alloc(), matches, kind, name, bytes)?;
-    let aliases = named_file(rt, matches)?;
+    let aliases = named_aliases(rt, matches)?;
+    let columns = columns(rt.alloc(), matches, &aliases, kind, name, bytes)?;
+    expect_field(rt.alloc(), matches, columns, name, bytes)?;
     Ok(UnicodeFile {
         name,
         bytes,
@@ -273,13 +281,19 @@ pub fn unicode_file<'f, 'a: 'f>(
 }
 
 /// Returns the fault of a file that makes no table. `name` is what it was read from.
-pub fn unread(alloc: Global, name: &str, file: &[u8], fault: UnicodeFileFault) -> Fault {
+/// `numbering` is how its values become numbers.
+pub fn unread(
+    alloc: Global,
+    name: &str,
+    file: &[u8],
+    numbering: Numbering<'_>,
+    fault: UnicodeFileFault,
+) -> Fault {
     match fault {
         UnicodeFileFault::File(FileFault::Memory) => Fault::Memory,
         UnicodeFileFault::File(FileFault::Unfinished) => about(alloc, name, FileFault::Unfinished),
         UnicodeFileFault::File(FileFault::Line(number, fault)) => {
-            let line = line_at(file, number).unwrap_or(&[]);
-            said(line_message(alloc, name, number, fault.expected(), line))
+            said(fault_line(alloc, name, file, number, fault, numbering))
         }
         UnicodeFileFault::Build(fault) => unbuilt(alloc, name, file, fault),
     }
@@ -378,7 +392,7 @@ fn built_of_file(
             let place = line_with(file, numbering, value);
             Err(too_wide(alloc, matches, file.name, place, value, width))
         }
-        Err(fault) => Err(unread(alloc, file.name, file.bytes, fault)),
+        Err(fault) => Err(unread(alloc, file.name, file.bytes, numbering, fault)),
     }
 }
 

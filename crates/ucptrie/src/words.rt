@@ -1,6 +1,6 @@
 //! The arguments of the program.
 use clap::builder::ValueParser;
-use clap::{Arg, Command};
+use clap::{Arg, ArgAction, Command};
 use std::alloc::{AllocError, Global};
 
 /// The program's version, which is that of the file VERSION.
@@ -11,7 +11,9 @@ const VERSION: &str = "0.2.0";
 pub enum Place {
     /// `--id VALUE`, anywhere.
     Option,
-    /// The same, or this letter after one `-`.
+    /// The same, as often as needed.
+    Options,
+    /// `--id VALUE`, or this letter after one `-`.
     Short(char),
     /// One word, by its position.
     Word,
@@ -84,11 +86,12 @@ const FIELD: Argument = Argument {
     ..NUMBER
 };
 
-/// The file with the names of values.
+/// The files with the names of values and of properties.
 const ALIASES: Argument = Argument {
     id: "aliases",
+    place: Place::Options,
     value_name: &["FILE"],
-    help: "PropertyValueAliases.txt: the names of the property's values",
+    help: "PropertyValueAliases.txt: names of values; PropertyAliases.txt: names of properties",
     ..OPTION
 };
 
@@ -184,10 +187,7 @@ const BUILD: [Argument; 14] = [
         help: "What values are; names get numbers in order of first appearance",
         ..OPTION
     },
-    Argument {
-        help: "PropertyValueAliases.txt: the names of the property's values, in its order",
-        ..ALIASES
-    },
+    ALIASES,
     Argument {
         default: &["fast"],
         ..TYPE
@@ -424,6 +424,7 @@ fn arg_of<'a>(alloc: Global, row: &Argument) -> Arg<'a> {
     let argument = Arg::new(alloc, row.id)
         .required(row.required)
         .help(row.help);
+        Place::Options => argument.long(row.id).action(ArgAction::Append),
     let named = with_value_name(argument, row);
     let tested = with_value_parser(named, row);
     placed(with_default(tested, row), row)
