@@ -9,7 +9,7 @@ _ucptrie() {
     fi
     case $before in
         --as)
-            words='icu toml json c rust rust-static rows'
+            words='icu toml json c rust rust-static rows names'
             [ "${COMP_WORDS[1]}" != set ] || words='icu toml json c rust rows c-frozen rust-frozen'
             [ "${COMP_WORDS[1]}" != words ] || words='icu c rust rows' ;;
         --type) words='fast small' ;;

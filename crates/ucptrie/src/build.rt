@@ -2,9 +2,9 @@
 use crate::compressed::expect_lines;
 use crate::fault::{Fault, about, said};
 use crate::forms::is_made;
-use crate::static_trie::with_static;
+use crate::names::expect_names;
 use crate::tables::{form, number, trie_type, width};
-use crate::unicode_files::{build_file, column_option, named_kind, not_of_rows};
+use crate::unicode_files::{build_file, column_option, named_kind, not_of_rows, with_names};
 use crate::wide::{row_with, too_wide};
 use clap::ArgMatches;
 use icu_trie_core::header::TrieType;
@@ -91,8 +91,9 @@ fn build_rows(
     rows: &[u8],
 ) -> Result<Vec<u8>, Fault> {
     let options = options_of_rows(matches, rows);
-    match built(alloc, rows, options, form(matches)) {
-        Ok(bytes) => Ok(with_static(alloc, matches, bytes, options.width, &[])?),
+    let form = form(matches);
+    match built(alloc, rows, options, form) {
+        Ok(bytes) => Ok(with_names(alloc, matches, bytes, form, options.width, &[])?),
         Err(BuildFault::Width(value, width)) => {
             let place = row_with(rows, value);
             Err(too_wide(alloc, matches, name, place, value, width))
@@ -142,6 +143,10 @@ pub fn build(
             let why = "expected lines: ucptrie convert reads tables, and ucptrie set reads sets";
             Err(about(rt.alloc(), name, why))
         }
-        built => built,
+        Ok(bytes) => {
+            expect_names(rt.alloc(), matches, name, &bytes)?;
+            Ok(bytes)
+        }
+        Err(fault) => Err(fault),
     }
 }

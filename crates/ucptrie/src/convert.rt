@@ -1,6 +1,7 @@
 //! The command `convert`: a table in another form, or of another type, width or error value.
 use crate::build::unbuilt;
 use crate::fault::{Fault, about};
+use crate::names::{expect_names, is_list, say_many};
 use crate::offsets::start_of;
 use crate::tables::{file_in, form, number, table_of_property, trie_type, width};
 use crate::unicode_files::with_names;
@@ -57,10 +58,10 @@ fn converted(alloc: Global, name: &str, table: &Table, form: Form<'_>) -> Result
     }
 }
 
-/// Returns a table in a form, followed by the source of the names that its file has for its values,
-/// if the form is source. `name` is what the file was read from.
+/// Returns a table in a form, followed by the source of the names that its file has for its values
+/// if the form is source, or only the list of these names. `name` is what the file was read from.
 fn with_names_of_file(
-    alloc: Global,
+    rt: &HostRuntime,
     matches: &ArgMatches<'_>,
     name: &str,
     file: &ParsedFile<'_>,
@@ -68,27 +69,35 @@ fn with_names_of_file(
     width: ValueWidth,
 ) -> Result<Vec<u8>, Fault> {
     let form = form(matches);
-    if !matches!(form, Form::C(_) | Form::Rust(_)) {
-        return Ok(with_names(alloc, matches, bytes, form, width, &[])?);
+    if !matches!(form, Form::C(_) | Form::Rust(_)) && !is_list(matches) {
+        return Ok(with_names(rt.alloc(), matches, bytes, form, width, &[])?);
     }
-    match property_names(alloc, file, matches.get_str("property")) {
-        Ok(names) => Ok(with_names(alloc, matches, bytes, form, width, names.as_slice())?),
-        Err(NamesFault::Memory) => Err(Fault::Memory),
-        Err(fault) => Err(about(alloc, name, fault)),
-    }
+    let names = match property_names(rt.alloc(), file, matches.get_str("property")) {
+        Ok(names) => names,
+        Err(NamesFault::Memory) => return Err(Fault::Memory),
+        Err(fault) => return Err(about(rt.alloc(), name, fault)),
+    };
+    say_many(rt, matches, name, names.as_slice())?;
+    Ok(with_names(rt.alloc(), matches, bytes, form, width, names.as_slice())?)
 }
 
 /// Returns the table of a file in the form that the arguments name. `name` is what the file was
 /// read from.
 pub fn convert(
-    alloc: Global,
+    rt: &HostRuntime,
     matches: &ArgMatches<'_>,
     name: &str,
     bytes: &[u8],
 ) -> Result<Vec<u8>, Fault> {
-    let file = file_in(alloc, name, bytes, start_of(matches))?;
-    let table = table_of_property(alloc, matches, name, &file)?;
-    let table = changed(alloc, matches, name, table)?;
-    let bytes = converted(alloc, name, &table, form(matches))?;
-    with_names_of_file(alloc, matches, name, &file, bytes, table.width)
+    let file = file_in(rt.alloc(), name, bytes, start_of(matches))?;
+    let table = table_of_property(rt.alloc(), matches, name, &file)?;
+    let table = changed(rt.alloc(), matches, name, table)?;
+    let bytes = if is_list(matches) {
+        Vec::new(rt.alloc())
+    } else {
+        converted(rt.alloc(), name, &table, form(matches))?
+    };
+    let whole = with_names_of_file(rt, matches, name, &file, bytes, table.width)?;
+    expect_names(rt.alloc(), matches, name, &whole)?;
+    Ok(whole)
 }

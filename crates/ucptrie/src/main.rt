@@ -99,7 +99,7 @@ fn made(
         "build" => build(rt, matches, name, file),
         "set" => set(rt, matches, name, file),
         "words" => word_list(rt.alloc(), matches, name, file),
-        _ => convert(rt.alloc(), matches, name, file),
+        _ => convert(rt, matches, name, file),
     }
 }
 

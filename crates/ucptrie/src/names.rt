@@ -1,8 +1,13 @@
-//! Names in source.
+//! Names in source, and lists of the names of values.
+use crate::choice::{UnicodeFile, numbering};
 use crate::fault::{Fault, about};
+use crate::streams::say;
 use clap::ArgMatches;
-use std::alloc::Global;
+use std::alloc::{AllocError, Global};
+use ucd_files::choice::{Choice, ValueKind};
+use ucd_files::names::{Name, Numbering};
 use ucptrie_tables::source::is_name;
+use ucptrie_tables::value_names::MOST;
 
 /// The words that cannot name a module in Rust: its keywords, including the reserved ones, and `_`.
 static RESERVED_BY_RUST: [&str; 53] = [
@@ -51,4 +56,64 @@ pub fn test_name(alloc: Global, matches: &ArgMatches<'_>) -> Result<(), Fault> {
         Some(why) => Err(about(alloc, name, why)),
         None => Ok(()),
     }
+}
+
+/// Returns whether the arguments ask for the list of the names of values.
+pub fn is_list(matches: &ArgMatches<'_>) -> bool {
+    matches.get_str("as") == Some("names")
+}
+
+/// Tests whether a list of names has any, if the arguments ask for one. `name` is what the values
+/// were read from.
+pub fn expect_names(
+    alloc: Global,
+    matches: &ArgMatches<'_>,
+    name: &str,
+    bytes: &[u8],
+) -> Result<(), Fault> {
+    if is_list(matches) && bytes.is_empty() {
+        let why = "expected values with names for --as names, found only numbers";
+        return Err(about(alloc, name, why));
+    }
+    Ok(())
+}
+
+/// Returns the line about names of which source has no enum.
+fn many_line(alloc: Global, name: &str, count: usize) -> Result<String, AllocError> {
+    let mut line = String::new(alloc);
+    write!(
+        line,
+        "{name}: {count} names of values, and an enum has at most {MOST}: "
+    )?;
+    line.push_str("the source has no names; --as names writes them")?;
+    Ok(line)
+}
+
+/// Says on standard error that source has no enum, if the arguments ask for source and the values
+/// have too many names. `name` is what they were read from.
+pub fn say_many(
+    rt: &HostRuntime,
+    matches: &ArgMatches<'_>,
+    name: &str,
+    names: &[Name<'_>],
+) -> Result<(), AllocError> {
+    let is_source = matches!(matches.get_str("as"), Some("c" | "rust" | "rust-static"));
+    if is_source && names.len() > MOST {
+        say(rt, &many_line(rt.alloc(), name, names.len())?);
+    }
+    Ok(())
+}
+
+/// Says on standard error that source has no enum of the values of a file, as [`say_many`] does.
+pub fn say_many_in(
+    rt: &HostRuntime,
+    matches: &ArgMatches<'_>,
+    file: &UnicodeFile<'_>,
+    choice: &Choice<'_>,
+) -> Result<(), AllocError> {
+    let is_binary = matches!(choice.kind, ValueKind::Binary);
+    if matches!(numbering(matches, file, choice), Numbering::Names(_, _)) && !is_binary {
+        return say_many(rt, matches, file.name, choice.names.as_slice());
+    }
+    Ok(())
 }

@@ -6,6 +6,7 @@ use crate::fault::{Fault, about, about_arguments, said};
 use crate::fractions::say_fractions;
 use crate::line_faults::fault_line;
 use crate::missing::{default_of, test_numbers, test_own_names};
+use crate::names::{is_list, say_many_in};
 use crate::overlap::overlap;
 use crate::properties::{expect_field, has_unihan_property, missing_property};
 use crate::static_trie::{is_static, with_static};
@@ -21,6 +22,7 @@ use ucd_files::names::{Name, Numbering, is_same_name};
 use ucd_files::statement::Columns;
 use ucd_files::title::title_of;
 use ucptrie_tables::fault::{BuildFault, UnicodeFileFault};
+use ucptrie_tables::names_list::names_list;
 use ucptrie_tables::table::TableOptions;
 use ucptrie_tables::unicode_file::table_of_file;
 use ucptrie_tables::value_names::names_source;
@@ -84,8 +86,6 @@ fn is_named(short: &str, long: &str, property: &[u8]) -> bool {
     is_same_name(short.as_bytes(), property) || is_same_name(long.as_bytes(), property)
 }
 
-/// Returns the field of a property in `UnicodeData.txt`. `name` is what the file was read from.
-fn unicode_data_field(alloc: Global, name: &str, property: Option<&str>) -> Result<usize, Fault> {
 /// Returns whether two texts are names of one property: the same name, or the short and the long
 /// name of a property of `UnicodeData.txt`.
 pub fn are_names_of_one(property: &[u8], name: &[u8]) -> bool {
@@ -97,6 +97,8 @@ pub fn are_names_of_one(property: &[u8], name: &[u8]) -> bool {
     is_same_name(property, name)
 }
 
+/// Returns the field of a property in `UnicodeData.txt`. `name` is what the file was read from.
+fn unicode_data_field(alloc: Global, name: &str, property: Option<&str>) -> Result<usize, Fault> {
     let Some(property) = property else {
         let why = "the file has many properties: name one by --property or --field";
         return Err(about(alloc, name, why));
@@ -225,9 +227,9 @@ fn columns_of_unihan<'a>(
 fn columns<'a>(
     alloc: Global,
     matches: &ArgMatches<'a>,
+    aliases: &Aliases,
     kind: FileKind,
     name: &str,
-    aliases: &Aliases,
     file: &'a [u8],
 ) -> Result<Columns<'a>, Fault> {
     if !has_values(file) {
@@ -313,7 +315,7 @@ fn push_names(
 }
 
 /// Returns a table in a form, followed by the source of these names and by the static trie that the
-/// arguments ask for.
+/// arguments ask for, or only the list of the names if they ask for that.
 pub fn with_names(
     alloc: Global,
     matches: &ArgMatches<'_>,
@@ -322,6 +324,9 @@ pub fn with_names(
     width: ValueWidth,
     names: &[Name<'_>],
 ) -> Result<Vec<u8>, AllocError> {
+    if is_list(matches) {
+        return names_list(alloc, names);
+    }
     let mut bytes = bytes;
     if !is_static(matches) {
         push_names(alloc, &mut bytes, form, width, names)?;
@@ -419,5 +424,6 @@ pub fn build_file(
     let file = unicode_file(rt, matches, name, bytes, kind)?;
     let choice = choice_of_file(rt, matches, &file)?;
     say_fractions(rt, matches, &file, &choice)?;
+    say_many_in(rt, matches, &file, &choice)?;
     built_of_file(rt.alloc(), matches, &file, &choice)
 }

@@ -105,9 +105,18 @@ const OFFSET: Argument = Argument {
 /// The form in which a table is written.
 const FORM: Argument = Argument {
     id: "as",
-    values: ValueParser::Names(&["icu", "toml", "json", "c", "rust", "rust-static", "rows"]),
+    values: ValueParser::Names(&[
+        "icu",
+        "toml",
+        "json",
+        "c",
+        "rust",
+        "rust-static",
+        "rows",
+        "names",
+    ]),
     required: true,
-    help: "The output form",
+    help: "The output form; names: lines NUMBER;NAME. An enum in c, rust has at most 4096 names",
     ..OPTION
 };
 
@@ -231,6 +240,7 @@ const WORDS: [Argument; 6] = [
     },
     Argument {
         values: ValueParser::Names(&["icu", "c", "rust", "rows"]),
+        help: "The output form",
         ..FORM
     },
     Argument {
@@ -322,6 +332,7 @@ const SET: [Argument; 11] = [
             "c-frozen",
             "rust-frozen",
         ]),
+        help: "The output form",
         ..FORM
     },
     Argument {
@@ -413,6 +424,7 @@ fn with_default<'a>(argument: Arg<'a>, row: &Argument) -> Arg<'a> {
 fn placed<'a>(argument: Arg<'a>, row: &Argument) -> Arg<'a> {
     match row.place {
         Place::Option => argument.long(row.id),
+        Place::Options => argument.long(row.id).action(ArgAction::Append),
         Place::Short(letter) => argument.long(row.id).short(letter),
         Place::Word => argument,
         Place::Words => argument.num_args(1..),
@@ -424,7 +436,6 @@ fn arg_of<'a>(alloc: Global, row: &Argument) -> Arg<'a> {
     let argument = Arg::new(alloc, row.id)
         .required(row.required)
         .help(row.help);
-        Place::Options => argument.long(row.id).action(ArgAction::Append),
     let named = with_value_name(argument, row);
     let tested = with_value_parser(named, row);
     placed(with_default(tested, row), row)

@@ -3,6 +3,7 @@ pub mod Comparison
 pub mod Differences
 pub mod Files
 pub mod Inside
+pub mod NamesList
 pub mod NamesSource
 pub mod OtherToml
 pub mod Properties

@@ -22,6 +22,7 @@
 //!   of a trie as numbers in a text
 //! - `toml_text`: a table in TOML
 //! - `value_names`: names of values in C and in Rust; `static_source`: a static trie in Rust
+//! - `names_list`: names of values as lines `NUMBER;NAME`
 //! - `fault`: why a table can't be made, written or read
 #![tactic(auto)]
 
@@ -45,6 +46,7 @@ pub mod compare;
 pub mod diff;
 pub mod explain;
 pub mod fault;
+pub mod names_list;
 pub mod other_toml;
 pub mod parsed;
 pub mod properties;
