@@ -5,7 +5,7 @@ use crate::streams::{text_at, without_mark};
 use crate::unicode_files::are_names_of_one;
 use clap::ArgMatches;
 use std::alloc::{AllocError, Global};
-use ucd_files::fields::{field, has_field};
+use ucd_files::fields::field;
 use ucd_files::names::is_same_name;
 use ucd_files::title::title_of;
 use ucd_files::value_names::ValueNames;
@@ -60,12 +60,11 @@ pub fn named_aliases(rt: &HostRuntime, matches: &ArgMatches<'_>) -> Result<Alias
 
 /// Returns whether one of the fields of a line is this name.
 fn has_name(content: &[u8], name: &[u8]) -> bool {
-    let mut n = 0usize;
-    while has_field(n, content) {
+    let last = content.iter().filter(|byte| **byte == b';').count();
+    for n in 0..=last {
         if is_same_name(field(n, content), name) {
             return true;
         }
-        n += 1;
     }
     false
 }

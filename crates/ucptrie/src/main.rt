@@ -104,7 +104,7 @@ fn made(
 }
 
 /// Returns whether the input of a command may be binary and start with any bytes: the arguments say
-/// that it is a serialized set or units, or where its trie starts.
+/// that it is a serialized set or units, or give the offset of its trie.
 fn may_be_binary(command: &str, matches: &ArgMatches<'_>) -> bool {
     match (command, matches.get_str("format")) {
         ("set", Some("serialized")) | ("words", Some("icu")) => true,

@@ -1,5 +1,5 @@
 -- The names of values as lines `NUMBER;NAME`.
-use Rattle.std.specs.Prelude.{ℕ, Bool, false, Option, Some, None, List, [], ◌∷◌, ◌++◌, codes, decimal, nat_le, if◌then◌else◌}
+use Rattle.std.specs.Prelude.{ℕ, Bool, false, Option, Some, None, List, [], ◌++◌, codes, decimal, nat_le, if◌then◌else◌}
 use Rattle.std.specs.Borrow.{Bor}
 use Rattle.std.specs.BTreeMap.{insert_entry, is_at}
 use Rattle.std.specs.List.{flat_map, fold}
@@ -18,8 +18,8 @@ abbrev pub is_as_long : Option (Bor (List ℕ)) → Name → Bool
 is_as_long None name = false
 is_as_long (Some text) name = nat_le (name_length name.text.now) (name_length text.now)
 
--- The entries with a name: its number has it from now on, unless the number has one that is as long.
--- So of several names of a number the longest one stays, and of several of these the first.
+-- The entries with a name: its number has it from now on, unless the number has one that is as
+-- long. So of several names of a number the longest one stays, and of several of these the first.
 abbrev pub with_longest : Entries → Name → Entries
 with_longest entries name = if is_as_long (lookup (is_at (nat_cmp name.number)) entries) name
     then entries else insert_entry nat_cmp entries name.number name.text

@@ -1,4 +1,4 @@
-//! The names of values as lines `NUMBER;NAME`, for whoever reads a table without source.
+//! The names of values as lines `NUMBER;NAME`, for users of a table in a form without names.
 ghost use Rattle.std.specs.Prelude.{◌≡◌, ◌++◌, [], IfOk, OnOk};
 ghost use Rattle.std.specs.List.{fold};
 ghost use Rattle.ucptrie_tables.specs.NamesList.{named_line, names_list, with_longest};
