@@ -1,12 +1,13 @@
 -- What the values of a file are, and how they become numbers. Names of values are pairs of a text
 -- and a number.
-use Rattle.std.specs.Prelude.{ℕ, zero, ◌==◌, ◌&&◌, ◌||◌, nat_le, not, Bool, true, false, List, [], ◌∷◌, ◌++◌, codes, length, map, Option, Some, if◌then◌else◌, unwrap_or}
-use Rattle.std.specs.List.{filter_map, list_all, list_any}
+use Rattle.std.specs.Prelude.{ℕ, zero, suc, ◌==◌, ◌&&◌, ◌||◌, nat_eq, nat_le, not, Bool, true, false, List, [], ◌∷◌, ◌++◌, codes, length, map, Option, Some, None, if◌then◌else◌, unwrap_or}
+use Rattle.std.specs.List.{filter_map, list_all, list_any, starts_with}
 use Rattle.std.specs.Option.{option_and_then}
 use Rattle.std.specs.Str.Lines.{lines}
 use Rattle.ucptab_table.specs.TableText.{hexadecimal}
-use Rattle.ucd_files.specs.Kinds.{has_code_point, has_decimal, says_missing}
+use Rattle.ucd_files.specs.Kinds.{has_code_point, has_decimal, has_leading_zero, says_missing}
 use Rattle.ucd_files.specs.Names.{is_same_name, number_named, short_decimal, short_number}
+use Rattle.ucd_files.specs.Titles.{title_of}
 use Rattle.ucd_files.specs.ValueNames.{names_after, text_of_line}
 use Rattle.ucd_files.specs.declared.choice.NumberingKind.{NumberingKind}
 use Rattle.ucd_files.specs.declared.choice.NumberingKind.TheVariants.{Decimal, Hexadecimal, One, Names}
@@ -16,7 +17,7 @@ use Rattle.ucd_files.specs.declared.names.Matching.{Matching}
 use Rattle.ucd_files.specs.declared.names.Matching.TheVariants.{Exact, Loose}
 use Rattle.ucd_files.specs.declared.names.Name.{Name}
 use Rattle.ucd_files.specs.declared.statement.Columns.{Columns}
-use Rattle.ucd_files.specs.declared.statement.Columns.TheVariants.{Field, Property, SimpleFolding, UnicodeData}
+use Rattle.ucd_files.specs.declared.statement.Columns.TheVariants.{Field, Property, SimpleFolding, UnicodeData, Unihan}
 
 -- ---- What the values are
 
@@ -63,7 +64,7 @@ is_binary (Property property) (first ∷ second ∷ []) =
     || is_no second.0 && is_same_name first.0 property.now
 is_binary columns names = false
 
--- What values are that only the file itself names.
+-- What values are that only the file itself names. No standard says it, so this is a heuristic.
 unfoldable pub own_kind : Columns → List (List ℕ × ℕ) → ValueKind
 own_kind columns names = if is_set columns names then Set
     else (if is_binary columns names then Binary else Own)
@@ -114,16 +115,41 @@ is_mapping SimpleFolding = true
 is_mapping (UnicodeData n) = nat_le 12 n && nat_le n 14
 is_mapping columns = false
 
--- The kind of numbering that the values of a file show. The lines of a set have the number 1. True,
--- false and aliases are names. Other texts are decimal numbers, or else code points, if all of them
--- are, and otherwise names.
+-- A file in which field 1 of each line is a code point: the mirrored character, the paired bracket,
+-- the unified ideograph.
+unfoldable pub is_pair_title : List ℕ → Bool
+is_pair_title title = starts_with nat_eq title (codes "BidiMirroring")
+    || (starts_with nat_eq title (codes "BidiBrackets")
+    || starts_with nat_eq title (codes "EquivalentUnifiedIdeograph"))
+
+-- The same for a title that may not be there.
+abbrev pub is_some_pair_title : Option (List ℕ) → Bool
+is_some_pair_title (Some title) = is_pair_title title
+is_some_pair_title None = false
+
+-- The values are the code points in field 1 of such a file.
+unfoldable pub is_pair_file : Columns → List ℕ → Bool
+is_pair_file (Field (suc zero)) input = is_some_pair_title (title_of input)
+is_pair_file columns input = false
+
+-- All values are code points in 4 to 6 digits, and one starts with `0`, as no decimal number does.
+unfoldable pub are_marked : Columns → List ℕ → Bool
+are_marked (Unihan name) input = false
+are_marked columns input = list_all (has_code_point columns) (lines input)
+    && list_any (has_leading_zero columns) (lines input)
+
+-- The kind of numbering that the values of a file show. No standard says it, so apart from the
+-- files of code points this is a heuristic, and the user can name the numbering. The lines of a set
+-- have the number 1. True, false and aliases are names. Other texts are code points, if they are
+-- marked as such, or decimal numbers, or else code points, if all of them are, and otherwise names.
 abbrev pub numbering_by_kind : Columns → ValueKind → List ℕ → NumberingKind
 numbering_by_kind columns Set input = One
 numbering_by_kind columns Binary input = Names
 numbering_by_kind columns Aliases input = Names
 numbering_by_kind columns Own input =
-    if list_all (has_decimal columns) (lines input) then Decimal
-    else (if list_all (has_code_point columns) (lines input) then Hexadecimal else Names)
+    if is_pair_file columns input || are_marked columns input then Hexadecimal
+    else (if list_all (has_decimal columns) (lines input) then Decimal
+    else (if list_all (has_code_point columns) (lines input) then Hexadecimal else Names))
 
 -- The kind of numbering that the file shows.
 unfoldable pub shown_numbering : Columns → ValueKind → List ℕ → NumberingKind

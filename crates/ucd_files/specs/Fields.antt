@@ -1,6 +1,6 @@
 -- The fields of a line of a file of the Unicode Character Database. Bytes are numbers, as 59 for
 -- `;` and 9 for a tab.
-use Rattle.std.specs.Prelude.{ℕ, zero, suc, Bool, ◌==◌, nat_eq, nat_le, List, drop, Option, Some, None, codes, if◌then◌else◌}
+use Rattle.std.specs.Prelude.{ℕ, zero, suc, Bool, ◌==◌, ◌||◌, nat_eq, nat_le, List, drop, Option, Some, None, codes, if◌then◌else◌}
 use Rattle.std.specs.List.{count_by, starts_with, ends_with}
 use Rattle.ucptab_table.specs.TableText.{after, before, content_of, trimmed}
 
@@ -40,3 +40,8 @@ ends_in_first content = ends_with nat_eq (field 1 content) (codes ", First>")
 -- The name in field 1 ends in `, Last>`.
 unfoldable pub ends_in_last : List ℕ → Bool
 ends_in_last content = ends_with nat_eq (field 1 content) (codes ", Last>")
+
+-- The text ends as the name of the first or the last code point of a range in two lines.
+unfoldable pub marks_range : List ℕ → Bool
+marks_range text =
+    ends_with nat_eq text (codes ", First>") || ends_with nat_eq text (codes ", Last>")

@@ -3,11 +3,14 @@ use Rattle.std.specs.Prelude.{ℕ, List, ◌++◌, codes, decimal}
 use Rattle.ucd_files.specs.declared.fault.FileFault.{FileFault}
 use Rattle.ucd_files.specs.declared.fault.FileFault.TheVariants.{Line, Unfinished, Memory}
 use Rattle.ucd_files.specs.declared.fault.LineFault.{LineFault}
-use Rattle.ucd_files.specs.declared.fault.LineFault.TheVariants.{Unpaired, NotCodePoints, CodePoint, Reversed, NoValue, UnknownValue}
+use Rattle.ucd_files.specs.declared.fault.LineFault.TheVariants.{Unpaired, SplitRange, NotCodePoints, CodePoint, Reversed, NoValue, UnknownValue}
 
 -- What the test of a line that failed expects.
 abbrev pub expected_text : LineFault → List ℕ
-expected_text Unpaired = codes "`<.., First>` and `<.., Last>` in two lines in a row"
+expected_text Unpaired =
+    codes "a line `<NAME, First>`, then a line `<NAME, Last>` with the same value"
+expected_text SplitRange =
+    codes "HEX..HEX for a range: only UnicodeData.txt has it in two lines"
 expected_text NotCodePoints = codes "HEX or HEX..HEX before the first `;`"
 expected_text CodePoint = codes "code points up to 10FFFF"
 expected_text Reversed = codes "a range whose end is not below its start"

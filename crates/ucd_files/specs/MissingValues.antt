@@ -30,7 +30,8 @@ first_other names others =
     option_map (λ name. name.0) (find (λ name. not (is_known others name.0)) names)
 
 -- The first text that only `@missing` lines have, if these have at least two texts. A file with
--- such a text, as DerivedBidiClass.txt, has long names there and short ones in other lines.
+-- such a text, as DerivedBidiClass.txt, has long names there and short ones in other lines. This
+-- is a heuristic: only the file of aliases has all names of a value.
 unfoldable pub only_missing : Columns → List ℕ → Option (List ℕ)
 only_missing columns input = if nat_le 2 (length (texts_in true columns input))
     then first_other (texts_in true columns input) (texts_in false columns input) else None

@@ -1,23 +1,35 @@
 -- What a line says, and what a file says.
-use Rattle.std.specs.Prelude.{ℕ, ◌==◌, ◌||◌, ◌∷◌, false, nat_eq, nat_le, nat_lt, Bool, true, List, [], length, codes, Option, Some, None, Result, Ok, Err, if◌then◌else◌}
+use Rattle.std.specs.Prelude.{ℕ, ◌==◌, ◌&&◌, ◌||◌, not, ◌∷◌, false, nat_eq, nat_le, nat_lt, Bool, true, List, [], length, codes, Option, Some, None, Result, Ok, Err, if◌then◌else◌}
 use Rattle.std.specs.List.{starts_with}
 use Rattle.std.specs.Option.{option_and_then}
-use mathlib.Core.Bool.{beq}
 use Rattle.icu_zerovec.specs.CodePoints.{code_point_limit}
 use Rattle.icu_trie_builder.specs.declared.writes.Write.{Write}
-use Rattle.ucptab_table.specs.TableText.{code_points_of, content_of, first_of, last_of, write_at}
+use Rattle.ucptab_table.specs.TableText.{after, before, code_points_of, content_of, first_of, last_of, trimmed, write_at}
 use Rattle.ucptab_table.specs.declared.rows.CodePoints.{CodePoints}
 use Rattle.ucptab_table.specs.declared.rows.CodePoints.TheVariants.{Single, Span}
-use Rattle.ucd_files.specs.Fields.{after_mark, column, ends_in_first, ends_in_last, field, has_field, missing_of}
-use Rattle.ucd_files.specs.Names.{is_same_name, number_of}
+use Rattle.ucd_files.specs.Fields.{after_mark, column, ends_in_first, ends_in_last, field, has_field, marks_range, missing_of}
+use Rattle.ucd_files.specs.Names.{is_match, is_same_name, number_of}
 use Rattle.ucd_files.specs.declared.fault.LineFault.{LineFault}
-use Rattle.ucd_files.specs.declared.fault.LineFault.TheVariants.{Unpaired, NotCodePoints, CodePoint, Reversed, NoValue, UnknownValue}
+use Rattle.ucd_files.specs.declared.fault.LineFault.TheVariants.{Unpaired, SplitRange, NotCodePoints, CodePoint, Reversed, NoValue, UnknownValue}
+use Rattle.ucd_files.specs.declared.names.Matching.TheVariants.{Exact}
 use Rattle.ucd_files.specs.declared.names.Numbering.{Numbering}
 use Rattle.ucd_files.specs.declared.names.Numbering.TheVariants.{One}
 use Rattle.ucd_files.specs.declared.statement.Columns.{Columns}
 use Rattle.ucd_files.specs.declared.statement.Columns.TheVariants.{Field, Property, SimpleFolding, UnicodeData, Unihan}
 use Rattle.ucd_files.specs.declared.statement.Statement.{Statement}
 use Rattle.ucd_files.specs.declared.statement.Statement.TheVariants.{Missing, Explicit}
+
+-- ---- Content
+
+-- The content of a line of Unihan: only a line that starts with `#` is a comment, since values can
+-- have a `#`.
+abbrev pub unihan_content : List ℕ → List ℕ
+unihan_content line = if starts_with nat_eq line (codes "#") then [] else trimmed line
+
+-- The content of a line: what comes before `#`, and in a file of Unihan the whole line.
+unfoldable pub content_in : Columns → List ℕ → List ℕ
+content_in (Unihan name) line = unihan_content line
+content_in columns line = content_of line
 
 -- ---- Values
 
@@ -34,6 +46,13 @@ some_text text = if length text == 0 then None else Some text
 abbrev pub field_text : ℕ → List ℕ → Option (List ℕ)
 field_text n content = if has_field n content then some_text (field n content) else Some []
 
+-- The value of the property in field 1: field 2, or the property itself if the line has no field 2,
+-- as in PropList.txt. An empty field 2 is a value of its own, as the empty NFKC_CF of 00AD.
+unfoldable pub property_value : List ℕ → List ℕ
+property_value content = if has_field 2 content
+    then (if length (field 2 content) == 0 then codes "<empty>" else field 2 content)
+    else field 1 content
+
 -- The status of a mapping of the simple case folding in CaseFolding.txt: `C` (common) or `S`
 -- (simple).
 unfoldable pub is_simple : List ℕ → Bool
@@ -45,7 +64,7 @@ is_simple status = false
 unfoldable pub value_text : Columns → List ℕ → Option (List ℕ)
 value_text (Field n) content = field_text n content
 value_text (Property name) content =
-    if is_same_name (field 1 content) name.now then Some (later_field content) else None
+    if is_same_name (field 1 content) name.now then Some (property_value content) else None
 value_text (UnicodeData n) content = field_text n content
 value_text (Unihan name) content =
     if is_same_name (column 1 content) name.now then Some (column 2 content) else None
@@ -82,11 +101,43 @@ checked_points (Some points) =
     else (if nat_lt (last_of points) (first_of points) then Err Reversed
     else Ok points))
 
+-- The two texts are equal.
+abbrev pub is_equal : List ℕ → List ℕ → Bool
+is_equal left right = is_match Exact left right
+
+-- Two lines of UnicodeData.txt name one range in field 1, before the comma of `, First>` and
+-- `, Last>`, and their values in field n are equal. Fields 0 and 1, the code point and the name,
+-- differ in the two lines.
+unfoldable pub is_same_range : ℕ → List ℕ → List ℕ → Bool
+is_same_range n previous content =
+    is_equal (before 44 (field 1 previous)) (before 44 (field 1 content))
+    && (nat_le n 1 || is_equal (field n previous) (field n content))
+
 -- In UnicodeData.txt, the line gives the last code point of a range exactly if the line before it
--- gives the first one.
+-- gives the first one of the same range (UAX #44, 4.2.3).
 unfoldable pub is_paired : Columns → List ℕ → List ℕ → Bool
-is_paired (UnicodeData n) previous content = beq (ends_in_first previous) (ends_in_last content)
+is_paired (UnicodeData n) previous content = if ends_in_last content
+    then ends_in_first previous && is_same_range n (content_of previous) content
+    else not (ends_in_first previous)
 is_paired columns previous content = true
+
+-- A name in field 1 or 2, or the comment, ends in `, First>` or `, Last>`.
+abbrev pub has_range_mark : List ℕ → Bool
+has_range_mark line = marks_range (field 1 (content_of line))
+    || (marks_range (field 2 (content_of line)) || marks_range (trimmed (after 35 line)))
+
+-- A line with these code points is one of the two lines of a range: it has one code point and such
+-- a mark.
+abbrev pub is_half : Option CodePoints → List ℕ → Bool
+is_half (Some (Single c)) line = has_range_mark line
+is_half points line = false
+
+-- The line is one of the two lines of a range in a file that has none by UAX #44, as EastAsianWidth
+-- and LineBreak of Unicode 3.0. No line of UnicodeData.txt and Unihan is.
+unfoldable pub is_split : Columns → List ℕ → Bool
+is_split (UnicodeData n) line = false
+is_split (Unihan name) line = false
+is_split columns line = is_half (code_points_of (field 0 (content_of line))) line
 
 -- The code points of a line. Those of the second line of a range start at the line before it.
 -- Unihan writes a code point after `U+`.
@@ -147,16 +198,18 @@ missing_statement columns numbering content =
 -- What a line says by its content, if it is no `@missing` line. Nothing if it has none.
 abbrev pub statement_in : Columns → Numbering → List ℕ → List ℕ → Option (List ℕ)
     → Result (Option Statement) LineFault
-statement_in columns numbering previous content (Some missing) =
+statement_in columns numbering previous line (Some missing) =
     missing_statement columns numbering missing
-statement_in columns numbering previous content None = if length content == 0 then Ok None
-    else explicit_statement columns numbering previous content
+statement_in columns numbering previous line None =
+    if length (content_in columns line) == 0 then Ok None
+    else (if is_split columns line then Err SplitRange
+    else explicit_statement columns numbering previous (content_in columns line))
 
 -- What a line says after the line `previous`: nothing if it is blank, a comment or about another
 -- property.
 unfoldable pub statement_of : Columns → Numbering → List ℕ → List ℕ
     → Result (Option Statement) LineFault
 statement_of columns numbering previous line =
-    if is_paired columns previous (content_of line)
-    then statement_in columns numbering previous (content_of line) (missing_of line)
+    if is_paired columns previous (content_in columns line)
+    then statement_in columns numbering previous line (missing_of line)
     else Err Unpaired

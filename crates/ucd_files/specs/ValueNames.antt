@@ -6,7 +6,7 @@ use Rattle.std.specs.Str.Lines.{lines}
 use Rattle.ucptab_table.specs.TableText.{after, content_of}
 use Rattle.ucd_files.specs.Fields.{field, missing_of}
 use Rattle.ucd_files.specs.Names.{is_match, is_same_name, short_decimal}
-use Rattle.ucd_files.specs.Statements.{later_field, missing_text, untagged, value_text}
+use Rattle.ucd_files.specs.Statements.{content_in, later_field, missing_text, untagged, value_text}
 use Rattle.ucd_files.specs.declared.names.Matching.TheVariants.{Exact}
 use Rattle.ucd_files.specs.declared.statement.Columns.{Columns}
 
@@ -73,7 +73,7 @@ unfoldable pub text_of_line : Columns → List ℕ → Option (List ℕ)
 text_of_line columns line = some_text (unfolded (missing_of line)) where
   unfolded : Option (List ℕ) → Option (List ℕ)
   unfolded (Some content) = missing_text columns content
-  unfolded None = value_text columns (content_of line)
+  unfolded None = value_text columns (content_in columns line)
 
   some_text : Option (List ℕ) → Option (List ℕ)
   some_text None = None

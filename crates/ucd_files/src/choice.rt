@@ -1,14 +1,15 @@
 //! What the values of a file are, and how they become numbers.
 ghost use Rattle.std.specs.Prelude.{◌≡◌, ◌++◌, ℕ, List, IfOk, map, true};
-ghost use Rattle.ucd_files.specs.Choices.{alias_kind, are_yes_or_no, binary_names, is_binary, is_names, is_no, is_set, is_yes_or_no, matching_of, names_of_kind, number_by, numbering_kind, own_kind, own_names, shown_numbering, with_number};
+ghost use Rattle.ucd_files.specs.Choices.{alias_kind, are_marked, are_yes_or_no, binary_names, is_binary, is_names, is_no, is_pair_file, is_pair_title, is_set, is_yes_or_no, matching_of, names_of_kind, number_by, numbering_kind, own_kind, own_names, shown_numbering, with_number};
 ghost use Rattle.ucd_files.specs.Names.{is_by_names, number_of, pairs_of};
 ghost use Rattle.ucd_files.specs.ValueNames.{alias_names};
 
 use crate::aliases::alias_names;
-use crate::kind::{are_code_points, are_decimal, has_missing_lines};
+use crate::kind::{are_code_points, are_decimal, has_missing_lines, have_leading_zero};
 use crate::names::{Matching, Name, Numbering, is_same_name};
 use crate::order::names_in_order;
 use crate::statement::Columns;
+use crate::title::title_of;
 use crate::value_names::ValueNames;
 use std::alloc::{AllocError, Global};
 
@@ -250,6 +251,39 @@ pub fn by_names<'n>(choice: &'n Choice<'n>) -> Numbering<'n>
     Numbering::Names(&choice.names, matching_of(choice.kind))
 }
 
+/// Returns whether the title is that of a file in which field 1 of each line is a code point.
+#[tactic(auto, unfolding(crate::specs::Choices::is_pair_title))]
+fn is_pair_title(title: &[u8]) -> bool
+    ensures { result ≡ is_pair_title title.now }
+{
+    title.starts_with(b"BidiMirroring".as_slice())
+        || title.starts_with(b"BidiBrackets".as_slice())
+        || title.starts_with(b"EquivalentUnifiedIdeograph".as_slice())
+}
+
+/// Returns whether the values are code points by the title of the file.
+#[tactic(auto, unfolding(crate::specs::Choices::is_pair_file))]
+pub fn is_pair_file(input: &[u8], columns: Columns<'_>) -> bool
+    ensures { result ≡ is_pair_file columns.entry input.now }
+{
+    match (columns, title_of(input)) {
+        (Columns::Field(1), Some(title)) => is_pair_title(title),
+        _ => false,
+    }
+}
+
+/// Returns whether the values look as code points do, and not as decimal numbers: all have 4 to 6
+/// hexadecimal digits, and one starts with `0`. Values of Unihan are no code points without `U+`.
+#[tactic(auto, unfolding(crate::specs::Choices::are_marked))]
+fn are_marked(input: &[u8], columns: Columns<'_>) -> bool
+    ensures { result ≡ are_marked columns.entry input.now }
+{
+    match columns {
+        Columns::Unihan(_) => false,
+        _ => are_code_points(input, columns) && have_leading_zero(input, columns),
+    }
+}
+
 /// Returns the kind of numbering that a file shows, whose values are of this kind.
 #[tactic(auto, unfolding(crate::specs::Choices::shown_numbering))]
 fn shown_numbering(input: &[u8], columns: Columns<'_>, kind: ValueKind) -> NumberingKind
@@ -259,6 +293,8 @@ fn shown_numbering(input: &[u8], columns: Columns<'_>, kind: ValueKind) -> Numbe
         (Columns::SimpleFolding | Columns::UnicodeData(12..=14), _) => NumberingKind::Hexadecimal,
         (_, ValueKind::Set) => NumberingKind::One,
         (_, ValueKind::Binary | ValueKind::Aliases) => NumberingKind::Names,
+        _ if is_pair_file(input, columns) => NumberingKind::Hexadecimal,
+        _ if are_marked(input, columns) => NumberingKind::Hexadecimal,
         _ if are_decimal(input, columns) => NumberingKind::Decimal,
         _ if are_code_points(input, columns) => NumberingKind::Hexadecimal,
         _ => NumberingKind::Names,

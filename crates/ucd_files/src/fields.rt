@@ -1,7 +1,7 @@
 //! The fields of a line.
 ghost use Rattle.std.specs.Prelude.{◌≡◌};
 ghost use Rattle.std.specs.Option.{option_map};
-ghost use Rattle.ucd_files.specs.Fields.{after_mark, column, ends_in_first, ends_in_last, field, has_field, missing_of, part};
+ghost use Rattle.ucd_files.specs.Fields.{after_mark, column, ends_in_first, ends_in_last, field, has_field, marks_range, missing_of, part};
 
 use ucptab_table::rows::{after, before, content_of, trimmed};
 
@@ -83,4 +83,13 @@ pub fn ends_in_last(content: &[u8]) -> bool
     ensures { result ≡ ends_in_last content.now }
 {
     field(1, content).ends_with(b", Last>".as_slice())
+}
+
+/// Returns whether a text ends as the name of the first or the last code point of a range in two
+/// lines: in `, First>` or `, Last>`.
+#[tactic(auto, unfolding(crate::specs::Fields::marks_range))]
+pub fn marks_range(text: &[u8]) -> bool
+    ensures { result ≡ marks_range text.now }
+{
+    text.ends_with(b", First>".as_slice()) || text.ends_with(b", Last>".as_slice())
 }

@@ -5,8 +5,9 @@ ghost use Rattle.std.specs.List.{list_all, list_any};
 ghost use Rattle.std.specs.Str.Lines.{lines};
 ghost use Rattle.ucptab_table.specs.TableText.{content_of};
 ghost use Rattle.ucd_files.specs.Fields.{field};
-ghost use Rattle.ucd_files.specs.Kinds.{first_content, has_code_point, has_decimal, has_missing_line, has_values, is_of_unihan, kind_of, says_missing};
+ghost use Rattle.ucd_files.specs.Kinds.{HasNoValue, first_content, has_code_point, has_decimal, has_fields, has_leading_zero, has_missing_line, has_values, is_of_unihan, kind_of, says_missing};
 ghost use Rattle.ucd_files.specs.Names.{is_same_name};
+ghost use Rattle.ucd_files.specs.declared.kind.FileKind.TheVariants.{CodePoints};
 
 use crate::fields::{after_mark, field, has_field, missing_of};
 use crate::names::is_same_name;
@@ -77,13 +78,29 @@ pub fn has_values(input: &[u8]) -> bool
     !first_content(input).is_empty() || has_missing_line(input)
 }
 
+/// Returns whether a line of a file has a field after its code points.
+fn has_fields(input: &[u8]) -> bool
+    ensures { result ≡ has_fields input.now }
+{
+    let mut rest = input;
+    while let Some((line, after)) = first_line(rest) {
+        if has_field(1, content_of(line)) {
+            return true;
+        }
+        rest = after;
+    }
+    false
+}
+
 /// Returns the kind of a file, by its first line with content. `UnicodeData.txt` has 14 semicolons
-/// in it. Other files of the Unicode Character Database start with a title. If their lines have one
-/// field, they are lists of code points. Files without a title are rows, unless they have an
-/// `@missing` line, or `has_properties` says that their lines have properties.
+/// in it. Other files of the Unicode Character Database start with a title. If no line has a second
+/// field, and none is an `@missing` line, they are lists of code points. Files without a title are
+/// rows, unless they have an `@missing` line, or `has_properties` says that their lines have
+/// properties.
 #[tactic(auto, unfolding(crate::specs::Kinds::kind_of))]
 pub fn kind_of(input: &[u8], has_properties: bool) -> FileKind
-    ensures { result ≡ kind_of has_properties input.now }
+    ensures kind { result ≡ kind_of has_properties input.now }
+    ensures no_value { result ≡ CodePoints → HasNoValue input.now }
 {
     let content = first_content(input);
     if content.iter().filter(|byte| **byte == b';').count() == 14 {
@@ -96,7 +113,7 @@ pub fn kind_of(input: &[u8], has_properties: bool) -> FileKind
     if !(has_title || has_properties || has_missing_line(input)) {
         return FileKind::Rows;
     }
-    if has_title && !has_field(1, content) {
+    if has_title && !has_fields(input) && !has_missing_line(input) {
         FileKind::CodePoints
     } else {
         FileKind::Properties
@@ -201,4 +218,29 @@ pub fn are_code_points(input: &[u8], columns: Columns<'_>) -> bool
         rest = after;
     }
     true
+}
+
+/// Returns whether a line has a value that starts with `0`.
+#[tactic(auto, unfolding(crate::specs::Kinds::has_leading_zero))]
+fn has_leading_zero(columns: Columns<'_>, line: &[u8]) -> bool
+    ensures { result ≡ has_leading_zero columns.entry line.now }
+{
+    match text_of_line(columns, line) {
+        Some(text) => text.starts_with(b"0".as_slice()),
+        None => false,
+    }
+}
+
+/// Returns whether a value in a file starts with `0`, as code points of 4 digits do.
+pub fn have_leading_zero(input: &[u8], columns: Columns<'_>) -> bool
+    ensures { result ≡ list_any (has_leading_zero columns.entry) (lines input.now) }
+{
+    let mut rest = input;
+    while let Some((line, after)) = first_line(rest) {
+        if has_leading_zero(columns, line) {
+            return true;
+        }
+        rest = after;
+    }
+    false
 }

@@ -8,11 +8,10 @@ ghost use Rattle.ucd_files.specs.Names.{pairs_of};
 
 use crate::fields::missing_of;
 use crate::names::Matching;
-use crate::statement::{Columns, missing_text, value_text};
+use crate::statement::{Columns, content_in, missing_text, value_text};
 use crate::value_names::ValueNames;
 use std::alloc::AllocError;
 use ucptab_table::input::first_line;
-use ucptab_table::rows::content_of;
 
 /// Returns the text of a line's value, if it has one that is not empty.
 #[tactic(auto, unfolding(crate::specs::ValueNames::text_of_line))]
@@ -21,7 +20,7 @@ pub fn text_of_line<'t>(columns: Columns<'_>, line: &'t [u8]) -> Option<&'t [u8]
 {
     let text = match missing_of(line) {
         Some(content) => missing_text(columns, content)?,
-        None => value_text(columns, content_of(line))?,
+        None => value_text(columns, content_in(columns, line))?,
     };
     if text.is_empty() {
         return None;
