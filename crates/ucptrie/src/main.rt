@@ -11,6 +11,7 @@ mod convert;
 mod fault;
 mod forms;
 mod fractions;
+mod groups;
 mod heading;
 mod line_faults;
 mod missing;

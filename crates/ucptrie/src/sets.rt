@@ -4,16 +4,18 @@ use crate::choice::UnicodeFile;
 use crate::compressed::expect_lines;
 use crate::fault::{Fault, about, about_arguments};
 use crate::forms::{is_json, is_toml};
+use crate::groups::numbers_in_group;
 use crate::missing::{default_of, test_numbers, test_own_names};
 use crate::names::name_in;
 use crate::offsets::{has_tries, start_of, starts_trie};
 use crate::streams::say;
 use crate::tables::{number, table_in};
 use crate::unicode_files::{
-    choice_of_file, column_option, named_kind, not_of_rows, unicode_file, unread,
+    choice_of_file, column_option, is_named, named_kind, not_of_rows, test_conflicts, unicode_file,
+    unread, why_no_default,
 };
 use clap::ArgMatches;
-use icu_invlist::codepointinvlist::CodePointInversionList;
+use icu_invlist::codepointinvlist::{CodePointInversionList, CodePointInversionListBuilder};
 use icu_invlist_binary::serialized::SerializedSetError;
 use icu_trie_core::header::TrieType;
 use std::alloc::{AllocError, Global};
@@ -21,6 +23,8 @@ use std::str;
 use ucd_files::choice::{Choice, ValueKind, by_names};
 use ucd_files::kind::{FileKind, kind_of};
 use ucd_files::names::{Matching, Numbering, is_same_name, number_of};
+use ucd_files::statement::Columns;
+use ucd_files::title::title_of;
 use ucd_files::value_names::ValueNames;
 use ucptrie_sets::fault::{SetFileFault, SetWriteFault, ValueSetFault};
 use ucptrie_sets::of_value::set_of_value;
@@ -34,6 +38,9 @@ use ucptrie_tables::width::ValueWidth;
 /// What is said of a file that says too little of code points without a line.
 const NO_DEFAULT: &str =
     "no line says which value the other code points have: make a table by build --default NUMBER";
+
+/// The number of the code points without a line, if the file gives them none: no value has it.
+const UNLISTED: u32 = u32::MAX;
 
 /// What a file is.
 #[derive(Clone, Copy)]
@@ -88,6 +95,26 @@ fn set_in_table(
     }
 }
 
+/// Returns the set of several values in a table. `name` is what the table was read from.
+fn union_in_table(
+    alloc: Global,
+    name: &str,
+    table: &Table,
+    values: &[u32],
+) -> Result<CodePointInversionList<'static>, Fault> {
+    let mut union = CodePointInversionListBuilder::new(alloc);
+    for value in values {
+        let set = set_in_table(alloc, name, table, *value)?;
+        if union.add_set(&set).is_err() {
+            return Err(Fault::Memory);
+        }
+    }
+    match union.build() {
+        Ok(set) => Ok(set),
+        Err(_) => Err(Fault::Memory),
+    }
+}
+
 /// Returns the value that the arguments ask for as a number, which is 1 if they ask for none.
 fn asked_number(alloc: Global, matches: &ArgMatches<'_>) -> Result<u32, Fault> {
     let Some(text) = matches.get_str("value") else {
@@ -101,26 +128,68 @@ fn asked_number(alloc: Global, matches: &ArgMatches<'_>) -> Result<u32, Fault> {
 
 /// Returns the number of the value with this name: of the one that is written so, or else of the
 /// first one that is the same apart from case, spaces, `_` and `-`. No value has an empty name.
-fn number_named(alloc: Global, names: &ValueNames<'_>, text: &str) -> Result<u32, Fault> {
+fn number_named(names: &ValueNames<'_>, text: &str) -> Option<u32> {
+    if is_same_name(&[], text.as_bytes()) {
+        return None;
+    }
     let exact = number_of(Numbering::Names(names, Matching::Exact), text.as_bytes());
-    let loose = number_of(Numbering::Names(names, Matching::Loose), text.as_bytes());
-    match exact.or(loose) {
-        Some(number) if !is_same_name(&[], text.as_bytes()) => Ok(number),
-        _ => Err(about(alloc, text, "no value of the property has this name")),
+    exact.or(number_of(Numbering::Names(names, Matching::Loose), text.as_bytes()))
+}
+
+/// Returns whether the values of a file are general categories.
+fn has_categories(matches: &ArgMatches<'_>, file: &UnicodeFile<'_>) -> bool {
+    if matches!(file.columns, Columns::UnicodeData(2)) {
+        return true;
+    }
+    match (matches.get_str("property"), title_of(file.bytes)) {
+        (Some(property), _) => is_named("gc", "General_Category", property.as_bytes()),
+        (None, Some(title)) => title.starts_with(b"DerivedGeneralCategory".as_slice()),
+        (None, None) => false,
     }
 }
 
-/// Returns how the values of a file become numbers, and the number whose set is asked for.
-fn asked_value<'n>(
+/// Returns the number of the value with this name, or the numbers of the general categories in the
+/// group with this name.
+fn numbers_named(
+    alloc: Global,
+    matches: &ArgMatches<'_>,
+    file: &UnicodeFile<'_>,
+    names: &ValueNames<'_>,
+    text: &str,
+) -> Result<Vec<u32>, Fault> {
+    let mut numbers = Vec::new(alloc);
+    if let Some(number) = number_named(names, text) {
+        numbers.push(number)?;
+    } else if has_categories(matches, file) {
+        numbers = numbers_in_group(alloc, names.as_slice(), text, UNLISTED)?;
+    }
+    if numbers.is_empty() {
+        return Err(about(alloc, text, "no value of the property has this name"));
+    }
+    Ok(numbers)
+}
+
+/// Returns a list of the one value that means true, or of the lines of a set.
+fn only_one(alloc: Global) -> Result<Vec<u32>, AllocError> {
+    let mut numbers = Vec::new(alloc);
+    numbers.push(1)?;
+    Ok(numbers)
+}
+
+/// Returns how the values of a file become numbers, and the numbers whose set is asked for.
+fn asked_values<'n>(
     alloc: Global,
     matches: &ArgMatches<'_>,
     file: &UnicodeFile<'_>,
     choice: &'n Choice<'n>,
-) -> Result<(Numbering<'n>, u32), Fault> {
+) -> Result<(Numbering<'n>, Vec<u32>), Fault> {
     match (matches.get_str("value"), choice.kind) {
-        (Some(text), _) => Ok((by_names(choice), number_named(alloc, &choice.names, text)?)),
-        (None, ValueKind::Set) => Ok((Numbering::One, 1)),
-        (None, ValueKind::Binary) => Ok((by_names(choice), 1)),
+        (Some(text), _) => {
+            let numbers = numbers_named(alloc, matches, file, &choice.names, text)?;
+            Ok((by_names(choice), numbers))
+        }
+        (None, ValueKind::Set) => Ok((Numbering::One, only_one(alloc)?)),
+        (None, ValueKind::Binary) => Ok((by_names(choice), only_one(alloc)?)),
         _ => {
             let why = "expected --value, or by --property a property that is true or false";
             Err(about(alloc, file.name, why))
@@ -139,8 +208,11 @@ fn default_in_set(
 ) -> Result<u32, Fault> {
     match choice.kind {
         ValueKind::Binary => Ok(0),
-        ValueKind::Aliases => { default_of(alloc, matches, file, numbering, u32::MAX, NO_DEFAULT) }
-        ValueKind::Set | ValueKind::Own => Ok(u32::MAX),
+        ValueKind::Aliases => {
+            let how = why_no_default(file.columns, NO_DEFAULT);
+            default_of(alloc, matches, file, numbering, UNLISTED, how)
+        }
+        ValueKind::Set | ValueKind::Own => Ok(UNLISTED),
     }
 }
 
@@ -151,12 +223,13 @@ fn set_of_lines(
     file: &UnicodeFile<'_>,
     choice: &Choice<'_>,
 ) -> Result<CodePointInversionList<'static>, Fault> {
-    let (numbering, value) = asked_value(alloc, matches, file, choice)?;
+    let (numbering, values) = asked_values(alloc, matches, file, choice)?;
+    test_conflicts(alloc, file, numbering)?;
     test_own_names(alloc, file, choice)?;
     test_numbers(alloc, file, choice)?;
     let default = default_in_set(alloc, matches, file, choice, numbering)?;
     match table_of_file(alloc, file.bytes, file.columns, numbering, options(default)) {
-        Ok(table) => set_in_table(alloc, file.name, &table, value),
+        Ok(table) => union_in_table(alloc, file.name, &table, &values),
         Err(fault) => Err(unread(alloc, file.name, file.bytes, numbering, fault)),
     }
 }
@@ -304,6 +377,17 @@ fn asked_set(
     }
 }
 
+/// Says on standard error that no code point is in the set.
+fn say_empty(rt: &HostRuntime, name: &str) -> Result<(), AllocError> {
+    let mut line = String::new(rt.alloc());
+    write!(
+        line,
+        "{name}: the set is empty: no code point has the value"
+    )?;
+    say(rt, &line);
+    Ok(())
+}
+
 /// Returns the form that the arguments name.
 fn set_form<'a>(matches: &ArgMatches<'a>) -> SetForm<'a> {
     let name = name_in(matches);
@@ -328,6 +412,9 @@ pub fn set(
     file: &[u8],
 ) -> Result<Vec<u8>, Fault> {
     let set = asked_set(rt, matches, name, file)?;
+    if set.is_empty() {
+        say_empty(rt, name)?;
+    }
     match written(rt.alloc(), &set, set_form(matches)) {
         Ok(bytes) => Ok(bytes),
         Err(SetWriteFault::Memory) => Err(Fault::Memory),

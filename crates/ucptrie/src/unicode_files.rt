@@ -3,11 +3,11 @@ use crate::aliases::{Aliases, name_in_lines, named_aliases};
 use crate::build::{options, unbuilt};
 use crate::choice::{UnicodeFile, choice_of, numbering};
 use crate::fault::{Fault, about, about_arguments, said};
-use crate::fractions::say_fractions;
+use crate::fractions::{say_fractions, say_reading};
 use crate::line_faults::fault_line;
-use crate::missing::{default_of, test_numbers, test_own_names};
+use crate::missing::{default_of, say_missing, test_numbers, test_own_names};
 use crate::names::{is_list, say_many_in};
-use crate::overlap::overlap;
+use crate::overlap::{Conflict, conflict_of_texts, find_conflict};
 use crate::properties::{expect_field, has_unihan_property, missing_property};
 use crate::static_trie::{is_static, with_static};
 use crate::streams::say;
@@ -17,10 +17,14 @@ use clap::ArgMatches;
 use std::alloc::{AllocError, Global};
 use ucd_files::choice::{Choice, ValueKind};
 use ucd_files::fault::FileFault;
+use ucd_files::fields::has_field;
 use ucd_files::kind::{FileKind, has_missing_lines, has_property, has_values};
 use ucd_files::names::{Name, Numbering, is_same_name};
 use ucd_files::statement::Columns;
 use ucd_files::title::title_of;
+use ucptab_table::input::{first_line, line_at};
+use ucptab_table::message::line_message;
+use ucptab_table::rows::content_of;
 use ucptrie_tables::fault::{BuildFault, UnicodeFileFault};
 use ucptrie_tables::names_list::names_list;
 use ucptrie_tables::table::TableOptions;
@@ -82,7 +86,7 @@ static UNICODE_DATA: [(&str, &str, usize); 11] = [
 ];
 
 /// Returns whether a property has this short or this long name.
-fn is_named(short: &str, long: &str, property: &[u8]) -> bool {
+pub fn is_named(short: &str, long: &str, property: &[u8]) -> bool {
     is_same_name(short.as_bytes(), property) || is_same_name(long.as_bytes(), property)
 }
 
@@ -124,42 +128,107 @@ fn is_simple_folding(file: &[u8], property: Option<&str>) -> bool {
     }
 }
 
-/// Returns the line about a code point that has two lines. `how` says what to do.
-fn two_lines(alloc: Global, name: &str, code_point: u32, how: &str) -> Result<String, AllocError> {
+/// Returns the line about a code point that has two different values. `how` says what to do.
+fn two_values(
+    alloc: Global,
+    name: &str,
+    conflict: Conflict,
+    how: &str,
+) -> Result<String, AllocError> {
     let mut line = String::new(alloc);
-    write!(line, "{name}: {code_point:04X} has two lines: {how}")?;
+    let (number, code_point) = (conflict.second, conflict.code_point);
+    write!(
+        line,
+        "{name}:{number}: {code_point:04X} has another value in line "
+    )?;
+    let first = conflict.first;
+    write!(line, "{first}{how}")?;
     Ok(line)
 }
 
-/// Returns field 1, unless a code point has two lines. `name` is what the lines were read from.
+/// Returns the number of the first line of `Blocks.txt` in the style of Unicode 3.0, whose fields
+/// are the first code point, the last code point and the name. Returns `None` for other files.
+fn old_block(file: &[u8]) -> Option<u64> {
+    if !title_of(file).is_some_and(|title| title.starts_with(b"Blocks".as_slice())) {
+        return None;
+    }
+    let mut number = 0u64;
+    let mut rest = file;
+    while let Some((line, after)) = first_line(rest) {
+        rest = after;
+        number = number.saturating_add(1);
+        if has_field(2, content_of(line)) {
+            return Some(number);
+        }
+    }
+    None
+}
+
+/// Returns field 1, unless a code point has two values there. `name` is what the lines were read
+/// from.
 fn only_field(alloc: Global, name: &str, file: &[u8]) -> Result<Columns<'static>, Fault> {
-    match overlap(alloc, file)? {
-        Some(code_point) => {
-            let how = "name one property by --property";
-            Err(said(two_lines(alloc, name, code_point, how)))
+    if let Some(number) = old_block(file) {
+        let line = line_at(file, number).unwrap_or(&[]);
+        let form = "HEX..HEX before the first `;`";
+        return Err(said(line_message(alloc, name, number, form, line)));
+    }
+    match conflict_of_texts(alloc, file)? {
+        Some(conflict) => {
+            let how = ": if the file has several properties, name one by --property";
+            Err(said(two_values(alloc, name, conflict, how)))
         }
         None => Ok(Columns::Field(1)),
     }
 }
 
-/// Says on standard error that a code point has two lines, if the arguments name a field: the last
-/// line counts. `name` is what the lines were read from.
-fn say_overlap(
-    rt: &HostRuntime,
-    columns: Columns<'_>,
-    matches: &ArgMatches<'_>,
-    name: &str,
-    file: &[u8],
-) -> Result<(), AllocError> {
-    if !matches!(columns, Columns::Field(_)) || number(matches, "field").is_none() {
+/// Tests that no code point has two different values in the lines of a file.
+pub fn test_conflicts(
+    alloc: Global,
+    file: &UnicodeFile<'_>,
+    numbering: Numbering<'_>,
+) -> Result<(), Fault> {
+    match find_conflict(alloc, file.bytes, file.columns, numbering)? {
+        Some(conflict) => Err(said(two_values(alloc, file.name, conflict, ""))),
+        None => Ok(()),
+    }
+}
+
+/// Returns the file that has a field of `UnicodeData.txt` for all code points, if that file itself
+/// leaves some out: the names and numeric values of ranges, and the bidirectional class of
+/// unassigned code points.
+fn whole_file(columns: Columns<'_>) -> Option<&'static str> {
+    match columns {
+        Columns::UnicodeData(1) => Some("extracted/DerivedName.txt"),
+        Columns::UnicodeData(4) => Some("extracted/DerivedBidiClass.txt"),
+        Columns::UnicodeData(8) => Some("extracted/DerivedNumericValues.txt"),
+        _ => None,
+    }
+}
+
+/// Returns why a file does not say the value of code points without a line: `other`, unless another
+/// file has it.
+pub fn why_no_default(columns: Columns<'_>, other: &'static str) -> &'static str {
+    match columns {
+        Columns::UnicodeData(4) => {
+            "no line says which value the other code points have: extracted/DerivedBidiClass.txt does"
+        }
+        _ => other,
+    }
+}
+
+/// Says on standard error which file has a property of all code points, if the file that is read
+/// does not.
+fn say_whole_file(rt: &HostRuntime, file: &UnicodeFile<'_>) -> Result<(), AllocError> {
+    let Some(whole) = whole_file(file.columns) else {
         return Ok(());
-    }
-    if let Some(code_point) = overlap(rt.alloc(), file)? {
-        say(
-            rt,
-            &two_lines(rt.alloc(), name, code_point, "the last one counts")?,
-        );
-    }
+    };
+    let mut line = String::new(rt.alloc());
+    let name = file.name;
+    write!(
+        line,
+        "{name}: the values of some code points are only in {whole}"
+    )?;
+    say(rt, &line);
     Ok(())
 }
 
@@ -173,7 +242,7 @@ fn columns_of_all(
     file: &[u8],
 ) -> Result<Columns<'static>, Fault> {
     let columns = Columns::Field(1);
-    if overlap(alloc, file)?.is_some() {
+    if conflict_of_texts(alloc, file)?.is_some() {
         return Err(missing_property(alloc, columns, property, name, file));
     }
     if has_aliases {
@@ -370,6 +439,7 @@ fn options_of_file(
     };
     if needs_default && number(matches, "default").is_none() {
         let how = "no line says which value the other code points have: give --default NUMBER";
+        let how = why_no_default(file.columns, how);
         let default = default_of(alloc, matches, file, numbering, given.default, how)?;
         return Ok(TableOptions { default, ..given });
     }
@@ -384,6 +454,7 @@ fn built_of_file(
     choice: &Choice<'_>,
 ) -> Result<Vec<u8>, Fault> {
     let numbering = numbering(matches, file, choice);
+    test_conflicts(alloc, file, numbering)?;
     if matches!(numbering, Numbering::Names(_, _)) {
         test_own_names(alloc, file, choice)?;
     }
@@ -402,13 +473,14 @@ fn built_of_file(
 }
 
 /// Returns what the values of a file of the Unicode Character Database are. Says on standard error
-/// if code points have two lines.
+/// which other file has the whole property, and which `@missing` lines are not read.
 pub fn choice_of_file<'f>(
     rt: &HostRuntime,
     matches: &ArgMatches<'_>,
     file: &'f UnicodeFile<'f>,
 ) -> Result<Choice<'f>, Fault> {
-    say_overlap(rt, file.columns, matches, file.name, file.bytes)?;
+    say_whole_file(rt, file)?;
+    say_missing(rt, matches, file)?;
     choice_of(rt.alloc(), matches, file)
 }
 
@@ -425,5 +497,6 @@ pub fn build_file(
     let choice = choice_of_file(rt, matches, &file)?;
     say_fractions(rt, matches, &file, &choice)?;
     say_many_in(rt, matches, &file, &choice)?;
+    say_reading(rt, matches, &file, &choice)?;
     built_of_file(rt.alloc(), matches, &file, &choice)
 }
