@@ -1,9 +1,9 @@
 //! Input that is compressed: bzip2 is decompressed, and messages say what to do with other formats,
 //! and with line ends of old systems.
-use crate::fault::{Fault, about};
+use crate::fault::{Fault, about, said};
 use bzip2_reader::error::Bzip2Error;
 use bzip2_reader::stream::{decompressed, is_bzip2};
-use std::alloc::Global;
+use std::alloc::{AllocError, Global};
 
 /// The first bytes of files that are not text, and the message about each.
 static OTHERS: [(&[u8], &str); 6] = [
@@ -62,10 +62,39 @@ pub fn expect_line_feeds(alloc: Global, name: &str, text: &[u8]) -> Result<(), F
     Ok(())
 }
 
-/// Returns a fault if bytes that are to be lines start as in another format, or if the lines end in
-/// CR alone, but for an LF at the end of all. `name` is what they were read from.
+/// Returns the number of the first line with a CR that no LF follows, counted from 1: a CR would
+/// hide what comes after it, as in a comment.
+fn line_with_cr(text: &[u8]) -> Option<u64> {
+    let mut number = 1u64;
+    let mut rest = text;
+    while let [byte, after @ ..] = rest {
+        if *byte == b'\r' && !after.starts_with(b"\n".as_slice()) {
+            return Some(number);
+        }
+        if *byte == b'\n' {
+            number = number.saturating_add(1);
+        }
+        rest = after;
+    }
+    None
+}
+
+/// Returns the line about a CR in a line of an input.
+fn cr_line(alloc: Global, name: &str, number: u64) -> Result<String, AllocError> {
+    let mut line = String::new(alloc);
+    write!(
+        line,
+        "{name}:{number}: a CR has no LF after it: lines end with LF or CR LF"
+    )?;
+    Ok(line)
+}
+
+/// Returns a fault if bytes that are to be lines start as in another format, or if a CR has no LF
+/// after it. `name` is what they were read from.
 pub fn expect_lines(alloc: Global, name: &str, bytes: &[u8]) -> Result<(), Fault> {
     expect_text(alloc, name, bytes)?;
-    let text = bytes.strip_suffix(b"\n".as_slice()).unwrap_or(bytes);
-    expect_line_feeds(alloc, name, text)
+    match line_with_cr(bytes) {
+        Some(number) => Err(said(cr_line(alloc, name, number))),
+        None => Ok(()),
+    }
 }
