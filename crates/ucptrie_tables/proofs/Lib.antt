@@ -14,6 +14,7 @@ mod StatedLemmas
 mod TableLemmas
 mod TomlLemmas
 mod TomlNameLemmas
+mod WideLemmas
 mod WidthLemmas
 mod WordLemmas
 mod WriteLemmas

@@ -34,5 +34,7 @@ module _ (input : List ℕ) (writes : List (Write ℕ)) (rows : AreRows input wr
     of_rows = record { writes = writes; rows = rows; of_writes = h.of_writes };
     asked = h.asked;
     first = h.first;
+    wide = h.wide;
+    source = h.source;
   }
   why_of_rows (Binary why) h = absurd h

@@ -7,6 +7,7 @@ use Rattle.icu_trie_builder.specs.Bounds.{IsTooLarge}
 use Rattle.icu_trie_builder.specs.Built.{IsWellBuilt}
 use Rattle.icu_trie_builder.specs.MapAnswers.{AnswersMap}
 use Rattle.ucptab_table.specs.declared.fault.TableError.TheVariants.{TooLarge, Memory}
+use Rattle.ucptrie_tables.specs.Tables.{IsValueOfMap}
 use Rattle.ucptrie_tables.specs.ValueWidth.{bits_of, first_wider}
 use Rattle.ucptrie_tables.specs.declared.fault.BuildFault.{BuildFault}
 use Rattle.ucptrie_tables.specs.declared.fault.BuildFault.TheVariants.{Table as TableFault, Width, Binary}
@@ -35,14 +36,16 @@ pub record IsRebuilt (old : Parts ℕ) (kind : TrieType) (bits : ValueWidth) (er
   pub width : t.width ≡ bits
   pub fits : All (λ v. v < 2 ^ bits_of t.width) t.trie.values
 
--- The width is the requested one, and `value` is the first value in the data of such a trie that
--- has more bits.
+-- The width is the requested one, and `value` has more bits. It is the value of a code point or the
+-- error value, and the first wider value in the data of such a trie.
 pub record IsTooWideRebuilt (old : Parts ℕ) (kind : TrieType) (asked : ValueWidth) (error : ℕ)
     (value : ℕ) (width : ValueWidth) : Type 0 where
   pub trie : Parts ℕ
   pub rebuilt : IsRebuiltTrie old kind error trie
   pub same : width ≡ asked
   pub first : first_wider width trie.values ≡ Some value
+  pub wide : 2 ^ bits_of width ≤ value
+  pub source : IsValueOfMap rebuilt.value error value
 
 -- Why a table is not rebuilt: its values make too many different blocks for a trie, or one has more
 -- bits than the requested width. No clause can say when an allocation fails.

@@ -1,6 +1,7 @@
 -- Tables made from rows, their bytes in ICU's binary form, and the errors of both steps.
-use Rattle.std.specs.Prelude.{◌≡◌, ◌⊎◌, ℕ, ◌^◌, ◌<◌, List, ◌∷◌, ◌++◌, Option, Some, None, All, ⊤}
+use Rattle.std.specs.Prelude.{◌≡◌, ◌⊎◌, ℕ, ◌^◌, ◌<◌, ◌≤◌, List, ◌∷◌, ◌++◌, Option, Some, None, All, ⊤}
 use Rattle.std.specs.Option.{option_to_list}
+use Rattle.icu_zerovec.specs.CodePoints.{code_point_limit}
 use Rattle.icu_zerovec.specs.PackedBytes.{low_bytes}
 use Rattle.icu_trie_core.specs.ValueNumbers.{fitting}
 use Rattle.icu_trie.specs.Parts.{Parts, last_cell}
@@ -10,6 +11,7 @@ use Rattle.icu_trie_binary.specs.declared.error.WriteError.TheVariants.{Memory a
 use Rattle.icu_trie_builder.specs.Bounds.{IsTooLarge}
 use Rattle.icu_trie_builder.specs.Built.{IsWellBuilt}
 use Rattle.icu_trie_builder.specs.MapAnswers.{AnswersMap}
+use Rattle.icu_trie_builder.specs.NullBlock.{HasDefaultNull}
 use Rattle.icu_trie_builder.specs.Writes.{value_after}
 use Rattle.icu_trie_builder.specs.declared.writes.Write.{Write}
 use Rattle.ucptab_table.specs.TableText.{AreRows, IsFirstFault, IsTooLargeInput}
@@ -28,12 +30,14 @@ use Rattle.ucptrie_tables.specs.declared.written.Form.TheVariants.{Icu}
 
 -- The trie is that of the writes and the options. A code point has the value of the last write that
 -- covers it, or the default if none does. A number above the code space has the error value. The
--- trie is of the requested type and well built.
+-- trie is of the requested type and well built. Its null value is that of the null block, or the
+-- default if there is none.
 pub record IsTrieOfWrites (writes : List (Write ℕ)) (options : TableOptions) (trie : Parts ℕ)
     : Type 0 where
   pub answers : AnswersMap (value_after writes options.default) options.error trie
   pub built : IsWellBuilt (fitting (2 ^ 32)) (value_after writes options.default) trie
   pub trie_type : trie.header.trie_type ≡ options.trie_type
+  pub null_value : HasDefaultNull options.default trie.header (value_after writes options.default)
 
 -- The table's trie is that of the writes and the options, its width is the requested one, and none
 -- of its values has more bits.
@@ -43,14 +47,21 @@ pub record IsTableOfWrites (writes : List (Write ℕ)) (options : TableOptions) 
     pub width : t.width ≡ options.width
     pub fits : All (λ v. v < 2 ^ bits_of t.width) t.trie.values
 
--- The width is the requested one, and `value` is the first value in the data of a trie of the
--- writes that has more bits.
+-- The value is that of a code point, or the error value.
+abbrev pub IsValueOfMap : (ℕ → ℕ) → ℕ → ℕ → Type 0
+IsValueOfMap f error value =
+    ((c : ℕ) × (c < code_point_limit) × (value ≡ f c)) ⊎ (value ≡ error)
+
+-- The width is the requested one, and `value` has more bits. It is the value of a code point or the
+-- error value, and the first wider value in the data of a trie of the writes.
 pub record IsTooWideForWrites (writes : List (Write ℕ)) (options : TableOptions) (value : ℕ)
     (width : ValueWidth) : Type 0 where
   pub trie : Parts ℕ
   pub of_writes : IsTrieOfWrites writes options trie
   pub asked : width ≡ options.width
   pub first : first_wider width trie.values ≡ Some value
+  pub wide : 2 ^ bits_of width ≤ value
+  pub source : IsValueOfMap (value_after writes options.default) options.error value
 
 -- Why writes make no table: they make too many different blocks for a trie, or a value has more
 -- bits than the requested width. No clause can say when an allocation fails.
@@ -79,14 +90,16 @@ pub record IsTableOf (input : List ℕ) (options : TableOptions) (t : Table) : T
   pub width : t.width ≡ options.width
   pub fits : All (λ v. v < 2 ^ bits_of t.width) t.trie.values
 
--- The width is the requested one, and `value` is the first value in the data of a trie of the
--- rows that has more bits.
+-- The width is the requested one, and `value` has more bits. It is the value of a code point or the
+-- error value, and the first wider value in the data of a trie of the rows.
 pub record IsTooWide (input : List ℕ) (options : TableOptions) (value : ℕ) (width : ValueWidth)
     : Type 0 where
   pub trie : Parts ℕ
   pub of_rows : IsTrieOfRows input options trie
   pub asked : width ≡ options.width
   pub first : first_wider width trie.values ≡ Some value
+  pub wide : 2 ^ bits_of width ≤ value
+  pub source : IsValueOfMap (value_after of_rows.writes options.default) options.error value
 
 -- Why an input makes no table: a line has a fault, and no line before it has one; the rows make
 -- too many different blocks for a trie; or a value has more bits than the requested width. No

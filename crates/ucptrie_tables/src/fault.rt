@@ -21,7 +21,8 @@ pub enum BuildFault {
     /// A row has a fault, the map is too large for a trie, or an allocation failed.
     #[error("{0}")]
     Table(TableError),
-    /// This value has more bits than this width.
+    /// A value of a code point, or the error value, that has more bits than this width. From
+    /// [`written`](crate::written::written) it may also be the null value.
     #[error("value {0} has more than {1}")]
     Width(u32, ValueWidth),
     /// ICU's binary form has no room for the trie.

@@ -79,9 +79,10 @@ use std::alloc::Global;
 ///
 /// # Errors
 /// Returns [`BuildFault::Table`] for the first line that is not a row, for a map that is too large
-/// for a trie, and if an allocation fails. Returns [`BuildFault::Width`] for the first value that
-/// has more bits than the asked width. Returns [`BuildFault::Binary`] if ICU's binary form has no
-/// room for the trie.
+/// for a trie, and if an allocation fails. Returns [`BuildFault::Width`] for a value of a code
+/// point, or the error value, that has more bits than the asked width; in ICU's binary form also
+/// for the null value. Returns [`BuildFault::Binary`] if ICU's binary form has no room for the
+/// trie.
 pub fn built(
     alloc: Global,
     rows: &[u8],

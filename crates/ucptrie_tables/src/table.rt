@@ -49,8 +49,8 @@ pub(crate) fn first_wider(trie: &CodePointTrie<'_, u32>, width: ValueWidth) -> O
 ///
 /// # Errors
 /// Returns [`BuildFault::Table`] for a map that is too large for a trie, and if an allocation
-/// fails. Returns [`BuildFault::Width`] for the first value in the trie's data that has more bits
-/// than the asked width.
+/// fails. Returns [`BuildFault::Width`] for a value of a code point, or the error value, that has
+/// more bits than the asked width: the first one in the trie's data.
 pub fn table_of_writes(
     alloc: Global,
     writes: &[Write<u32>],
@@ -79,8 +79,9 @@ pub fn table_of_writes(
 ///
 /// # Errors
 /// Returns [`BuildFault::Table`] for the first line that is not a row, for a map that is too large
-/// for a trie, and if an allocation fails. Returns [`BuildFault::Width`] for the first value in the
-/// trie's data that has more bits than the asked width.
+/// for a trie, and if an allocation fails. Returns [`BuildFault::Width`] for a value of a code
+/// point, or the error value, that has more bits than the asked width: the first one in the trie's
+/// data.
 pub fn table_of_rows(alloc: Global, rows: &[u8], options: TableOptions) -> Result<Table, BuildFault>
     ensures ok { IfOk result (IsTableOf rows.now options) }
     ensures err { IfErr result (IsWhyNoTable rows.now options) }
