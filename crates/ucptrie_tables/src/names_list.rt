@@ -17,10 +17,10 @@ fn set_longest<'a>(
 ) -> Result<(), AllocError>
     ensures { OnOk result (longest.new.entries ≡ with_longest longest.old.entries name.now) }
 {
-    if let Some(text) = longest.get(&name.number) {
-        if name_length(name.text) <= name_length(text) {
-            return Ok(());
-        }
+    if let Some(text) = longest.get(&name.number)
+        && name_length(name.text) <= name_length(text)
+    {
+        return Ok(());
     }
     longest.insert(name.number, name.text)?;
     Ok(())
