@@ -28,7 +28,8 @@ static const char *const kernels[] = {"get_u8",              "get_u16",        "
                                       "c_span_words",        "c_span_long",    "c_set_from_points",
                                       "c_words",             "cpp_copy_u8",    "cpp_span_words",
                                       "cpp_words",           "range_u8",       "frozen_contains_range",
-                                      "c16_texts"};
+                                      "c16_texts",           "indices_u8",     "find_u8",
+                                      "span_u8"};
 
 enum { LEAST_ROUNDS = 5, MOST_ROUNDS = 400 };
 // A row takes about this many seconds.

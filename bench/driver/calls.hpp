@@ -41,7 +41,8 @@ PointsCall ours_get_8, ours_get_16, ours_get_32, rust_get_8, rust_get_16, rust_g
 PointsCall ours_typed_8, ours_typed_16, ours_typed_32, rust_typed_8, rust_typed_16, rust_typed_32;
 AnswersCall ours_answers_8, ours_answers_16, ours_answers_32, rust_answers_8, rust_answers_16,
     rust_answers_32;
-TextCall ours_text_8, ours_values_8, ours_bytes_8, rust_text_8;
+TextCall ours_text_8, ours_values_8, ours_bytes_8, rust_text_8, ours_indices_8, rust_indices_8,
+    ours_find_8, ours_span_8, rust_find_8;
 CopyCall ours_copy_8, rust_copy_8;
 RangesCall ours_ranges_8, ours_ranges_16, ours_ranges_32, ours_range_8, rust_ranges_8,
     rust_ranges_16, rust_ranges_32;

@@ -1,4 +1,4 @@
-// Look-ups in code point tries: get32, get32 of a trie whose type is known, and get over texts.
+// Look-ups in code point tries: get32, get32 of a trie whose type is known, and values along texts.
 // ICU's part is its macros, which know the type too.
 #include "icu_trie.hpp"
 #include <algorithm>
@@ -10,23 +10,30 @@ using std::vector;
 enum { POINTS = 4096, TURNS = 12, SHORT_TEXT = 256, LONG_TEXT = 16 * SHORT_TEXT };
 
 typedef uint64_t Adder(const UCPTrie *, const vector<uint32_t> &points, uint64_t sum);
-typedef uint64_t TextAdder(const UCPTrie *, const string &text, uint64_t sum);
+typedef uint64_t TextAdder(const UCPTrie *, const string &text, uint64_t wanted, uint64_t sum);
+
+// A value or its square: each loop is compiled for both, as ours and the peer's.
+template <bool SQUARED> static inline uint64_t power(uint64_t value) {
+    return SQUARED ? value * value : value;
+}
 
 // The sum continues from turn to turn, so that the compiler removes no turn.
 #define ADDER(name, GET, bits)                                                                     \
+    template <bool SQUARED>                                                                        \
     __attribute__((noinline)) static uint64_t name(const UCPTrie *trie,                            \
                                                    const vector<uint32_t> &points, uint64_t sum) { \
-        for (uint32_t c : points) sum += GET(trie, UCPTRIE_##bits, c);                             \
+        for (uint32_t c : points) sum += power<SQUARED>(GET(trie, UCPTRIE_##bits, c));             \
         return sum;                                                                                \
     }
 #define TEXT_ADDER(name, GET)                                                               \
+    template <bool SQUARED>                                                                 \
     __attribute__((noinline)) static uint64_t name(const UCPTrie *trie, const string &text, \
-                                                   uint64_t sum) {                          \
+                                                   uint64_t, uint64_t sum) {                \
         const uint8_t *bytes = reinterpret_cast<const uint8_t *>(text.data());              \
         for (size_t i = 0, size = text.size(); i < size;) {                                 \
             UChar32 c;                                                                      \
             U8_NEXT_UNSAFE(bytes, i, c);                                                    \
-            sum += GET(trie, UCPTRIE_8, c);                                                 \
+            sum += power<SQUARED>(GET(trie, UCPTRIE_8, c));                                 \
         }                                                                                   \
         return sum;                                                                         \
     }
@@ -41,14 +48,30 @@ TEXT_ADDER(small_text, UCPTRIE_SMALL_GET)
 
 // The macro for texts that may be ill-formed, which computes no code point if it needs none. It
 // exists only for fast tries.
-__attribute__((noinline)) static uint64_t fast_values(const UCPTrie *trie, const string &text,
-                                                      uint64_t sum) {
-    const uint8_t *at = reinterpret_cast<const uint8_t *>(text.data());
-    for (const uint8_t *end = at + text.size(); at < end;) {
-        uint8_t value;
-        UCPTRIE_FAST_U8_NEXT(trie, UCPTRIE_8, at, end, value);
-        sum += value;
+#define VALUES_ADDER(name, each, rest)                                                         \
+    template <bool SQUARED>                                                                    \
+    __attribute__((noinline)) static uint64_t name(const UCPTrie *trie, const string &text,    \
+                                                   [[maybe_unused]] uint64_t wanted,           \
+                                                   uint64_t sum) {                             \
+        const uint8_t *start = reinterpret_cast<const uint8_t *>(text.data()), *at = start;    \
+        for (const uint8_t *end = at + text.size(); at < end;) {                               \
+            [[maybe_unused]] const size_t offset = at - start;                                 \
+            uint8_t value;                                                                     \
+            UCPTRIE_FAST_U8_NEXT(trie, UCPTRIE_8, at, end, value);                             \
+            const uint64_t found = power<SQUARED>(value);                                      \
+            each;                                                                              \
+        }                                                                                      \
+        return sum + (rest);                                                                   \
     }
+VALUES_ADDER(fast_values, sum += found, 0)
+VALUES_ADDER(fast_indices, sum += offset ^ found, 0)
+VALUES_ADDER(fast_found, if (found == wanted) return sum + offset, text.size())
+
+// One turn with the values, the next with their squares.
+static uint64_t over_text(TextAdder *const adders[2], const UCPTrie *trie, const string &text,
+                          size_t turns) {
+    uint64_t sum = 0;
+    for (size_t i = 0; i < turns; i++) sum = adders[i % 2](trie, text, i / 2, sum);
     return sum;
 }
 
@@ -59,13 +82,13 @@ static const struct Width {
     uint32_t greatest;
     PointsCall *ours_get, *rust_get, *ours_typed, *rust_typed;
     AnswersCall *ours_answers, *rust_answers;
-    Adder *fast, *small;
+    Adder *fast[2], *small[2];
 } widths[] = {
 #define WIDTH(bits, bytes, greatest)                                                              \
     {                                                                                             \
         "_u" #bits, UCPTRIE_VALUE_BITS_##bits, bytes, greatest, ours_get_##bits, rust_get_##bits, \
             ours_typed_##bits, rust_typed_##bits, ours_answers_##bits, rust_answers_##bits,       \
-            fast_##bits, small_##bits                                                             \
+            {fast_##bits<false>, fast_##bits<true>}, {small_##bits<false>, small_##bits<true>}    \
     }
     WIDTH(8, 1, 0xFF), WIDTH(16, 2, 0xFFFF), WIDTH(32, 4, 0xFFFFFFFF)};
 
@@ -117,11 +140,11 @@ static void look_ups(const Width &width, const Table &table, bool is_fast) {
     const IcuTrie trie = icu_trie(table, is_fast, width.icu);
     const TrieParts parts = parts_of(trie, width.bytes, is_fast);
     compare(width, trie, parts);
-    Adder *adder = is_fast ? width.fast : width.small;
+    Adder *const *adders = is_fast ? width.fast : width.small;
     for (const Points &points : kinds()) {
         const Call icu = [&] {
             uint64_t sum = 0;
-            for (int i = 0; i < TURNS; i++) sum = adder(trie.get(), points.all, sum);
+            for (int i = 0; i < TURNS; i++) sum = adders[i % 2](trie.get(), points.all, sum);
             return sum;
         };
         auto by = [&](PointsCall *call) -> Call {
@@ -139,36 +162,40 @@ static void look_ups(const Width &width, const Table &table, bool is_fast) {
 static const struct AlongText {
     string kernel;
     TextCall *ours, *rust;
-    TextAdder *fast, *small;
-} along_texts[] = {{"text_u8", ours_text_8, rust_text_8, fast_text, small_text},
-                   {"values_u8", ours_values_8, rust_text_8, fast_values, nullptr},
-                   {"bytes_u8", ours_bytes_8, rust_text_8, fast_values, nullptr}};
+    TextAdder *fast[2], *small[2];
+} along_texts[] = {
+#define TWO(name) {name<false>, name<true>}
+    {"text_u8", ours_text_8, rust_text_8, TWO(fast_text), TWO(small_text)},
+    {"values_u8", ours_values_8, rust_text_8, TWO(fast_values), {}},
+    {"bytes_u8", ours_bytes_8, rust_text_8, TWO(fast_values), {}},
+    {"indices_u8", ours_indices_8, rust_indices_8, TWO(fast_indices), {}},
+    {"find_u8", ours_find_8, rust_find_8, TWO(fast_found), {}},
+    {"span_u8", ours_span_8, rust_find_8, TWO(fast_found), {}}};
 
 static void over_texts(const AlongText &along, const Table &table, bool is_fast) {
     const IcuTrie trie = icu_trie(table, is_fast, UCPTRIE_VALUE_BITS_8);
     const TrieParts parts = parts_of(trie, 1, is_fast);
-    TextAdder *adder = is_fast ? along.fast : along.small;
+    TextAdder *const *adders = is_fast ? along.fast : along.small;
     for (size_t characters : {SHORT_TEXT, LONG_TEXT}) {
         const size_t turns = TURNS * POINTS / characters;
         for (const Text &text : texts(characters)) {
             const uint8_t *bytes = reinterpret_cast<const uint8_t *>(text.bytes.data());
             const size_t size = text.bytes.size();
-            const Call icu = [&] {
-                uint64_t sum = 0;
-                for (size_t i = 0; i < turns; i++) sum = adder(trie.get(), text.bytes, sum);
-                return sum;
-            };
+            const Call icu = [&] { return over_text(adders, trie.get(), text.bytes, turns); };
+            // The result of a search is how many bytes it passes.
+            const double passed = adders[0] == fast_found<false> ? double(icu()) / size : turns;
             row(
                 along.kernel,
                 name_of(table, is_fast) + "-" + text.name +
                     (characters == LONG_TEXT ? "-long" : "-short"),
-                double(characters) * turns, [&] { return along.ours(&parts, bytes, size, turns); },
+                characters * passed, [&] { return along.ours(&parts, bytes, size, turns); },
                 [&] { return along.rust(&parts, bytes, size, turns); }, icu);
         }
     }
 }
 
 // The values of a text in a buffer, summed.
+template <bool SQUARED>
 __attribute__((noinline)) static uint64_t copied(const UCPTrie *trie, const string &text,
                                                  vector<uint8_t> &values, uint64_t sum) {
     const uint8_t *at = reinterpret_cast<const uint8_t *>(text.data()), *end = at + text.size();
@@ -177,7 +204,7 @@ __attribute__((noinline)) static uint64_t copied(const UCPTrie *trie, const stri
     const size_t room = values.size();
     for (size_t i = 0; at < end && i < room; i++)
         UCPTRIE_FAST_U8_NEXT(trie, UCPTRIE_8, at, end, into[i]);
-    for (uint8_t value : values) sum += value;
+    for (uint8_t value : values) sum += power<SQUARED>(value);
     return sum;
 }
 
@@ -196,7 +223,10 @@ static void copies(const Table &table) {
                 "copy_u8", name_of(table, true) + "-" + text.name + "-" + std::to_string(characters),
                 double(characters) * turns, by(ours_copy_8), by(rust_copy_8), [&] {
                     uint64_t sum = 0;
-                    for (size_t i = 0; i < turns; i++) sum = copied(trie.get(), text.bytes, values, sum);
+                    for (size_t i = 0; i < turns; i += 2) {
+                        sum = copied<false>(trie.get(), text.bytes, values, sum);
+                        sum = copied<true>(trie.get(), text.bytes, values, sum);
+                    }
                     return sum;
                 });
         }
@@ -213,7 +243,7 @@ void tries() {
     for (const AlongText &along : along_texts)
         for (const Table &table : tables())
             for (bool is_fast : {true, false})
-                if (table.greatest <= 0xFF && wanted(along.kernel) && (is_fast || along.small))
+                if (table.greatest <= 0xFF && wanted(along.kernel) && (is_fast || along.small[0]))
                     over_texts(along, table, is_fast);
     for (const Table &table : tables())
         if (table.greatest <= 0xFF && wanted("copy_u8")) copies(table);

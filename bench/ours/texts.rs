@@ -1,60 +1,146 @@
-//! Values of a trie for the characters of a text.
+//! Values of a trie of 8-bit values along a text. Each function runs an even number of turns, half of
+//! them with the squares of the values, and returns a sum over all turns.
 
-use crate::tries::{Parts, trie_of};
+use crate::tries::{Parts, power, trie_of};
 use icu_trie::cptrie::CodePointTrie;
-use icu_trie::value::TrieValue;
-use icu_trie_text::text::{copy_values, values_of, values_of_utf8};
+use icu_trie_text::text::{
+    copy_values, find_value, span_of_values, value_indices_of, values_of, values_of_utf8,
+};
 
-/// Adds the value of each character of a text to `sum`.
+/// Returns the trie with these parts and the text, or `None` if one of them is not valid.
+fn trie_and_text<'a>(
+    parts: &Parts<'a>,
+    text: &'a [u8],
+) -> Option<(CodePointTrie<'a, u8>, &'a str)> {
+    Some((trie_of(parts)?, std::str::from_utf8(text).ok()?))
+}
+
+/// Adds the values of the characters of a text to `sum`.
 #[inline(never)]
-fn add_values<T: TrieValue>(trie: &CodePointTrie<'_, T>, text: &str, sum: u64) -> u64 {
+fn add_values<const SQUARED: bool>(trie: &CodePointTrie<'_, u8>, text: &str, sum: u64) -> u64 {
     let mut sum = sum;
     for (_, value) in values_of(trie, text) {
-        sum = sum.wrapping_add(value.to_u32() as u64);
+        sum = sum.wrapping_add(power::<u8, SQUARED>(value));
     }
     sum
 }
 
-fn values_added_often(trie: &CodePointTrie<'_, u8>, text: &str, turns: usize) -> u64 {
+/// Adds up the values of a text.
+#[unsafe(no_mangle)]
+pub extern "C" fn ours_values_8(parts: &Parts<'_>, text: &[u8], turns: usize) -> u64 {
+    let Some((trie, text)) = trie_and_text(parts, text) else {
+        return u64::MAX;
+    };
     let mut sum = 0u64;
-    for _ in 0..turns {
-        sum = add_values(trie, text, sum);
+    for _ in 0..turns / 2 {
+        sum = add_values::<false>(&trie, text, sum);
+        sum = add_values::<true>(&trie, text, sum);
+    }
+    sum
+}
+
+/// Adds the byte offsets of the characters of a text, each mixed with the value, to `sum`.
+#[inline(never)]
+fn add_indices<const SQUARED: bool>(trie: &CodePointTrie<'_, u8>, text: &str, sum: u64) -> u64 {
+    let mut sum = sum;
+    for (offset, _, value) in value_indices_of(trie, text) {
+        sum = sum.wrapping_add(offset as u64 ^ power::<u8, SQUARED>(value));
+    }
+    sum
+}
+
+/// Adds up the byte offsets and the values of a text.
+#[unsafe(no_mangle)]
+pub extern "C" fn ours_indices_8(parts: &Parts<'_>, text: &[u8], turns: usize) -> u64 {
+    let Some((trie, text)) = trie_and_text(parts, text) else {
+        return u64::MAX;
+    };
+    let mut sum = 0u64;
+    for _ in 0..turns / 2 {
+        sum = add_indices::<false>(&trie, text, sum);
+        sum = add_indices::<true>(&trie, text, sum);
+    }
+    sum
+}
+
+/// Adds the byte offset of the first character with a value to `sum`, or the length of the text.
+#[inline(never)]
+fn add_found<const SQUARED: bool>(
+    trie: &CodePointTrie<'_, u8>,
+    text: &str,
+    wanted: u64,
+    sum: u64,
+) -> u64 {
+    match find_value(trie, text, |value| power::<u8, SQUARED>(value) == wanted) {
+        Some(found) => sum.wrapping_add(found.offset as u64),
+        None => sum.wrapping_add(text.len() as u64),
+    }
+}
+
+/// Adds up the byte offsets of the first character with a value, for the values from 0 on.
+#[unsafe(no_mangle)]
+pub extern "C" fn ours_find_8(parts: &Parts<'_>, text: &[u8], turns: usize) -> u64 {
+    let Some((trie, text)) = trie_and_text(parts, text) else {
+        return u64::MAX;
+    };
+    let mut sum = 0u64;
+    for wanted in 0..turns / 2 {
+        sum = add_found::<false>(&trie, text, wanted as u64, sum);
+        sum = add_found::<true>(&trie, text, wanted as u64, sum);
+    }
+    sum
+}
+
+/// Adds the same offset to `sum`, as the length of the span of other values.
+#[inline(never)]
+fn add_span<const SQUARED: bool>(
+    trie: &CodePointTrie<'_, u8>,
+    text: &str,
+    wanted: u64,
+    sum: u64,
+) -> u64 {
+    let span = span_of_values(trie, text, |value| power::<u8, SQUARED>(value) != wanted);
+    sum.wrapping_add(span as u64)
+}
+
+/// Adds up the same offsets, as spans.
+#[unsafe(no_mangle)]
+pub extern "C" fn ours_span_8(parts: &Parts<'_>, text: &[u8], turns: usize) -> u64 {
+    let Some((trie, text)) = trie_and_text(parts, text) else {
+        return u64::MAX;
+    };
+    let mut sum = 0u64;
+    for wanted in 0..turns / 2 {
+        sum = add_span::<false>(&trie, text, wanted as u64, sum);
+        sum = add_span::<true>(&trie, text, wanted as u64, sum);
     }
     sum
 }
 
 /// Adds the values for bytes that may be ill-formed UTF-8 to `sum`.
 #[inline(never)]
-fn add_values_of_bytes<T: TrieValue>(trie: &CodePointTrie<'_, T>, bytes: &[u8], sum: u64) -> u64 {
+fn add_values_of_bytes<const SQUARED: bool>(
+    trie: &CodePointTrie<'_, u8>,
+    bytes: &[u8],
+    sum: u64,
+) -> u64 {
     let mut sum = sum;
     for (_, value) in values_of_utf8(trie, bytes) {
-        sum = sum.wrapping_add(value.to_u32() as u64);
+        sum = sum.wrapping_add(power::<u8, SQUARED>(value));
     }
     sum
 }
 
 fn values_of_bytes_added_often(trie: &CodePointTrie<'_, u8>, bytes: &[u8], turns: usize) -> u64 {
     let mut sum = 0u64;
-    for _ in 0..turns {
-        sum = add_values_of_bytes(trie, bytes, sum);
+    for _ in 0..turns / 2 {
+        sum = add_values_of_bytes::<false>(trie, bytes, sum);
+        sum = add_values_of_bytes::<true>(trie, bytes, sum);
     }
     sum
 }
 
-/// Adds up the values of a text in a trie of 8-bit values, `turns` times.
-#[unsafe(no_mangle)]
-pub extern "C" fn ours_values_8(parts: &Parts<'_>, text: &[u8], turns: usize) -> u64 {
-    let Ok(text) = std::str::from_utf8(text) else {
-        return u64::MAX;
-    };
-    match trie_of::<u8>(parts) {
-        Some(trie) => values_added_often(&trie, text, turns),
-        None => u64::MAX,
-    }
-}
-
-/// Adds up the values for bytes that may be ill-formed UTF-8 in a trie of 8-bit values, `turns`
-/// times.
+/// Adds up the values for bytes that may be ill-formed UTF-8.
 #[unsafe(no_mangle)]
 pub extern "C" fn ours_bytes_8(parts: &Parts<'_>, bytes: &[u8], turns: usize) -> u64 {
     match trie_of::<u8>(parts) {
@@ -65,16 +151,16 @@ pub extern "C" fn ours_bytes_8(parts: &Parts<'_>, bytes: &[u8], turns: usize) ->
 
 /// Copies the values for bytes that may be ill-formed UTF-8 to a buffer, and adds them to `sum`.
 #[inline(never)]
-fn add_copied<T: TrieValue>(
-    trie: &CodePointTrie<'_, T>,
+fn add_copied<const SQUARED: bool>(
+    trie: &CodePointTrie<'_, u8>,
     bytes: &[u8],
-    values: &mut [T],
+    values: &mut [u8],
     sum: u64,
 ) -> u64 {
     let mut sum = sum;
     let _ = copy_values(trie, bytes, values);
     for value in values.iter() {
-        sum = sum.wrapping_add(value.to_u32() as u64);
+        sum = sum.wrapping_add(power::<u8, SQUARED>(*value));
     }
     sum
 }
@@ -86,14 +172,15 @@ fn copied_often(
     turns: usize,
 ) -> u64 {
     let mut sum = 0u64;
-    for _ in 0..turns {
-        sum = add_copied(trie, bytes, values, sum);
+    for _ in 0..turns / 2 {
+        sum = add_copied::<false>(trie, bytes, values, sum);
+        sum = add_copied::<true>(trie, bytes, values, sum);
     }
     sum
 }
 
-/// Copies the values for bytes that may be ill-formed UTF-8 in a trie of 8-bit values to a buffer,
-/// and adds up all values of the buffer, `turns` times.
+/// Copies the values for bytes that may be ill-formed UTF-8 to a buffer, and adds up all
+/// values of the buffer.
 #[unsafe(no_mangle)]
 pub extern "C" fn ours_copy_8(
     parts: &Parts<'_>,

@@ -44,38 +44,56 @@ pub fn trie_of<'a, T: TrieValue>(parts: &Parts<'a>) -> Option<CodePointTrie<'a, 
     CodePointTrie::try_new(header_of(parts), index, data).ok()
 }
 
-/// Adds the values of these code points to `sum`. It is not inlined, so that its loop can be found
-/// in the machine code. Each turn starts from the sum of the last one, so that the compiler cannot
-/// remove a turn.
+/// Returns the number of a value, or its square. Each loop of this crate is compiled for both, so
+/// that it has two calls of a getter or an iterator, as an application has: rustc may inline one
+/// call, but not two.
+#[inline(always)]
+pub fn power<T: TrieValue, const SQUARED: bool>(value: T) -> u64 {
+    let number = value.to_u32() as u64;
+    if SQUARED {
+        number.wrapping_mul(number)
+    } else {
+        number
+    }
+}
+
+/// Adds the values of these code points, or their squares, to `sum`. It is not inlined, so that its
+/// loop can be found in the machine code. Each turn starts from the sum of the last one, so that the
+/// compiler cannot remove a turn.
 #[inline(never)]
-fn add_values<T: TrieValue>(trie: &CodePointTrie<'_, T>, points: &[u32], sum: u64) -> u64 {
+fn add_values<T: TrieValue, const SQUARED: bool>(
+    trie: &CodePointTrie<'_, T>,
+    points: &[u32],
+    sum: u64,
+) -> u64 {
     let mut sum = sum;
     for c in points {
-        sum = sum.wrapping_add(trie.get32(*c).to_u32() as u64);
+        sum = sum.wrapping_add(power::<T, SQUARED>(trie.get32(*c)));
     }
     sum
 }
 
-/// Adds the values of these code points to `sum`, in a trie whose type is known at compile time.
+/// Adds the values of these code points, or their squares, to `sum`, in a trie whose type is known
+/// at compile time.
 #[inline(never)]
-fn add_typed<'t, T: TrieValue, V: TypedCodePointTrie<'t, T>>(
+fn add_typed<'t, T: TrieValue, V: TypedCodePointTrie<'t, T>, const SQUARED: bool>(
     trie: &V,
     points: &[u32],
     sum: u64,
 ) -> u64 {
     let mut sum = sum;
     for c in points {
-        sum = sum.wrapping_add(trie.get32(*c).to_u32() as u64);
+        sum = sum.wrapping_add(power::<T, SQUARED>(trie.get32(*c)));
     }
     sum
 }
 
-/// Adds the values of the characters of a text to `sum`.
+/// Adds the values of the characters of a text, or their squares, to `sum`.
 #[inline(never)]
-fn add_text<T: TrieValue>(trie: &CodePointTrie<'_, T>, text: &str, sum: u64) -> u64 {
+fn add_text<const SQUARED: bool>(trie: &CodePointTrie<'_, u8>, text: &str, sum: u64) -> u64 {
     let mut sum = sum;
     for c in text.chars() {
-        sum = sum.wrapping_add(trie.get(c).to_u32() as u64);
+        sum = sum.wrapping_add(power::<u8, SQUARED>(trie.get(c)));
     }
     sum
 }
@@ -86,8 +104,9 @@ fn values_added_often<T: TrieValue>(
     turns: usize,
 ) -> u64 {
     let mut sum = 0u64;
-    for _ in 0..turns {
-        sum = add_values(trie, points, sum);
+    for _ in 0..turns / 2 {
+        sum = add_values::<T, false>(trie, points, sum);
+        sum = add_values::<T, true>(trie, points, sum);
     }
     sum
 }
@@ -105,8 +124,9 @@ fn typed_added_often<'t, T: TrieValue, V: TypedCodePointTrie<'t, T>>(
     turns: usize,
 ) -> u64 {
     let mut sum = 0u64;
-    for _ in 0..turns {
-        sum = add_typed(trie, points, sum);
+    for _ in 0..turns / 2 {
+        sum = add_typed::<T, V, false>(trie, points, sum);
+        sum = add_typed::<T, V, true>(trie, points, sum);
     }
     sum
 }
@@ -146,49 +166,53 @@ fn answers_of<T: TrieValue>(parts: &Parts<'_>, points: &[u32], answers: &mut [u3
 
 fn text_added_often(trie: &CodePointTrie<'_, u8>, text: &str, turns: usize) -> u64 {
     let mut sum = 0u64;
-    for _ in 0..turns {
-        sum = add_text(trie, text, sum);
+    for _ in 0..turns / 2 {
+        sum = add_text::<false>(trie, text, sum);
+        sum = add_text::<true>(trie, text, sum);
     }
     sum
 }
 
-/// Adds up the values of these code points in a trie of 8-bit values, `turns` times.
+/// Adds up the values of these code points in a trie of 8-bit values, and their squares, in `turns` turns.
 #[unsafe(no_mangle)]
 pub extern "C" fn ours_get_8(parts: &Parts<'_>, points: &[u32], turns: usize) -> u64 {
     sum_of::<u8>(parts, points, turns)
 }
 
-/// Adds up the values of these code points in a trie of 16-bit values, `turns` times.
+/// Adds up the values of these code points in a trie of 16-bit values, and their squares, in `turns` turns.
 #[unsafe(no_mangle)]
 pub extern "C" fn ours_get_16(parts: &Parts<'_>, points: &[u32], turns: usize) -> u64 {
     sum_of::<u16>(parts, points, turns)
 }
 
-/// Adds up the values of these code points in a trie of 32-bit values, `turns` times.
+/// Adds up the values of these code points in a trie of 32-bit values, and their squares, in `turns` turns.
 #[unsafe(no_mangle)]
 pub extern "C" fn ours_get_32(parts: &Parts<'_>, points: &[u32], turns: usize) -> u64 {
     sum_of::<u32>(parts, points, turns)
 }
 
-/// Adds up the values of these code points in a typed trie of 8-bit values, `turns` times.
+/// Adds up the values of these code points in a typed trie of 8-bit values, and their squares, in `turns`
+/// turns.
 #[unsafe(no_mangle)]
 pub extern "C" fn ours_typed_8(parts: &Parts<'_>, points: &[u32], turns: usize) -> u64 {
     typed_sum_of::<u8>(parts, points, turns)
 }
 
-/// Adds up the values of these code points in a typed trie of 16-bit values, `turns` times.
+/// Adds up the values of these code points in a typed trie of 16-bit values, and their squares, in `turns`
+/// turns.
 #[unsafe(no_mangle)]
 pub extern "C" fn ours_typed_16(parts: &Parts<'_>, points: &[u32], turns: usize) -> u64 {
     typed_sum_of::<u16>(parts, points, turns)
 }
 
-/// Adds up the values of these code points in a typed trie of 32-bit values, `turns` times.
+/// Adds up the values of these code points in a typed trie of 32-bit values, and their squares, in `turns`
+/// turns.
 #[unsafe(no_mangle)]
 pub extern "C" fn ours_typed_32(parts: &Parts<'_>, points: &[u32], turns: usize) -> u64 {
     typed_sum_of::<u32>(parts, points, turns)
 }
 
-/// Adds up the values of the characters of a text, `turns` times.
+/// Adds up the values of the characters of a text, and their squares, in `turns` turns.
 #[unsafe(no_mangle)]
 pub extern "C" fn ours_text_8(parts: &Parts<'_>, text: &[u8], turns: usize) -> u64 {
     let Ok(text) = std::str::from_utf8(text) else {

@@ -198,19 +198,42 @@ impl<T: Value, const FAST: bool> Typed<'_, T, FAST> {
     }
 }
 
-#[inline(never)]
-fn add_values<T: Value>(trie: &Trie<T>, points: &[u32], sum: u64) -> u64 {
-    points.iter().fold(sum, |sum, c| sum + trie.get32(*c).number() as u64)
+/// Returns the number of a value, or its square: each loop is compiled for both.
+#[inline(always)]
+fn power<T: Value, const SQUARED: bool>(value: T) -> u64 {
+    let number = value.number() as u64;
+    if SQUARED { number.wrapping_mul(number) } else { number }
 }
 
 #[inline(never)]
-fn add_typed<T: Value, const FAST: bool>(trie: &Typed<T, FAST>, points: &[u32], sum: u64) -> u64 {
-    points.iter().fold(sum, |sum, c| sum + trie.get32(*c).number() as u64)
+fn add_values<T: Value, const SQUARED: bool>(trie: &Trie<T>, points: &[u32], sum: u64) -> u64 {
+    points.iter().fold(sum, |sum, c| sum.wrapping_add(power::<T, SQUARED>(trie.get32(*c))))
 }
 
 #[inline(never)]
-fn add_text<T: Value>(trie: &Trie<T>, text: &str, sum: u64) -> u64 {
-    text.chars().fold(sum, |sum, c| sum + trie.get(c).number() as u64)
+fn add_typed<T: Value, const FAST: bool, const SQUARED: bool>(
+    trie: &Typed<T, FAST>,
+    points: &[u32],
+    sum: u64,
+) -> u64 {
+    points.iter().fold(sum, |sum, c| sum.wrapping_add(power::<T, SQUARED>(trie.get32(*c))))
+}
+
+#[inline(never)]
+fn add_text<const SQUARED: bool>(trie: &Trie<u8>, text: &str, _: u64, sum: u64) -> u64 {
+    text.chars().fold(sum, |sum, c| sum + power::<u8, SQUARED>(trie.get(c)))
+}
+
+#[inline(never)]
+fn add_indices<const SQUARED: bool>(trie: &Trie<u8>, text: &str, _: u64, sum: u64) -> u64 {
+    text.char_indices().fold(sum, |sum, (i, c)| sum + (i as u64 ^ power::<u8, SQUARED>(trie.get(c))))
+}
+
+#[inline(never)]
+fn add_found<const SQUARED: bool>(trie: &Trie<u8>, text: &str, wanted: u64, sum: u64) -> u64 {
+    let mut characters = text.char_indices();
+    let found = characters.find(|(_, c)| power::<u8, SQUARED>(trie.get(*c)) == wanted);
+    sum + found.map_or(text.len(), |(i, _)| i) as u64
 }
 
 /// Runs this many turns, starting from 0. Each takes the sum of the last, so that the compiler
@@ -221,10 +244,19 @@ pub fn over(turns: usize, mut turn: impl FnMut(u64) -> u64) -> u64 {
 
 fn typed_sum<T: Value>(trie: &Trie<T>, points: &[u32], turns: usize) -> u64 {
     if trie.is_fast {
-        over(turns, |sum| add_typed(&Typed::<T, true>(trie), points, sum))
+        typed_added_often(&Typed::<T, true>(trie), points, turns)
     } else {
-        over(turns, |sum| add_typed(&Typed::<T, false>(trie), points, sum))
+        typed_added_often(&Typed::<T, false>(trie), points, turns)
     }
+}
+
+fn typed_added_often<T: Value, const FAST: bool>(
+    trie: &Typed<T, FAST>,
+    points: &[u32],
+    turns: usize,
+) -> u64 {
+    let first = |sum| add_typed::<T, FAST, false>(trie, points, sum);
+    over(turns / 2, |sum| add_typed::<T, FAST, true>(trie, points, first(sum)))
 }
 
 macro_rules! calls {
@@ -237,7 +269,8 @@ macro_rules! calls {
             turns: usize,
         ) -> u64 {
             let (trie, points) = unsafe { (Trie::<$value>::of_parts(parts), slice(points, len)) };
-            over(turns, |sum| add_values(&trie, points, sum))
+            let first = |sum| add_values::<$value, false>(&trie, points, sum);
+            over(turns / 2, |sum| add_values::<$value, true>(&trie, points, first(sum)))
         }
 
         #[unsafe(no_mangle)]
@@ -271,16 +304,34 @@ calls!(u8, rust_get_8, rust_typed_8, rust_answers_8);
 calls!(u16, rust_get_16, rust_typed_16, rust_answers_16);
 calls!(u32, rust_get_32, rust_typed_32, rust_answers_32);
 
-#[unsafe(no_mangle)]
-unsafe extern "C" fn rust_text_8(parts: &Parts, text: *const u8, len: usize, turns: usize) -> u64 {
-    let (trie, text) = unsafe { (Trie::<u8>::of_parts(parts), slice(text, len)) };
-    std::str::from_utf8(text).map_or(u64::MAX, |text| over(turns, |sum| add_text(&trie, text, sum)))
+/// Each pair of turns has its own wanted value.
+macro_rules! text_calls {
+    ($call:ident, $add:ident) => {
+        #[unsafe(no_mangle)]
+        unsafe extern "C" fn $call(
+            parts: &Parts,
+            text: *const u8,
+            len: usize,
+            turns: usize,
+        ) -> u64 {
+            let (trie, text) = unsafe { (Trie::<u8>::of_parts(parts), slice(text, len)) };
+            let Ok(text) = std::str::from_utf8(text) else { return u64::MAX };
+            (0..turns as u64 / 2).fold(0, |sum, wanted| {
+                let sum = $add::<false>(&trie, text, wanted, sum);
+                $add::<true>(&trie, text, wanted, sum)
+            })
+        }
+    };
 }
 
+text_calls!(rust_text_8, add_text);
+text_calls!(rust_indices_8, add_indices);
+text_calls!(rust_find_8, add_found);
+
 #[inline(never)]
-fn add_copied(trie: &Trie<u8>, text: &str, values: &mut [u8], sum: u64) -> u64 {
+fn add_copied<const SQUARED: bool>(trie: &Trie<u8>, text: &str, values: &mut [u8], sum: u64) -> u64 {
     values.iter_mut().zip(text.chars()).for_each(|(value, c)| *value = trie.get(c));
-    values.iter().fold(sum, |sum, value| sum + *value as u64)
+    values.iter().fold(sum, |sum, value| sum + power::<u8, SQUARED>(*value))
 }
 
 #[unsafe(no_mangle)]
@@ -294,8 +345,11 @@ unsafe extern "C" fn rust_copy_8(
 ) -> u64 {
     let (trie, text) = unsafe { (Trie::<u8>::of_parts(parts), slice(text, len)) };
     let values = unsafe { std::slice::from_raw_parts_mut(values, room) };
-    std::str::from_utf8(text)
-        .map_or(u64::MAX, |text| over(turns, |sum| add_copied(&trie, text, values, sum)))
+    let Ok(text) = std::str::from_utf8(text) else { return u64::MAX };
+    over(turns / 2, |sum| {
+        let sum = add_copied::<false>(&trie, text, values, sum);
+        add_copied::<true>(&trie, text, values, sum)
+    })
 }
 
 /// Returns the value of `A` in the trie of these parts.
