@@ -6,9 +6,10 @@
  * including the fourth, and so on. So {0x41, 0x5B} is A to Z. A unit trie has a number for each key
  * of a list, and is read in place from what ICU's UCharsTrieBuilder writes.
  *
- * Nothing is stored between calls, and nothing has to be freed. Results go into your buffers, as
- * many as fit, and a function returns how many there are in all. If that is more than fit, call it
- * again with a larger buffer. The rest of a buffer is unchanged.
+ * Nothing is stored between calls, and nothing has to be freed. Results go into your buffers. Unless
+ * its comment says otherwise, a function writes as many as fit and returns how many there are in all:
+ * if that is more than fit, call it again with a larger buffer. bks_trie_build, bks_set_freeze,
+ * bks_units_build and bks_units_build_utf8 write all or nothing. The rest of a buffer is unchanged.
  *
  * A code point is any 32-bit number. Above 0x10FFFF a trie returns its error value, and no set
  * contains the number. A `count` is a number of items, a `size` a number of bytes, and `room` the
@@ -300,14 +301,15 @@ int64_t bks_set_size(const uint32_t *ends, size_t count);
  * the set or, if `held` is false, all outside it. It ends at a character boundary. An ill-formed
  * sequence ends it too. Error: BKS_NO_TEXT, exactly if the text is not empty and does not start
  * with a character. So spans with true and false in turn reach the end of the text, or BKS_NO_TEXT
- * at its first ill-formed sequence; skip a byte to go on. Reads no further than the character after
- * the span. Unspecified (but memory-safe) if bks_set_test returns false. ICU: uset_spanUTF8. */
+ * at its first ill-formed sequence; skip a byte to go on. It reads at most the four bytes after the
+ * span, and none outside the text. Unspecified (but memory-safe) if bks_set_test returns false.
+ * ICU: uset_spanUTF8. */
 int64_t bks_set_span(const uint32_t *ends, size_t count, const char *text, size_t size, bool held);
 
 /* Returns the offset in bytes of the longest suffix of a text in UTF-8 whose characters are all in
  * the set or, if `held` is false, all outside it. Error: BKS_NO_TEXT, exactly if the text is not
- * empty and does not end with a character. Otherwise like bks_set_span.
- * ICU: uset_spanBackUTF8. */
+ * empty and does not end with a character. It reads at most the four bytes before the span.
+ * Otherwise like bks_set_span. ICU: uset_spanBackUTF8. */
 int64_t bks_set_span_back(const uint32_t *ends, size_t count, const char *text, size_t size,
                           bool held);
 
@@ -376,8 +378,9 @@ int64_t bks_set_freeze(const uint32_t *ends, size_t count, uint64_t *table, size
 bool bks_frozen_contains(const uint64_t *table, size_t count, uint32_t c);
 
 /* Spans as by bks_set_span, bks_set_span_back and bks_set_span_utf16, by the frozen set at the
- * start of the words. Any words are accepted, as by bks_frozen_contains. ICU: uset_spanUTF8,
- * uset_spanBackUTF8 and uset_span, of a frozen set. */
+ * start of the words. Any words are accepted, as by bks_frozen_contains. bks_frozen_span tests a
+ * long span eight bytes at a time: it reads at most the nine bytes after the span, and none outside
+ * the text. ICU: uset_spanUTF8, uset_spanBackUTF8 and uset_span, of a frozen set. */
 int64_t bks_frozen_span(const uint64_t *table, size_t count, const char *text, size_t size,
                         bool held);
 int64_t bks_frozen_span_back(const uint64_t *table, size_t count, const char *text, size_t size,
@@ -482,8 +485,10 @@ size_t bks_units_prefixes(const void *units, size_t size, const uint16_t *text, 
 int64_t bks_units_prefixes_utf8(const void *units, size_t size, const char *text, size_t text_size,
                                 bks_prefix *found, size_t room);
 
-/* [m] Writes the units that can come next in some key into `next`, ascending, as many as fit.
- * Returns how many there are, at most 65,536, or BKS_NO_MEMORY. ICU: UCharsTrie::getNextUChars. */
+/* [m] Writes the units that can come next in some key into `next`, as many as fit. Returns how many
+ * there are, at most 65,536, or BKS_NO_MEMORY. If the units are a trie, they ascend, each once. If
+ * not, they are those of the entries of a branch, as far as the entries are there.
+ * ICU: UCharsTrie::getNextUChars. */
 int64_t bks_units_next(const void *units, size_t size, const bks_cursor *cursor, uint16_t *next,
                        size_t room);
 

@@ -788,7 +788,8 @@ public:
             return found ? std::optional<std::int32_t>(value) : std::nullopt;
         }
 
-        // Returns the units that can come next in some key, ascending (ICU: getNextUChars).
+        // Returns the units that can come next in some key. They ascend if the units are a trie
+        // (ICU: getNextUChars).
         std::vector<char16_t> next_units() const {
             std::vector<char16_t> next(16);
             for (;;) {

@@ -223,8 +223,12 @@ static void pages(void) {
     CHECK(bks_units_list_below(units, sizeof units, "ab", 2, 3, words, 3, texts, 256, &size) == 3);
     CHECK(size == 180 && words[2].start == 120 && words[2].size == 60 && words[2].value == 5);
     CHECK(memcmp(texts + 1, "b", 1) == 0 && memcmp(texts + 57, "abb", 3) == 0);
+    int32_t value = 0;
+    bks_cursor cursor = {0, 0};
+    CHECK(bks_units_unique(units, sizeof units, &cursor, &value) == 1 && value == 5);
     /* the same without the value: 2^60 ways that reach no entry */
     CHECK(bks_units_list_below(units, 480, "", 0, 0, words, 3, texts, 256, &size) == 0 && size == 0);
+    CHECK(bks_units_unique(units, 480, &cursor, &value) == 0);
 }
 
 int main(void) {

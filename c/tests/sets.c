@@ -42,6 +42,7 @@ static void joined(int64_t count, const uint32_t *ends, const bool wanted[2][2])
         uint32_t *ends = (uint32_t *)before_closed_page(2 * MOST * sizeof(uint32_t));        \
         int64_t n = bks_set_##name(a.ends, a.count, b.ends, b.count, ends, 2 * MOST);        \
         joined(n, ends, wanted);                                                             \
+        CHECK((size_t)n <= a.count + b.count);                                               \
     } while (0)
 
 /* The span of a text. */

@@ -15,8 +15,9 @@ use crate::units::trie_in;
 use icu_char16trie::char16trie::Char16TrieCursor;
 use std::alloc::Global;
 
-/// Writes the units that can come next in some key to the start of a buffer, ascending and each
-/// once, as many as fit. Returns how many there are, at most 65,536.
+/// Writes the units that can come next in some key to the start of a buffer, as many as fit.
+/// Returns how many there are, at most 65,536. If the units are a trie, they ascend, each once. If
+/// not, they are those of the entries of a branch, as far as the entries are there.
 ///
 /// ICU: `UCharsTrie::getNextUChars`.
 ///
