@@ -5,7 +5,8 @@
  *     uint8_t category = bks_get8(&categories, 0x41);
  *     puts(bks_category_names[category]);
  *
- * The values are those of ICU's u_charType (UCharCategory). Above 0x10FFFF the value is BKS_GC_CN.
+ * The values are those of ICU's u_charType (UCharCategory). Above 0x10FFFF, and for ill-formed parts
+ * of a text, the value is BKS_CATEGORY_ERROR.
  * data/make writes this file from Unicode's DerivedGeneralCategory.txt:
  * Copyright (C) 2022 Unicode, Inc., under the terms of https://www.unicode.org/copyright.html. */
 #ifndef BEKSTAUDI_CATEGORIES_H
@@ -26,8 +27,11 @@ enum bks_category {
     BKS_GC_SC = 25, BKS_GC_SK = 26, BKS_GC_SO = 27, BKS_GC_PI = 28, BKS_GC_PF = 29
 };
 
-/* The short name of each value. */
-static const char bks_category_names[30][3] = {
+/* The error value, which no code point has. */
+#define BKS_CATEGORY_ERROR 255
+
+/* The short name of each value. Other numbers have an empty name. */
+static const char bks_category_names[256][3] = {
     "Cn", "Lu", "Ll", "Lt", "Lm", "Lo", "Mn", "Me", "Mc", "Nd",
     "Nl", "No", "Zs", "Zl", "Zp", "Cc", "Cf", "Co", "Cs", "Pd",
     "Ps", "Pe", "Pc", "Po", "Sm", "Sc", "Sk", "So", "Pi", "Pf"
@@ -35,7 +39,7 @@ static const char bks_category_names[30][3] = {
 
 /* The trie, in ICU's binary form: fast, with values of 8 bits. */
 static const uint32_t bks_category_table[5213] = {
-    0x54726933, 0x0c1f0002, 0x066a3923, 0x08800d18, 0x00400000, 0x00bf007f, 0x012e00ff, 0x01ad016d,
+    0x54726933, 0x0c1f0002, 0x066a3924, 0x08800d18, 0x00400000, 0x00bf007f, 0x012e00ff, 0x01ad016d,
     0x022401e5, 0x028e0250, 0x02de02ce, 0x034f031e, 0x03bc038c, 0x043a03fa, 0x047b044a, 0x04f204b2,
     0x05720532, 0x05cf05a3, 0x0644060f, 0x069e065e, 0x071e06de, 0x078d0756, 0x080907ca, 0x08870848,
     0x090508c6, 0x09830944, 0x0a0109c3, 0x0a7f0a3f, 0x0afe0abf, 0x0b7e0b3e, 0x0bfd0bbe, 0x0c7d0c3d,
@@ -686,7 +690,7 @@ static const uint32_t bks_category_table[5213] = {
     0x00050505, 0x05050005, 0x05050005, 0x00050505, 0x05050505, 0x00181805, 0x00000000, 0x00000000,
     0x00000000, 0x1b1b1b00, 0x1b1b1b1b, 0x1b1b1b1b, 0x1a1a1a1a, 0x1b1b1b1a, 0x1b1b1b1b, 0x0000001b,
     0x1b1b1b00, 0x001b1b1b, 0x00000000, 0x1b000000, 0x0010001b, 0x00000000, 0x00000000, 0x00000000,
-    0x11111100, 0x11111111, 0x11111111, 0x00111111, 0x00000000
+    0x11111100, 0x11111111, 0x11111111, 0x00111111, 0x0000ff00
 };
 
 #endif

@@ -1,4 +1,4 @@
-/* Prints each character of a text with its general category.
+/* Prints each character of a text with its general category, and the bytes of each ill-formed part.
    cc categories.c $(pkg-config --cflags --libs bekstaudi) -o categories
    ./categories 'Grüße, 世界!' */
 #include <bekstaudi.h>
@@ -6,24 +6,25 @@
 #include <stdio.h>
 
 int main(int count, char **words) {
-    static uint8_t values[1 << 16];
+    bks_trie categories;
     if (count != 2) {
         fprintf(stderr, "usage: categories TEXT\n");
         return 2;
     }
-    bks_trie categories;
     bks_open(&categories, bks_category_table, sizeof bks_category_table);
     const char *text = words[1];
-    int64_t found = bks_trie8_get_utf8(&categories, text, strlen(text), values, sizeof values);
-    if (found < 0 || (size_t)found > sizeof values) {
-        fprintf(stderr, "categories: the text is no UTF-8, or too long\n");
-        return 1;
-    }
-    for (int64_t i = 0; i < found; i++) {
-        int bytes = 1;
-        while ((text[bytes] & 0xC0) == 0x80) bytes++;
-        printf("%.*s %s\n", bytes, text, bks_category_names[values[i]]);
-        text += bytes;
+    size_t left = strlen(text);
+    while (left > 0) {
+        uint8_t category;
+        size_t size;  /* with room for one value: the size of the first character */
+        bks_trie8_copy_utf8(&categories, text, left, &category, 1, &size);
+        if (category == BKS_CATEGORY_ERROR)
+            for (size_t i = 0; i < size; i++) printf("%02X ", (unsigned char)text[i]);
+        else
+            printf("%.*s ", (int)size, text);
+        puts(category == BKS_CATEGORY_ERROR ? "ill-formed" : bks_category_names[category]);
+        text += size;
+        left -= size;
     }
     return 0;
 }

@@ -1,5 +1,5 @@
 // Prints what a text has of letters, digits and spaces, by a table of general categories that ICU or
-// ucptrie wrote (make_table.c).
+// ucptrie wrote (make_table.c). Ill-formed sequences are left out.
 // c++ -std=c++17 kept.cpp $(pkg-config --cflags --libs bekstaudi) -o kept
 // ./kept general_category.bin 'A+ß, 7!'
 // ./kept general_category.bin <FILE
@@ -15,10 +15,14 @@ static std::string read_all(std::istream &in) { return {std::istreambuf_iterator
 // The pieces of the text that are held.
 static void print_kept(const bekstaudi::frozen_set &kept, std::string_view text) {
     while (!text.empty()) {
-        text.remove_prefix(kept.span(text, false).size());
-        std::string_view piece = kept.span(text);
-        text.remove_prefix(piece.size());
-        std::cout << piece;
+        try {
+            text.remove_prefix(kept.span(text, false).size());
+            std::string_view piece = kept.span(text);
+            text.remove_prefix(piece.size());
+            std::cout << piece;
+        } catch (const bekstaudi::text_refused &) {
+            text.remove_prefix(1);  // the text does not start with a character
+        }
     }
 }
 

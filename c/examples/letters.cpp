@@ -1,9 +1,22 @@
-// Prints the words of a text: what is made of letters.
+// Prints the words of a text: what is made of letters. An ill-formed sequence ends a word.
 // c++ -std=c++17 letters.cpp $(pkg-config --cflags --libs bekstaudi) -o letters
 // ./letters 'Grüße, 世界!'
 #include <bekstaudi.hpp>
 #include <bekstaudi_categories.h>
 #include <iostream>
+
+static void print_words(const bekstaudi::frozen_set &letters, std::string_view text) {
+    while (!text.empty()) {
+        try {
+            text.remove_prefix(letters.span(text, false).size());
+            std::string_view word = letters.span(text);
+            text.remove_prefix(word.size());
+            if (!word.empty()) std::cout << word << '\n';
+        } catch (const bekstaudi::text_refused &) {
+            text.remove_prefix(1);  // the text does not start with a character
+        }
+    }
+}
 
 int main(int count, char **words) {
     if (count != 2) {
@@ -16,13 +29,7 @@ int main(int count, char **words) {
         for (int letter = BKS_GC_LU; letter <= BKS_GC_LO; letter++) {
             set = set | categories.set_of(static_cast<std::uint8_t>(letter));
         }
-        bekstaudi::frozen_set letters(set);
-        for (std::string_view text = words[1]; !text.empty();) {
-            text.remove_prefix(letters.span(text, false).size());
-            std::string_view word = letters.span(text);
-            text.remove_prefix(word.size());
-            if (!word.empty()) std::cout << word << '\n';
-        }
+        print_words(bekstaudi::frozen_set(set), words[1]);
     } catch (const std::exception &fault) {
         std::cerr << "letters: " << fault.what() << '\n';
         return 1;

@@ -1,5 +1,5 @@
 /* Compares the table of general categories with ICU's u_charType at all code points, if ICU has the
- * same Unicode version. */
+ * same Unicode version, and the names with ICU's. No code point has the error value. */
 #include <bekstaudi.h>
 #include <bekstaudi_categories.h>
 #include <stdio.h>
@@ -24,6 +24,13 @@ int main(void) {
             printf("value %d is %s, of ICU %s\n", value, bks_category_names[value], icus[value]);
             return 1;
         }
+    }
+    uint8_t values[3];
+    size_t taken;
+    if (bks_trie8_copy_utf8(&categories, "A\xFFz", 3, values, 3, &taken) != 3 || values[0] != U_UPPERCASE_LETTER ||
+        values[1] != BKS_CATEGORY_ERROR || bks_get8(&categories, 0x110000) != BKS_CATEGORY_ERROR) {
+        printf("the error value is not %d\n", BKS_CATEGORY_ERROR);
+        return 1;
     }
     UVersionInfo version;
     char text[U_MAX_VERSION_STRING_LENGTH];

@@ -6,6 +6,9 @@ import subprocess
 from running import BUILD, CC, CXX, STRICT, TOP, passes, prints
 
 
+ILL_FORMED = "a Ll\nb Ll\nE4 B8 ill-formed\nc Ll\nd Ll\n"
+
+
 def examples(room, icu):
     """The library installed, and the examples as a user runs them. ICU4C makes one table, if it is there."""
     yield passes("c/build PREFIX", [*BUILD, f"{room}/usr"])
@@ -23,6 +26,8 @@ def examples(room, icu):
             words = [compiler, f"-std={standard}", *STRICT, "-o", f"{room}/shown", f"{code}/{source}"]
             yield passes(source, [*words, *flags])
             yield prints(source, [f"{room}/shown", *files, text], wanted, os.environ)
+            ill_formed = {"letters.cpp": "ab\ncd\n", "kept.cpp": "abcd\n"}.get(source, ILL_FORMED)
+            yield prints(source, [f"{room}/shown", *files, b"ab\xe4\xb8cd"], ill_formed, os.environ)
     if shutil.which(CXX):
         lines = f"{text}\n\n" * 9000
         yield prints("kept.cpp", [f"{room}/shown", tables[0]], "A\u00df7 \u4e16\n\n" * 9000, os.environ, lines)
