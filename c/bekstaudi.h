@@ -522,6 +522,10 @@ int64_t bks_units_list_below(const void *units, size_t size, const char *prefix,
 /* ---- Inline functions ------------------------------------------------------------------------ */
 /* They read without a test what the proved functions guarantee. The README of
  * crates/icu_collections_c lists each such read and the guarantee. */
+#ifdef __cplusplus
+#pragma GCC diagnostic push
+#pragma GCC diagnostic ignored "-Wold-style-cast" /* C has no others */
+#endif
 
 /* [inline] bks_trie_open for a *trie that may be uninitialized: it first makes it a valid bks_trie,
  * as the proof of bks_trie_open assumes. */
@@ -627,6 +631,7 @@ static inline bool bks_frozen_has(const uint64_t *table, uint32_t c) {
 }
 
 #ifdef __cplusplus
+#pragma GCC diagnostic pop
 }
 #endif
 

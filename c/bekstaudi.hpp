@@ -4,8 +4,14 @@
 // owns its boundaries. If a function of bekstaudi.h returns a negative number, the class throws
 // std::bad_alloc or one of the errors below. If no key is a prefix of a text, or units are not a
 // trie, the result is an empty optional. Link with -lbekstaudi.
+//
+// A text is in UTF-8 (char, and char8_t from C++20 on), UTF-16 (char16_t) or UTF-32 (char32_t).
 #ifndef BEKSTAUDI_HPP
 #define BEKSTAUDI_HPP
+
+#if __cplusplus < 201703L
+#error "bekstaudi.hpp: expected C++17 or newer, as by -std=c++17"
+#else
 
 #include "bekstaudi.h"
 
@@ -25,6 +31,11 @@
 #include <vector>
 #if __cplusplus >= 202002L
 #include <ranges>
+#endif
+
+#ifdef __clang__
+#pragma clang diagnostic push
+#pragma clang diagnostic ignored "-Wweak-vtables"  // the errors below have no source file of their own
 #endif
 
 namespace bekstaudi {
@@ -107,6 +118,37 @@ inline view<std::uint16_t> units_of(std::u16string_view text) noexcept {
     return {reinterpret_cast<const std::uint16_t *>(text.data()), text.size()};
 }
 
+// Returns the code points of a text in UTF-32, as C has them.
+inline view<std::uint32_t> points_of(std::u32string_view text) noexcept {
+    return {reinterpret_cast<const std::uint32_t *>(text.data()), text.size()};
+}
+
+// Returns a text of code points in UTF-16, or nothing if one is above 0x10FFFF.
+inline std::optional<std::u16string> utf16_of(std::u32string_view text) {
+    std::u16string units;
+    for (char32_t c : text) {
+        if (c > 0x10FFFF) return std::nullopt;
+        if (c > 0xFFFF) units += static_cast<char16_t>(0xD7C0 + (c >> 10));
+        units += static_cast<char16_t>(c > 0xFFFF ? 0xDC00 + (c & 0x3FF) : c);
+    }
+    return units;
+}
+
+// Returns the longest prefix whose code points are all in a set, or all outside it.
+template <class Set>
+std::u32string_view span_of(const Set &set, std::u32string_view text, bool held) noexcept {
+    std::size_t size = 0;
+    while (size < text.size() && set.contains(text[size]) == held) size++;
+    return text.substr(0, size);
+}
+
+#ifdef __cpp_lib_char8_t
+// Returns a text in UTF-8 as C has it.
+inline std::string_view bytes_of(std::u8string_view text) noexcept {
+    return {reinterpret_cast<const char *>(text.data()), text.size()};
+}
+#endif
+
 // Returns the boundaries that a call writes. The call is made again with a larger buffer if there
 // are more than `room`.
 template <class Call>
@@ -146,20 +188,26 @@ public:
     // Makes the set of all code points in these ranges, which may be in any order and may overlap.
     // A range whose first code point is above its last one has none, and code points above 0x10FFFF
     // are left out. Takes O(n log n) time (ICU: uset_addRange, range by range).
-    static code_point_set from_ranges(const std::vector<range> &ranges) {
+    static code_point_set from_ranges(view<range> ranges) {
         return made(2 * ranges.size(), [&](std::uint32_t *ends, std::size_t room) {
             return bks_set_from_ranges(ranges.data(), ranges.size(), ends, room);
         });
     }
+    static code_point_set from_ranges(std::initializer_list<range> ranges) {
+        return from_ranges(view<range>(ranges.begin(), ranges.size()));
+    }
 
-    // Makes the set of these code points, in any order. Those above 0x10FFFF are left out.
+    // Makes the set of these code points, in any order: a range of integers, or a text in UTF-32.
+    // Numbers that are not from 0 to 0x10FFFF are left out.
     template <class Points>
     static code_point_set from_points(const Points &points) {
-        std::vector<std::uint32_t> all;
-        for (auto c : points) all.push_back(static_cast<std::uint32_t>(c));
-        return made(2 * all.size(), [&](std::uint32_t *ends, std::size_t room) {
-            return bks_set_from_points(all.data(), all.size(), ends, room);
-        });
+        if constexpr (std::is_convertible_v<const Points &, std::u32string_view>)
+            return of_points(std::u32string_view(points));  // a literal without its final NUL
+        else
+            return of_points(points);
+    }
+    static code_point_set from_points(std::initializer_list<std::uint32_t> points) {
+        return of_points(points);
     }
 
     const std::vector<std::uint32_t> &ends() const noexcept { return ends_; }
@@ -287,6 +335,19 @@ public:
             0, bks_set_span_utf16(of().data(), ends_.size(), units.data(), units.size(), held));
     }
 
+    // The same for a text in UTF-32, and spans as above of a text of char8_t.
+    std::u32string_view span(std::u32string_view text, bool held = true) const noexcept {
+        return detail::span_of(*this, text, held);
+    }
+#ifdef __cpp_lib_char8_t
+    std::u8string_view span(std::u8string_view text, bool held = true) const {
+        return text.substr(0, span(detail::bytes_of(text), held).size());
+    }
+    std::u8string_view span_back(std::u8string_view text, bool held = true) const {
+        return text.substr(text.size() - span_back(detail::bytes_of(text), held).size());
+    }
+#endif
+
     friend code_point_set operator|(const code_point_set &a, const code_point_set &b) {
         return made(bks_set_union, a, b);
     }
@@ -336,6 +397,27 @@ private:
                              room);
         });
     }
+
+    template <class Points>
+    static code_point_set of_points(const Points &points) {
+        using point = std::decay_t<decltype(*std::begin(points))>;
+        static_assert(std::is_integral_v<point> && !is_unit<point>,
+                      "from_points takes code points: units of UTF-8 and UTF-16 are none");
+        std::vector<std::uint32_t> all;
+        for (auto c : points)
+            if (static_cast<std::uint64_t>(c) <= 0x10FFFF) all.push_back(static_cast<std::uint32_t>(c));
+        return made(2 * all.size(), [&](std::uint32_t *ends, std::size_t room) {
+            return bks_set_from_points(all.data(), all.size(), ends, room);
+        });
+    }
+
+    // Whether a type has the units of UTF-8 or UTF-16.
+    template <class T>
+    static constexpr bool is_unit = std::is_same_v<T, char> || std::is_same_v<T, char16_t>
+#ifdef __cpp_char8_t
+                                    || std::is_same_v<T, char8_t>
+#endif
+        ;
 
     // The set whose boundaries a call writes, at most `room` of them.
     template <class Call>
@@ -400,6 +482,19 @@ public:
                                                     units.size(), held));
     }
 
+    // The same for a text in UTF-32, and spans as above of a text of char8_t.
+    std::u32string_view span(std::u32string_view text, bool held = true) const noexcept {
+        return detail::span_of(*this, text, held);
+    }
+#ifdef __cpp_lib_char8_t
+    std::u8string_view span(std::u8string_view text, bool held = true) const {
+        return text.substr(0, span(detail::bytes_of(text), held).size());
+    }
+    std::u8string_view span_back(std::u8string_view text, bool held = true) const {
+        return text.substr(text.size() - span_back(detail::bytes_of(text), held).size());
+    }
+#endif
+
 private:
     std::vector<std::uint64_t> words_;
 };
@@ -460,17 +555,37 @@ public:
     };
     copied copy_values(std::string_view text, Value *values, std::size_t room) const noexcept {
         copied done = {0, 0};
-        if constexpr (sizeof(Value) == 1)
-            done.values = bks_trie8_copy_utf8(&trie_, text.data(), text.size(), values, room,
-                                               &done.bytes);
-        else if constexpr (sizeof(Value) == 2)
-            done.values = bks_trie16_copy_utf8(&trie_, text.data(), text.size(), values, room,
-                                               &done.bytes);
-        else
-            done.values = bks_trie32_copy_utf8(&trie_, text.data(), text.size(), values, room,
-                                               &done.bytes);
+        done.values = of_width(bks_trie8_copy_utf8, bks_trie16_copy_utf8, bks_trie32_copy_utf8)(
+            &trie_, text.data(), text.size(), values, room, &done.bytes);
         return done;
     }
+
+    // Returns the values of the code points of a text in UTF-16, in order. An unpaired surrogate is a
+    // code point of its own (ICU: U16_NEXT and ucptrie_get in a loop).
+    std::vector<Value> values_of(std::u16string_view text) const {
+        view<std::uint16_t> units = detail::units_of(text);
+        std::vector<Value> values(text.size());
+        values.resize(of_width(bks_trie8_get_utf16, bks_trie16_get_utf16, bks_trie32_get_utf16)(
+            &trie_, units.data(), units.size(), values.data(), values.size()));
+        return values;
+    }
+
+    // The same for a text in UTF-32, and values as above of a text of char8_t.
+    std::vector<Value> values_of(std::u32string_view text) const {
+        view<std::uint32_t> points = detail::points_of(text);
+        std::vector<Value> values(text.size());
+        of_width(bks_trie8_get_many, bks_trie16_get_many, bks_trie32_get_many)(
+            &trie_, points.data(), points.size(), values.data(), values.size());
+        return values;
+    }
+#ifdef __cpp_lib_char8_t
+    std::vector<Value> values_of(std::u8string_view text) const {
+        return values_of(detail::bytes_of(text));
+    }
+    copied copy_values(std::u8string_view text, Value *values, std::size_t room) const noexcept {
+        return copy_values(detail::bytes_of(text), values, room);
+    }
+#endif
 
     // Returns whether the ranges are the longest runs of equal values, as in every trie that ICU or
     // this library built.
@@ -540,6 +655,18 @@ public:
     }
 
 private:
+    // Returns the one of three functions that is for the width of the values.
+    template <class Of8, class Of16, class Of32>
+    static constexpr auto of_width([[maybe_unused]] Of8 of_8, [[maybe_unused]] Of16 of_16,
+                                   [[maybe_unused]] Of32 of_32) noexcept {
+        if constexpr (sizeof(Value) == 1)
+            return of_8;
+        else if constexpr (sizeof(Value) == 2)
+            return of_16;
+        else
+            return of_32;
+    }
+
     bks_trie trie_ = {};
 };
 
@@ -587,7 +714,7 @@ public:
     explicit entries_refused(bks_refusal refusal)
         : std::invalid_argument("bekstaudi: no unit trie of these entries"), refusal_(refusal) {}
     // Returns BKS_LONG_KEY; BKS_SAME_KEY if two entries have the same key; BKS_NO_TEXT if a key is
-    // not UTF-8; BKS_WIDE_VALUE if a value is not a signed 32-bit number; or BKS_TOO_LARGE.
+    // not UTF-8 or not UTF-32; BKS_WIDE_VALUE if a value is not a signed 32-bit number; or BKS_TOO_LARGE.
     bks_refusal refusal() const noexcept { return refusal_; }
 
 private:
@@ -615,18 +742,18 @@ public:
     explicit unit_trie(const C &&units) = delete;
 
     // Returns the units of a trie built from entries in any order, as bks_units_build and
-    // bks_units_build_utf8 write them. The entries are a map, or any other range of pairs of a key,
-    // in UTF-16 or UTF-8, and an integer. Throws entries_refused.
+    // bks_units_build_utf8 write them. The entries are a map, or any other range of pairs of a text
+    // and an integer. Throws entries_refused.
     template <class Entries>
     static std::vector<std::uint8_t> build(const Entries &entries) {
         using key_of = std::tuple_element_t<0, std::decay_t<decltype(*std::begin(entries))>>;
-        constexpr bool is_utf8 = std::is_convertible_v<const key_of &, std::string_view>;
-        using unit = std::conditional_t<is_utf8, char, char16_t>;
+        using unit = typename decltype(text_of(std::declval<const key_of &>()))::value_type;
+        constexpr bool is_utf8 = std::is_same_v<unit, char>;
         std::basic_string<unit> keys;
         std::vector<std::size_t> lengths;
         std::vector<std::int32_t> values;
         for (const auto &[key, value] : entries) {
-            std::basic_string_view<unit> units(key);
+            const auto units = text_of(key);
             keys.append(units);
             lengths.push_back(units.size());
             if (!is_of_32_bits(value)) throw entries_refused(BKS_WIDE_VALUE);
@@ -753,6 +880,12 @@ public:
     }
     std::optional<std::int32_t> operator[](std::string_view key) const noexcept { return get(key); }
 
+    // The same for a key in UTF-32.
+    std::optional<std::int32_t> operator[](std::u32string_view key) const {
+        std::optional<std::u16string> units = detail::utf16_of(key);
+        return units ? (*this)[std::u16string_view(*units)] : std::nullopt;
+    }
+
     // Returns all keys that are prefixes of a UTF-16 text, the shortest first.
     std::vector<match> prefixes(std::u16string_view text) const {
         view<std::uint16_t> units = detail::units_of(text);
@@ -773,6 +906,35 @@ public:
                                            found, room);
         });
     }
+
+    // The same for a text in UTF-32.
+    std::optional<match> longest(std::u32string_view text) const {
+        std::optional<match> last;
+        each_prefix(text, [&](match found) { last = found; });
+        return last;
+    }
+    std::vector<match> prefixes(std::u32string_view text) const {
+        std::vector<match> all;
+        each_prefix(text, [&](match found) { all.push_back(found); });
+        return all;
+    }
+
+#ifdef __cpp_lib_char8_t
+    // The same for texts of char8_t.
+    std::optional<std::int32_t> get(std::u8string_view key) const noexcept {
+        return get(detail::bytes_of(key));
+    }
+    std::optional<std::int32_t> operator[](std::u8string_view key) const noexcept { return get(key); }
+    std::optional<match> longest(std::u8string_view text) const {
+        return longest(detail::bytes_of(text));
+    }
+    std::vector<match> prefixes(std::u8string_view text) const {
+        return prefixes(detail::bytes_of(text));
+    }
+    std::vector<std::pair<std::string, std::int32_t>> entries(std::u8string_view prefix) const {
+        return entries(detail::bytes_of(prefix));
+    }
+#endif
 
     // Moves unit by unit from the root (ICU: UCharsTrie::next, getValue).
     class cursor {
@@ -818,6 +980,32 @@ public:
     };
 
 private:
+    // Return a key in UTF-8 or UTF-16.
+    static std::string_view text_of(std::string_view key) noexcept { return key; }
+    static std::u16string_view text_of(std::u16string_view key) noexcept { return key; }
+    static std::u16string text_of(std::u32string_view key) {
+        std::optional<std::u16string> units = detail::utf16_of(key);
+        if (!units) throw entries_refused(BKS_NO_TEXT);
+        return *std::move(units);
+    }
+#ifdef __cpp_lib_char8_t
+    static std::string_view text_of(std::u8string_view key) noexcept { return detail::bytes_of(key); }
+#endif
+
+    // Reports each key that is a prefix of a text of code points, the shortest first.
+    template <class Report>
+    void each_prefix(std::u32string_view text, Report report) const {
+        cursor at(*this);
+        for (std::size_t size = 0;; size++) {
+            if (std::optional<std::int32_t> value = at.value()) report(match{size, *value});
+            if (size == text.size()) return;
+            std::optional<std::u16string> units = detail::utf16_of(text.substr(size, 1));
+            if (!units) return;
+            for (char16_t unit : *units)
+                if (at.step(unit) == BKS_NO_MATCH) return;
+        }
+    }
+
     // Returns whether an integer is a signed 32-bit number.
     template <class Number>
     static constexpr bool is_of_32_bits(Number number) noexcept {
@@ -865,4 +1053,9 @@ struct std::hash<bekstaudi::code_point_set> {
     }
 };
 
+#ifdef __clang__
+#pragma clang diagnostic pop
+#endif
+
+#endif
 #endif

@@ -181,6 +181,57 @@ static void spans() {
         CHECK(throws<bekstaudi::set_refused>([&] { code_point_set set(ends); }));
 }
 
+/* Texts in UTF-32 and of char8_t give what the same texts in UTF-8 and UTF-16 give. */
+static void texts_of_all_kinds() {
+    const std::u32string_view text = U"aé世\U0001F600!";
+    const code_point_set set{'a', 'b', 0xE9, 0xEA, 0x4E16, 0x4E17, 0x1F600, 0x1F601};
+    const bekstaudi::frozen_set frozen(set);
+    CHECK(set.span(text) == text.substr(0, 4) && frozen.span(text) == text.substr(0, 4));
+    CHECK(set.span(U"!\x110000!a", false) == U"!\x110000!" && frozen.span(U"!a", false) == U"!");
+    CHECK(set.span(U"").empty() && frozen.span(std::u32string_view()).empty());
+    const std::vector<uint8_t> bytes = bekstaudi::build<uint16_t>({{'a', 'z', 1}, {0xE9, 0xE9, 700}, {0x1F600, 0x1F600, 3}}, 9, 5);
+    const bekstaudi::trie16 trie(bytes);
+    const std::vector<uint16_t> values = {1, 700, 9, 3, 9};
+    CHECK(trie.values_of(text) == values && trie.values_of(u"a\u00E9\u4E16\U0001F600!") == values);
+    CHECK((trie.values_of(U"\x110000" U"a") == std::vector<uint16_t>{5, 1} && trie.values_of(std::u16string_view()).empty()));
+    CHECK(trie.values_of(u"\xD83D" u"a") == (std::vector<uint16_t>{9, 1}) && trie.values_of(U"").empty());
+    const std::map<std::u32string, int> words = {{U"", 7}, {U"a", 1}, {U"a\U0001F600", 2}, {U"\u00E9", 3}};
+    const std::vector<uint8_t> units = bekstaudi::unit_trie::build(words);
+    CHECK(units == bekstaudi::unit_trie::build(std::map<std::u16string, int>{
+                       {u"", 7}, {u"a", 1}, {u"a\U0001F600", 2}, {u"\u00E9", 3}}));
+    const bekstaudi::unit_trie tries(units);
+    for (const auto &word : words) CHECK(tries[word.first] == word.second);
+    CHECK(!tries[U"b"] && !tries[U"a\x110000"] && tries.longest(U"a\U0001F600!")->size == 2);
+    CHECK(tries.longest(U"a\U0001F601")->value == 1 && tries.longest(U"\x110000")->value == 7);
+    CHECK(tries.prefixes(U"a\U0001F600").size() == 3 && tries.prefixes(U"").size() == 1);
+    CHECK(throws<bekstaudi::entries_refused>(
+        [&] { bekstaudi::unit_trie::build(std::map<std::u32string, int>{{U"\x110000", 1}}); }));
+#ifdef __cpp_lib_char8_t
+    CHECK(set.span(u8"a\u00E9!") == u8"a\u00E9" && frozen.span(u8"a\u00E9!") == u8"a\u00E9");
+    CHECK(set.span_back(u8"!\u00E9") == u8"\u00E9" && frozen.span_back(u8"!\u00E9") == u8"\u00E9");
+    CHECK(trie.values_of(u8"a\u00E9\u4E16\U0001F600!") == values);
+    uint16_t one[1];
+    CHECK(trie.copy_values(u8"\u00E9", one, 1).bytes == 2 && one[0] == 700);
+    CHECK((units == bekstaudi::unit_trie::build(std::map<std::u8string, int>{
+                        {u8"", 7}, {u8"a", 1}, {u8"a\U0001F600", 2}, {u8"\u00E9", 3}})));
+    CHECK(tries[u8"\u00E9"] == 3 && tries.get(u8"a") == 1 && tries.longest(u8"ab")->size == 1);
+    CHECK(tries.prefixes(u8"a").size() == 2 && tries.entries(u8"a").size() == 2);
+#endif
+}
+
+/* Code points in each form that from_points takes. */
+static void sets_of_points() {
+    CHECK(code_point_set::from_points({0x42, 0x41}) == code_point_set({0x41, 0x43}));
+    CHECK(code_point_set::from_points({U'é'}) == code_point_set({0xE9, 0xEA}) && code_point_set::from_points({}).empty());
+    CHECK(code_point_set::from_points(U"ab") == code_point_set({0x61, 0x63}));
+    CHECK(code_point_set::from_points(std::u32string(U"ab")) == code_point_set({0x61, 0x63}));
+    CHECK(code_point_set::from_points(std::vector<int>{-1, 0x41, 0x110000}) == code_point_set({0x41, 0x42}));
+    CHECK(code_point_set::from_points(std::set<int64_t>{0x100000041, -1, 0x42}) == code_point_set({0x42, 0x43}));
+    const code_point_set::range ranges[] = {{0x41, 0x42}, {0x61, 0x61}};
+    CHECK(code_point_set::from_ranges(ranges) == code_point_set({0x41, 0x43, 0x61, 0x62}));
+    CHECK(code_point_set::from_ranges({{0, 5}}) == code_point_set({0, 6}));
+}
+
 /* Frozen sets: equal to the set that each was made of, also copied and moved, and with failing
    allocations. */
 static bool refusing = false;
@@ -382,7 +433,9 @@ int main(int argc, char **argv) {
     unit_tries_built();
     operations();
     sets_of_ranges();
+    sets_of_points();
     spans();
+    texts_of_all_kinds();
     CHECK(!bekstaudi::frozen_set().contains(0x41) && bekstaudi::frozen_set().span("a").empty());
     puts("all as expected");
     return 0;
