@@ -9,19 +9,19 @@ use std::alloc::{AllocError, Global};
 static OTHERS: [(&[u8], &str); 6] = [
     (
         b"\x1f\x8b",
-        "found a gzip file: decompress it first, as in `gunzip -c FILE | ucptrie build -`",
+        "found a gzip file: decompress it first, as in `gunzip -c FILE | ucptrie COMMAND -`",
     ),
     (
         b"PK\x03\x04",
-        "found a zip file: decompress it first, as in `unzip -p FILE | ucptrie build -`",
+        "found a zip file: decompress it first, as in `unzip -p FILE | ucptrie COMMAND -`",
     ),
     (
         b"\xfd7zXZ",
-        "found an xz file: decompress it first, as in `xz -dc FILE | ucptrie build -`",
+        "found an xz file: decompress it first, as in `xz -dc FILE | ucptrie COMMAND -`",
     ),
     (
         b"\x28\xb5\x2f\xfd",
-        "found a zstd file: decompress it first, as in `zstd -dc FILE | ucptrie build -`",
+        "found a zstd file: decompress it first, as in `zstd -dc FILE | ucptrie COMMAND -`",
     ),
     (b"\xfe\xff", "found UTF-16: convert it to UTF-8"),
     (b"\xff\xfe", "found UTF-16: convert it to UTF-8"),
