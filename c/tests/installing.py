@@ -1,6 +1,7 @@
-"""What c/build installs, and its end if it is interrupted."""
+"""What c/build installs and removes, and its end if it is interrupted."""
 import os
 import re
+import shlex
 import shutil
 import signal
 import subprocess
@@ -115,17 +116,43 @@ def ends(room, name):
     return not left and status == {"SIGINT": 130, "SIGTERM": 143}[name]
 
 
+def by_pkg_config(room, prefix):
+    """A program in C is built by what pkg-config says."""
+    if not shutil.which("pkg-config"):
+        print("pkg-config is not tried: none on PATH")
+        return
+    known = {**os.environ, "PKG_CONFIG_PATH": f"{prefix}/lib/pkgconfig"}
+    ran = subprocess.run(["pkg-config", "--cflags", "--libs", "bekstaudi"], env=known, stdout=subprocess.PIPE, text=True)
+    with open(f"{room}/main.c", "w", encoding="utf-8") as file:
+        file.write(MAIN)
+    words = [CC, f"{room}/main.c", *shlex.split(ran.stdout), f"-Wl,-rpath,{prefix}/lib", "-o", f"{room}/main"]
+    yield passes("by pkg-config", words)
+    yield passes("by pkg-config", [f"{room}/main"])
+
+
+def removing(room, prefix):
+    """What is installed is removed, and nothing else is. Words that are no options install nothing."""
+    with open(f"{prefix}/lib/other", "w", encoding="utf-8"):
+        pass
+    yield passes("c/build --uninstall", [BUILD[0], "--uninstall", prefix])
+    left = [it for _, _, names in os.walk(prefix) for it in names]
+    print(f"left: {left}")
+    yield left == ["other"]
+    for words, status in ((["--uninstall", prefix], 70), (["--uninstall"], 70), (["uninstall"], 70), (["--help"], 0)):
+        ran = subprocess.run([BUILD[0], *words], cwd=room, capture_output=True, text=True)
+        well = ran.returncode == status and not os.path.exists(f"{room}/{words[0]}")
+        print(f"c/build {words[0]}: {'as expected' if well else f'{ran.returncode}, {ran.stderr}'}")
+        yield well
+
+
 def installing(room):
-    """c/build with a relative PREFIX, and the files that pkg-config and CMake read."""
+    """c/build with a relative PREFIX with a space, and the files that pkg-config and CMake read."""
     yield from versions()
     os.makedirs(f"{room}/below", exist_ok=True)
-    yield passes("c/build with a relative PREFIX", [*BUILD, "relative"], cwd=f"{room}/below")
-    prefix = f"{room}/below/relative"
-    if shutil.which("pkg-config"):
-        known = {**os.environ, "PKG_CONFIG_PATH": f"{prefix}/lib/pkgconfig"}
-        ran = subprocess.run(["pkg-config", "--variable=prefix", "bekstaudi"], env=known, stdout=subprocess.PIPE, text=True)
-        print(f"prefix in bekstaudi.pc: {ran.stdout.strip()}")
-        yield os.path.realpath(ran.stdout.strip()) == os.path.realpath(prefix)
+    yield passes("c/build with a relative PREFIX", [*BUILD, "relative one"], cwd=f"{room}/below")
+    prefix = f"{room}/below/relative one"
+    yield from by_pkg_config(room, prefix)
     yield from by_cmake(room, prefix)
+    yield from removing(room, prefix)
     yield ends(room, "SIGTERM")
     yield ends(room, "SIGINT")
