@@ -94,7 +94,6 @@ EDITS = {
         (r"(\*cell) = \*cell \| i << 8", r"\1 |= i << 8", 1),
     ],
     "ucptrie/compressed": [(r"starts_with\(\*start\)", "starts_with(start)", 1)],
-    "ucptrie_sets/source": [(r"(set\.size\(\)) as usize", r"\1", 1)],
     "ucptrie_words/line": [
         (r"match (str::from_utf8\(bytes\)) \{\s*Ok\(text\) => Some\(text\),\s*Err\(_\) => None,\s*\}", r"\1.ok()", 1),
     ],

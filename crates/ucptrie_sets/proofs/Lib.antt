@@ -1,3 +1,5 @@
+mod CellLemmas
+mod FrozenLemmas
 mod JsonLemmas
 mod RowLemmas
 mod SerializedLemmas

@@ -1,4 +1,6 @@
+pub mod FrozenWords
 pub mod Rows
+pub mod SetSource
 pub mod Sets
 pub mod TomlSets
 pub mod WrittenSets

@@ -1,6 +1,10 @@
 //! A set as source in C.
+ghost use Rattle.std.specs.Prelude.{◌≡◌, ◌+◌, ◌*◌, ◌≤◌, ◌++◌, IfOk, OnOk, length, string_bytes};
+ghost use Rattle.ucptrie_sets.specs.FrozenWords.{packed};
+ghost use Rattle.ucptrie_sets.specs.SetSource.{c_boundaries, c_head, c_search, c_text, frozen_c, frozen_c_head, frozen_c_look_up, IsFrozenC};
+
 use crate::source::{
-    frozen_with_title, push_boundaries, push_packed_indices, push_words, title_of,
+    INDEX_WORDS, frozen_of, push_boundaries, push_packed_indices, push_words, title_of,
 };
 use icu_frozen_sets::frozen::FrozenTables;
 use icu_invlist::codepointinvlist::CodePointInversionList;
@@ -38,22 +42,51 @@ static inline bool @_contains(uint32_t c) {
 }
 ";
 
-/// Returns the set in C: an array with the boundaries, and a search in it. An array in C is not
-/// empty, so that of the empty set has a cell that is not read.
+/// Appends what precedes so many boundaries. An array in C is not empty, so that of the empty set
+/// has a cell that is not read.
+#[tactic(auto, unfolding(crate::specs::SetSource::c_head))]
+fn push_head(text: &mut String, name: &str, count: usize) -> Result<(), AllocError>
+    ensures { OnOk result (string_bytes text.new ≡ string_bytes text.old ++ c_head name.now count) }
+{
+    push_pattern(
+        text,
+        BOUNDARIES,
+        name,
+        &[Decimal(count), Decimal(count.max(1))],
+    )
+}
+
+/// Appends the boundaries of a set, or the cell that is not read.
+fn push_cells(text: &mut String, set: &CodePointInversionList<'_>) -> Result<(), AllocError>
+    ensures { OnOk result (string_bytes text.new
+        ≡ string_bytes text.old ++ c_boundaries set.now) }
+{
+    if set.is_empty() {
+        return text.push('0');
+    }
+    push_boundaries(text, set)
+}
+
+/// Appends the search in the boundaries.
+#[tactic(auto, unfolding(crate::specs::SetSource::c_search))]
+fn push_search(text: &mut String, name: &str) -> Result<(), AllocError>
+    ensures { OnOk result (string_bytes text.new ≡ string_bytes text.old ++ c_search name.now) }
+{
+    push_named(text, SEARCH, name)
+}
+
+/// Returns the set in C: an array with the boundaries, and a search in it.
 pub(crate) fn c_text(
     alloc: Global,
     set: &CodePointInversionList<'_>,
     name: &str,
-) -> Result<String, AllocError> {
-    let length = set.as_inversion_list().len();
-    let sizes = [Decimal(length), Decimal(length.max(1))];
+) -> Result<String, AllocError>
+    ensures { IfOk result (λ text. string_bytes text ≡ c_text name.now set.now) }
+{
     let mut text = title_of(alloc, set)?;
-    push_pattern(&mut text, BOUNDARIES, name, &sizes)?;
-    if length == 0 {
-        text.push('0')?;
-    }
-    push_boundaries(&mut text, set)?;
-    push_named(&mut text, SEARCH, name)?;
+    push_head(&mut text, name, set.as_inversion_list().len())?;
+    push_cells(&mut text, set)?;
+    push_search(&mut text, name)?;
     Ok(text)
 }
 
@@ -84,13 +117,35 @@ static inline bool @_contains(uint32_t c) {
 }
 ";
 
-/// Appends an array with the words of a frozen set, and a look-up in it.
-fn push_frozen(text: &mut String, tables: FrozenTables<'_>, name: &str) -> Result<(), AllocError> {
-    push_pattern(text, WORDS, name, &[Decimal(1088 + tables.words.len())])?;
-    push_packed_indices(text, tables.index)?;
-    text.push_str(",\n")?;
-    push_words(text, tables.words)?;
+/// Appends what precedes so many words of a frozen set.
+#[tactic(auto, unfolding(crate::specs::SetSource::frozen_c_head))]
+fn push_frozen_head(text: &mut String, name: &str, count: usize) -> Result<(), AllocError>
+    ensures { OnOk result (string_bytes text.new
+        ≡ string_bytes text.old ++ frozen_c_head name.now count) }
+{
+    push_pattern(text, WORDS, name, &[Decimal(count)])
+}
+
+/// Appends the look-up in the words of a frozen set.
+#[tactic(auto, unfolding(crate::specs::SetSource::frozen_c_look_up))]
+fn push_look_up(text: &mut String, name: &str) -> Result<(), AllocError>
+    ensures { OnOk result (string_bytes text.new
+        ≡ string_bytes text.old ++ frozen_c_look_up name.now) }
+{
     push_named(text, LOOK_UP, name)
+}
+
+/// Appends an array with the words of a frozen set, and a look-up in it.
+fn push_frozen(text: &mut String, tables: FrozenTables<'_>, name: &str) -> Result<(), AllocError>
+    requires blocks { length tables.index.now ≡ 4352 }
+    requires most { length tables.words.now ≤ 8 + 4 * 4352 }
+    ensures { OnOk result (string_bytes text.new ≡ string_bytes text.old
+        ++ frozen_c name.now (packed 1088 tables.entry.index.now ++ tables.entry.words.now)) }
+{
+    push_frozen_head(text, name, INDEX_WORDS + tables.words.len())?;
+    push_packed_indices(text, tables.index)?;
+    push_words(text, INDEX_WORDS, tables.words)?;
+    push_look_up(text, name)
 }
 
 /// Returns the frozen set in C: an array with its words, and a look-up in it.
@@ -98,8 +153,11 @@ pub(crate) fn frozen_c_text(
     alloc: Global,
     set: &CodePointInversionList<'_>,
     name: &str,
-) -> Result<String, AllocError> {
-    let (frozen, mut text) = frozen_with_title(alloc, set)?;
+) -> Result<String, AllocError>
+    ensures { IfOk result (λ text. IsFrozenC name.now set.now (string_bytes text)) }
+{
+    let frozen = frozen_of(alloc, set)?;
+    let mut text = title_of(alloc, set)?;
     push_frozen(&mut text, frozen.tables(), name)?;
     Ok(text)
 }

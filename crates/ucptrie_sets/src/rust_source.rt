@@ -1,5 +1,8 @@
 //! A set as source in Rust.
-use crate::source::{frozen_with_title, push_boundaries, push_indices, push_words, title_of};
+ghost use Rattle.std.specs.Prelude.{◌≡◌, ◌+◌, ◌*◌, ◌≤◌, ◌++◌, IfOk, OnOk, length, string_bytes};
+ghost use Rattle.ucptrie_sets.specs.SetSource.{frozen_rust, frozen_rust_head, frozen_rust_look_up, frozen_rust_words, IsFrozenRust, rust_head, rust_search, rust_text};
+
+use crate::source::{frozen_of, push_boundaries, push_indices, push_words, title_of};
 use icu_frozen_sets::frozen::FrozenTables;
 use icu_invlist::codepointinvlist::CodePointInversionList;
 use std::alloc::{AllocError, Global};
@@ -26,17 +29,35 @@ pub mod @ {
     pub static BOUNDARIES: [u32; %] = [
 ";
 
+/// Appends what precedes so many boundaries.
+#[tactic(auto, unfolding(crate::specs::SetSource::rust_head))]
+fn push_head(text: &mut String, name: &str, count: usize) -> Result<(), AllocError>
+    ensures { OnOk result (string_bytes text.new
+        ≡ string_bytes text.old ++ rust_head name.now count) }
+{
+    push_pattern(text, BOUNDARIES, name, &[Decimal(count)])
+}
+
+/// Appends the search in the boundaries.
+#[tactic(auto, unfolding(crate::specs::SetSource::rust_search))]
+fn push_search(text: &mut String) -> Result<(), AllocError>
+    ensures { OnOk result (string_bytes text.new ≡ string_bytes text.old ++ rust_search) }
+{
+    text.push_str(SEARCH)
+}
+
 /// Returns the set in Rust: a module with the boundaries, and a search in them.
 pub(crate) fn rust_text(
     alloc: Global,
     set: &CodePointInversionList<'_>,
     name: &str,
-) -> Result<String, AllocError> {
-    let length = [Decimal(set.as_inversion_list().len())];
+) -> Result<String, AllocError>
+    ensures { IfOk result (λ text. string_bytes text ≡ rust_text name.now set.now) }
+{
     let mut text = title_of(alloc, set)?;
-    push_pattern(&mut text, BOUNDARIES, name, &length)?;
+    push_head(&mut text, name, set.as_inversion_list().len())?;
     push_boundaries(&mut text, set)?;
-    text.push_str(SEARCH)?;
+    push_search(&mut text)?;
     Ok(text)
 }
 
@@ -73,13 +94,44 @@ const WORDS: &str = "
     pub static WORDS: [u64; %] = [
 ";
 
-/// Appends a module with the tables of a frozen set, and a look-up in them.
-fn push_frozen(text: &mut String, tables: FrozenTables<'_>, name: &str) -> Result<(), AllocError> {
-    push_named(text, INDEX, name)?;
-    push_indices(text, tables.index)?;
-    push_pattern(text, WORDS, "", &[Decimal(tables.words.len())])?;
-    push_words(text, tables.words)?;
+/// Appends what precedes the indices of a frozen set.
+#[tactic(auto, unfolding(crate::specs::SetSource::frozen_rust_head))]
+fn push_frozen_head(text: &mut String, name: &str) -> Result<(), AllocError>
+    ensures { OnOk result (string_bytes text.new
+        ≡ string_bytes text.old ++ frozen_rust_head name.now) }
+{
+    push_named(text, INDEX, name)
+}
+
+/// Appends what is between the indices and so many words of a frozen set.
+#[tactic(auto, unfolding(crate::specs::SetSource::frozen_rust_words))]
+fn push_words_head(text: &mut String, count: usize) -> Result<(), AllocError>
+    ensures { OnOk result (string_bytes text.new
+        ≡ string_bytes text.old ++ frozen_rust_words count) }
+{
+    push_pattern(text, WORDS, "", &[Decimal(count)])
+}
+
+/// Appends the look-up in the tables of a frozen set.
+#[tactic(auto, unfolding(crate::specs::SetSource::frozen_rust_look_up))]
+fn push_look_up(text: &mut String) -> Result<(), AllocError>
+    ensures { OnOk result (string_bytes text.new ≡ string_bytes text.old ++ frozen_rust_look_up) }
+{
     text.push_str(LOOK_UP)
+}
+
+/// Appends a module with the tables of a frozen set, and a look-up in them.
+fn push_frozen(text: &mut String, tables: FrozenTables<'_>, name: &str) -> Result<(), AllocError>
+    requires { length tables.words.now ≤ 8 + 4 * 4352 }
+    ensures { OnOk result (string_bytes text.new ≡ string_bytes text.old
+        ++ frozen_rust name.now
+        (record { index = tables.entry.index.now; words = tables.entry.words.now })) }
+{
+    push_frozen_head(text, name)?;
+    push_indices(text, tables.index)?;
+    push_words_head(text, tables.words.len())?;
+    push_words(text, 0, tables.words)?;
+    push_look_up(text)
 }
 
 /// Returns the frozen set in Rust: a module with its tables, and a look-up in them.
@@ -87,8 +139,11 @@ pub(crate) fn frozen_rust_text(
     alloc: Global,
     set: &CodePointInversionList<'_>,
     name: &str,
-) -> Result<String, AllocError> {
-    let (frozen, mut text) = frozen_with_title(alloc, set)?;
+) -> Result<String, AllocError>
+    ensures { IfOk result (λ text. IsFrozenRust name.now set.now (string_bytes text)) }
+{
+    let frozen = frozen_of(alloc, set)?;
+    let mut text = title_of(alloc, set)?;
     push_frozen(&mut text, frozen.tables(), name)?;
     Ok(text)
 }

@@ -1,4 +1,10 @@
 //! What the sources in C and in Rust have in common.
+ghost use Rattle.std.specs.Prelude.{◌≡◌, ◌+◌, ◌*◌, ◌^◌, ◌<◌, ◌≤◌, ◌++◌, IfOk, OnOk, length, string_bytes};
+ghost use Rattle.ucptrie_source.specs.Patterns.{number_text};
+ghost use Rattle.ucptrie_source.specs.declared.pattern.Number.TheVariants.{Hexadecimal};
+ghost use Rattle.ucptrie_sets.specs.FrozenWords.{packed, word_at};
+ghost use Rattle.ucptrie_sets.specs.SetSource.{cells_from, gap, title};
+
 use icu_frozen_sets::frozen::FrozenCodePointSet;
 use icu_invlist::codepointinvlist::CodePointInversionList;
 use std::alloc::{AllocError, Global};
@@ -8,6 +14,9 @@ use ucptrie_source::pattern::push_pattern;
 /// How many cells a line has.
 const CELLS_IN_LINE: usize = 8;
 
+/// How many words the indices of a frozen set take, four in each.
+pub(crate) const INDEX_WORDS: usize = 1088;
+
 /// The first line of source. Each `%` is replaced by a number.
 const TITLE: &str = "// Made by ucptrie: a set of % code points in % ranges.\n";
 
@@ -15,39 +24,65 @@ const TITLE: &str = "// Made by ucptrie: a set of % code points in % ranges.\n";
 pub(crate) fn title_of(
     alloc: Global,
     set: &CodePointInversionList<'_>,
-) -> Result<String, AllocError> {
-    let sizes = [Decimal(set.size() as usize), Decimal(set.get_range_count())];
+) -> Result<String, AllocError>
+    ensures { IfOk result (λ text. string_bytes text ≡ title set.now) }
+{
+    let sizes = [Decimal(set.size()), Decimal(set.get_range_count())];
     let mut text = String::new(alloc);
     push_pattern(&mut text, TITLE, "", &sizes)?;
     Ok(text)
 }
 
-/// Freezes the set, and returns it with the first line of its source.
-pub(crate) fn frozen_with_title(
+/// Returns the frozen set.
+pub(crate) fn frozen_of(
     alloc: Global,
     set: &CodePointInversionList<'_>,
-) -> Result<(FrozenCodePointSet, String), AllocError> {
+) -> Result<FrozenCodePointSet, AllocError>
+    ensures { IfOk result (λ frozen. frozen ≡ set.now) }
+{
     let Ok(frozen) = FrozenCodePointSet::freeze(alloc, set) else {
         return Err(AllocError);
     };
-    Ok((frozen, title_of(alloc, set)?))
+    Ok(frozen)
+}
+
+/// Appends what precedes the cell `i` of an array: nothing, a comma and a space, or a comma and a
+/// new line.
+fn push_gap(text: &mut String, i: usize) -> Result<(), AllocError>
+    ensures { OnOk result (string_bytes text.new ≡ string_bytes text.old ++ gap i) }
+{
+    if i == 0 {
+        return Ok(());
+    }
+    text.push_str(if i % CELLS_IN_LINE == 0 { ",\n" } else { ", " })
+}
+
+/// Appends a number in hexadecimal digits in lower case, behind `0x`.
+#[tactic(auto, using(crate::proofs::CellLemmas::hexadecimal_written))]
+fn push_number(text: &mut String, number: u64) -> Result<(), AllocError>
+    ensures { OnOk result (string_bytes text.new
+        ≡ string_bytes text.old ++ number_text (Hexadecimal number)) }
+{
+    write!(text, "0x{number:x}")
 }
 
 /// Appends a cell of an array: eight to a line, with commas between them. `i` is its index.
-fn push_cell(text: &mut String, i: usize, cell: u64) -> Result<(), AllocError> {
-    if i % CELLS_IN_LINE != 0 {
-        text.push_str(", ")?;
-    } else if i > 0 {
-        text.push_str(",\n")?;
-    }
-    write!(text, "{cell:#x}")
+fn push_cell(text: &mut String, i: usize, cell: u64) -> Result<(), AllocError>
+    ensures { OnOk result (string_bytes text.new
+        ≡ string_bytes text.old ++ (gap i ++ number_text (Hexadecimal cell))) }
+{
+    push_gap(text, i)?;
+    push_number(text, cell)
 }
 
 /// Appends the boundaries of a set.
 pub(crate) fn push_boundaries(
     text: &mut String,
     set: &CodePointInversionList<'_>,
-) -> Result<(), AllocError> {
+) -> Result<(), AllocError>
+    ensures { OnOk result (string_bytes text.new
+        ≡ string_bytes text.old ++ cells_from 0 set.now) }
+{
     let boundaries = set.as_inversion_list();
     for (i, boundary) in boundaries.iter().enumerate() {
         push_cell(text, i, u64::from(u32::from(boundary)))?;
@@ -56,34 +91,48 @@ pub(crate) fn push_boundaries(
 }
 
 /// Appends indices of 16 bits.
-pub(crate) fn push_indices(text: &mut String, indices: &[u16]) -> Result<(), AllocError> {
+pub(crate) fn push_indices(text: &mut String, indices: &[u16]) -> Result<(), AllocError>
+    ensures { OnOk result (string_bytes text.new
+        ≡ string_bytes text.old ++ cells_from 0 indices.now) }
+{
     for (i, index) in indices.iter().enumerate() {
         push_cell(text, i, u64::from(*index))?;
     }
     Ok(())
 }
 
-/// Appends words of 64 bits.
-pub(crate) fn push_words(text: &mut String, words: &[u64]) -> Result<(), AllocError> {
+/// Appends words of 64 bits. They are the cells of an array from the cell `start` on.
+pub(crate) fn push_words(text: &mut String, start: usize, words: &[u64]) -> Result<(), AllocError>
+    requires { start + length words.now < 2 ^ 64 }
+    ensures { OnOk result (string_bytes text.new
+        ≡ string_bytes text.old ++ cells_from start words.now) }
+{
     for (i, word) in words.iter().enumerate() {
-        push_cell(text, i, *word)?;
+        push_cell(text, start + i, *word)?;
     }
     Ok(())
 }
 
-/// Returns the word of up to four indices of 16 bits, the first one in the lowest bits.
-fn word_of(indices: &[u16]) -> u64 {
-    let mut word = 0u64;
-    for index in indices.iter().rev() {
-        word = (word << 16) | u64::from(*index);
-    }
-    word
+/// Returns the word of the four indices of 16 bits from `first` on, the first one in the lowest
+/// bits.
+fn word_at(indices: &[u16], first: usize) -> u64
+    requires { first + 4 ≤ length indices.now }
+    ensures { result ≡ word_at indices.now first }
+{
+    let (a, b) = (u64::from(indices[first]), u64::from(indices[first + 1]));
+    let (c, d) = (u64::from(indices[first + 2]), u64::from(indices[first + 3]));
+    a + 0x1_0000 * (b + 0x1_0000 * (c + 0x1_0000 * d))
 }
 
-/// Appends indices of 16 bits in words of 64 bits, four in each, the first one in the lowest bits.
-pub(crate) fn push_packed_indices(text: &mut String, indices: &[u16]) -> Result<(), AllocError> {
-    for (i, four) in indices.chunks(4).enumerate() {
-        push_cell(text, i, word_of(four))?;
+/// Appends the indices of a frozen set in words of 64 bits, four in each, the first one in the
+/// lowest bits.
+pub(crate) fn push_packed_indices(text: &mut String, indices: &[u16]) -> Result<(), AllocError>
+    requires { length indices.now ≡ 4352 }
+    ensures { OnOk result (string_bytes text.new
+        ≡ string_bytes text.old ++ cells_from 0 (packed 1088 indices.now)) }
+{
+    for i in 0..INDEX_WORDS {
+        push_cell(text, i, word_at(indices, 4 * i))?;
     }
     Ok(())
 }

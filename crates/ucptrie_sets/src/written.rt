@@ -1,9 +1,11 @@
 //! A set as the bytes of a file.
-ghost use Rattle.std.specs.Prelude.{◌≡◌, ◌++◌, [], ◌∷◌, IfErr, IfOk, OnOk, string_bytes};
+ghost use Rattle.std.specs.Prelude.{◌≡◌, ◌++◌, ℕ, List, [], ◌∷◌, IfErr, IfOk, OnOk, string_bytes};
+ghost use Rattle.std.specs.Borrow.{Bor};
 ghost use Rattle.serde_json.specs.Written.{compact_text};
 ghost use Rattle.icu_invlist.specs.SetJson.{written_of};
 ghost use Rattle.icu_invlist_binary.specs.SerializedSet.{HasForm, units_of};
 ghost use Rattle.ucptrie_sets.specs.Rows.{rows_of};
+ghost use Rattle.ucptrie_sets.specs.SetSource.{c_text, IsFrozenC, IsFrozenRust, rust_text};
 ghost use Rattle.ucptrie_sets.specs.Sets.{bytes_of_units};
 ghost use Rattle.ucptrie_sets.specs.WrittenSets.{IsWhyNotWritten};
 
@@ -66,6 +68,14 @@ pub fn written(
         → IfOk result (λ bytes. bytes.items ≡ bytes_of_units (units_of set.now)) }
     ensures json { form.entry ≡ SetForm.Json → IfOk result
         (λ bytes. bytes.items ≡ compact_text (written_of set.now) ++ 10 ∷ []) }
+    ensures c { (name : Bor (List ℕ)) → form.entry ≡ SetForm.C name
+        → IfOk result (λ bytes. bytes.items ≡ c_text name.now set.now) }
+    ensures rust { (name : Bor (List ℕ)) → form.entry ≡ SetForm.Rust name
+        → IfOk result (λ bytes. bytes.items ≡ rust_text name.now set.now) }
+    ensures frozen_c { (name : Bor (List ℕ)) → form.entry ≡ SetForm.FrozenC name
+        → IfOk result (λ bytes. IsFrozenC name.now set.now bytes.items) }
+    ensures frozen_rust { (name : Bor (List ℕ)) → form.entry ≡ SetForm.FrozenRust name
+        → IfOk result (λ bytes. IsFrozenRust name.now set.now bytes.items) }
     ensures room { form.entry ≡ SetForm.Icu → OnOk result (HasForm set.now) }
     ensures err { IfErr result (IsWhyNotWritten form.entry set.now) }
 {
