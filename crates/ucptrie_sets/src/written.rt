@@ -6,6 +6,7 @@ ghost use Rattle.icu_invlist.specs.SetJson.{written_of};
 ghost use Rattle.icu_invlist_binary.specs.SerializedSet.{HasForm, units_of};
 ghost use Rattle.ucptrie_sets.specs.Rows.{rows_of};
 ghost use Rattle.ucptrie_sets.specs.SetSource.{c_text, IsFrozenC, IsFrozenRust, rust_text};
+ghost use Rattle.ucptrie_sets.specs.SetToml.{toml_text};
 ghost use Rattle.ucptrie_sets.specs.Sets.{bytes_of_units};
 ghost use Rattle.ucptrie_sets.specs.WrittenSets.{IsWhyNotWritten};
 
@@ -68,6 +69,8 @@ pub fn written(
         → IfOk result (λ bytes. bytes.items ≡ bytes_of_units (units_of set.now)) }
     ensures json { form.entry ≡ SetForm.Json → IfOk result
         (λ bytes. bytes.items ≡ compact_text (written_of set.now) ++ 10 ∷ []) }
+    ensures toml { (name : Bor (List ℕ)) → form.entry ≡ SetForm.Toml name
+        → IfOk result (λ bytes. bytes.items ≡ toml_text name.now set.now) }
     ensures c { (name : Bor (List ℕ)) → form.entry ≡ SetForm.C name
         → IfOk result (λ bytes. bytes.items ≡ c_text name.now set.now) }
     ensures rust { (name : Bor (List ℕ)) → form.entry ≡ SetForm.Rust name
