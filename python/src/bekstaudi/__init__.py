@@ -307,8 +307,8 @@ class UnitTrie(_native.UnitTrie):
     whether there is one. A key is a str, which stands for its units in UTF-16, or a list of units.
     Iteration yields the keys as str, in the order of their units, with U+FFFD for a lone surrogate:
     such a str is not a key, or is another one. `len` is the number of entries, which are counted
-    once; it raises NoTrie if the units are not a trie, as `bool` and `list` do. Two tries are equal if their units are the
-    same, and a trie equals any other mapping with the same entries.
+    once; it raises NoTrie if the units are not a trie, as `bool` and `list` do. Two tries are equal if
+    their units are the same, and a trie equals any other mapping with the same entries.
     """
 
     __slots__ = ("__weakref__",)
@@ -360,7 +360,7 @@ class UnitTrie(_native.UnitTrie):
         return same is bool(is_equal)
 
     def __iter__(self):
-        # A page takes time for the entries before it too, so each one is larger than all of these.
+        # A page also takes time for the entries before it, so the pages grow.
         skipped, most = 0, 16
         while page := self._page(skipped, most):
             yield from (key for key, _ in page)
