@@ -82,8 +82,8 @@
 //!   `icu_collections`: numbers and texts in formats that people read, such as JSON, and packed
 //!   bytes, which are borrowed, in others. A field of such a type needs `#[serde(borrow)]`, and its
 //!   struct a lifetime. Functions for `DeserializeOwned`, such as `serde_json::from_reader`, cannot
-//!   read it. `try_clone` of a value that was read owns its data, so they can read a type of your own
-//!   whose `deserialize` returns such a copy. The strings of a set are never borrowed, unlike those
+//!   read it. `into_owned` of a value that was read owns its data, so they can read a type of your own
+//!   whose `deserialize` returns such a value. The strings of a set are never borrowed, unlike those
 //!   of `icu_collections`
 //! - `json`: sets, tries and unit tries to and from the values of `serde_json`. The forms are those
 //!   of `serde`, except that a trie has the number of each value, also if its values are signed or

@@ -201,6 +201,12 @@ fn sets_with_texts() {
     refused_in_turn("CodePointInversionListAndStringList::try_clone", || {
         set.try_clone().ok()
     });
+    refused_in_turn("CodePointInversionListAndStringList::try_into_owned", || {
+        let ends = ZeroVec::parse_bytes(&[0x41, 0, 0, 0x5B, 0, 0]).ok()?;
+        let letters = CodePointInversionList::try_from_inversion_list_fallible(ends).ok()?;
+        let lent = CodePointInversionListAndStringList::try_from(letters, Vec::new());
+        lent.ok()?.try_into_owned().ok()
+    });
     refused_in_turn("FrozenCodePointSetAndStrings::try_freeze", || {
         FrozenCodePointSetAndStrings::try_freeze(&set).ok()
     });

@@ -121,6 +121,11 @@ fn tries() {
         let (index, values): (Vec<u16>, Vec<u16>) =
             (index.iter().collect(), values.iter().collect());
         refused_in_turn("CodePointTrie::try_clone", || trie.try_clone().ok());
+        refused_in_turn("CodePointTrie::try_into_owned", || {
+            let (header, index, values) = trie.parts();
+            let lent = CodePointTrie::try_new(header, index.as_zerovec(), values.as_zerovec());
+            lent.ok()?.try_into_owned().ok()
+        });
         refused_in_turn("CodePointTrie::try_get_set_for_value", || {
             trie.try_get_set_for_value(3).ok()
         });

@@ -66,6 +66,9 @@ fn builders() {
 fn unit_tries() {
     let whole = trie(&keys(), usize::MAX).0.expect("no trie");
     refused_in_turn("Char16Trie::try_clone", || whole.try_clone().ok());
+    refused_in_turn("Char16Trie::try_into_owned", || {
+        Char16Trie::new(whole.data.as_slice().as_zerovec()).try_into_owned().ok()
+    });
     refused_in_turn("Iter2::next", || whole.try_iter2().all(|it| it.is_ok()).then_some(()));
     assert_eq!(whole.iter2().count(), 400);
     refused_in_turn("Char16Trie::try_is_trie", || whole.try_is_trie().ok().filter(|it| *it));
