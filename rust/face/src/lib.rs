@@ -66,8 +66,9 @@
 //! [`try_new`](codepointtrie::CodePointTrie::try_new) does at run time, so a bad table does not compile:
 //! [`CodePointTrie::from_static`](codepointtrie::CodePointTrie::from_static),
 //! [`CodePointInversionList::from_static`](codepointinvlist::CodePointInversionList::from_static),
-//! [`unit_trie!`]. [`zeroslice!`] packs an array for them, and [`trie_values!`] declares an enum of
-//! values.
+//! [`unit_trie!`]. [`ZeroSlice::from_static`](zerovec::ZeroSlice::from_static) over `include_bytes!`
+//! borrows a file for them, [`zeroslice!`] packs a small array, and [`trie_values!`] declares an enum
+//! of values.
 //!
 //! The program `ucptrie` makes the parts of a trie from rows such as `0041..005A;1`, and [`trie_of!`]
 //! makes the trie of them. `ucptrie build --as rust-static` also writes the `static`, and an enum if

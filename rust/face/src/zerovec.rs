@@ -11,7 +11,7 @@
 
 pub use crate::constant::ConstCells;
 #[doc(hidden)]
-pub use crate::constant::{cell_of, joined};
+pub use crate::constant::{joined, number_bounds, packed, table_bounds};
 pub use crate::icu_zerovec::code_point::{CODE_POINT_LIMIT, PotentialCodePoint};
 pub use crate::icu_zerovec::memory::{ApplyRefused, MemoryError};
 pub use crate::icu_zerovec::slice::ZeroSlice;
