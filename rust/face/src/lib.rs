@@ -115,6 +115,7 @@ struct Readme;
 mod collected;
 mod constant;
 mod constant_units;
+mod constant_values;
 mod plain;
 #[cfg(feature = "serde")]
 mod serde_forms;

@@ -11,7 +11,9 @@
 
 pub use crate::constant::ConstCells;
 #[doc(hidden)]
-pub use crate::constant::{joined, number_bounds, packed, table_bounds};
+pub use crate::constant::{number_bounds, packed, table_bounds};
+#[doc(hidden)]
+pub use crate::constant_values::joined;
 pub use crate::icu_zerovec::code_point::{CODE_POINT_LIMIT, PotentialCodePoint};
 pub use crate::icu_zerovec::memory::{ApplyRefused, MemoryError};
 pub use crate::icu_zerovec::slice::ZeroSlice;

@@ -3,12 +3,14 @@
 
 use bekstaudi::char16trie::Char16Trie;
 use bekstaudi::codepointtrie::{CodePointTrie, TrieValue};
+use bekstaudi::zerovec::ule::AsULE;
 use bekstaudi::{trie_of, trie_values, unit_trie};
 
 include!("categories.rs");
 include!("categories_small.rs");
 include!("upper.rs");
 include!("scripts.rs");
+include!("many.rs");
 include!("keywords.rs");
 
 trie_values! {
@@ -75,4 +77,12 @@ fn main() {
     assert_eq!(CATEGORIES.get('A'), Category::Lu);
     assert_eq!((SCRIPTS.get('B'), SCRIPTS.get('β')), (Scripts::Latin, Scripts::Greek));
     assert_eq!(KEYWORDS.longest_match_str("integer"), Some((3, 3)));
+    // An enum of more than 256 values.
+    for number in 0..0x1_0000 {
+        let value = Many::from_unaligned(&u16::to_le_bytes(number as u16));
+        assert_eq!(value.map(Many::to_u32), Many::try_from_u32(number).ok().map(Many::to_u32));
+        assert_eq!(value.map(Many::to_u32), (number <= 300).then_some(number));
+        let expected = if (0x4E00..0x4F2C).contains(&number) { number - 0x4E00 + 1 } else { 0 };
+        assert_eq!(MANY.get32_u32(number), expected);
+    }
 }
