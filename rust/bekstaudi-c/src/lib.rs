@@ -122,6 +122,9 @@ mod constant;
 #[path = "../../bekstaudi/src/constant_units.rs"]
 mod constant_units;
 #[forbid(unsafe_code)]
+#[path = "../../bekstaudi/src/constant_values.rs"]
+mod constant_values;
+#[forbid(unsafe_code)]
 #[path = "../../bekstaudi/src/icu_char16trie/mod.rs"]
 mod icu_char16trie;
 #[forbid(unsafe_code)]

@@ -42,7 +42,9 @@ pub use crate::icu_char16trie_builder::builder::Char16TrieBuilder;
 pub use crate::icu_char16trie_builder::error::{AddError, BuildError, SortedError};
 
 #[cfg(feature = "alloc")]
-use crate::plain::{plain, plain_clone};
+use crate::plain::plain;
+#[cfg(feature = "alloc")]
+use crate::zerovec::MemoryError;
 #[cfg(feature = "alloc")]
 use alloc::string::String;
 #[cfg(feature = "alloc")]
@@ -51,12 +53,27 @@ use alloc::vec::Vec;
 use core::iter::FusedIterator;
 
 #[cfg(feature = "alloc")]
-plain_clone! {
-    impl<'data> Clone for Char16Trie<'data>;
-}
-
-#[cfg(feature = "alloc")]
 impl Char16Trie<'_> {
+    /// Returns the same trie, which then owns its units. If it already owns them, nothing is
+    /// allocated or copied.
+    ///
+    /// # Errors
+    /// Returns [`MemoryError`] if an allocation fails. The trie is then dropped.
+    pub fn try_into_owned(self) -> Result<Char16Trie<'static>, MemoryError> {
+        Ok(Char16Trie::new(self.data.try_into_owned()?))
+    }
+
+    /// Returns the same trie, which then owns its units. If it already owns them, nothing is
+    /// allocated or copied.
+    ///
+    /// # Panics
+    /// Panics if an allocation fails; [`try_into_owned`](Self::try_into_owned) returns an error
+    /// then.
+    #[must_use]
+    pub fn into_owned(self) -> Char16Trie<'static> {
+        plain(self.try_into_owned())
+    }
+
     /// Returns an iterator over the entries, in unit order: each key as text, with its value.
     /// Unpaired surrogates in a key become U+FFFD.
     ///

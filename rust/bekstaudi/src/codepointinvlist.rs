@@ -53,10 +53,9 @@ use core::ops::{Range, RangeFrom, RangeFull, RangeInclusive, RangeTo, RangeToInc
 
 #[cfg(feature = "alloc")]
 plain_clone! {
-    impl<'data> Clone for CodePointInversionList<'data>;
-    impl<> Clone for CodePointInversionListBuilder;
-    impl<> Clone for FrozenCodePointSet;
-    impl<> Clone for FrozenCodePointSetAndStrings;
+    CodePointInversionListBuilder;
+    FrozenCodePointSet;
+    FrozenCodePointSetAndStrings;
 }
 
 #[cfg(feature = "alloc")]

@@ -15,13 +15,30 @@ pub use crate::icu_text_sets::codepointinvliststringlist::{
 };
 pub use crate::strings::{Strings, StringsIter};
 
-use crate::plain::{plain, plain_clone};
+use crate::plain::plain;
 
-plain_clone! {
-    impl<'data> Clone for CodePointInversionListAndStringList<'data>;
+/// Borrows the code points if the set borrows them, and copies all else.
+///
+/// # Panics
+/// Panics if an allocation fails; `try_clone` returns an error then.
+impl Clone for CodePointInversionListAndStringList<'_> {
+    fn clone(&self) -> Self {
+        plain(self.try_clone_with(self.code_points().clone()))
+    }
 }
 
 impl CodePointInversionListAndStringList<'_> {
+    /// Returns the same set, which then owns its code points. The strings are not copied, nor code
+    /// points that the set already owns.
+    ///
+    /// # Panics
+    /// Panics if an allocation fails; [`try_into_owned`](Self::try_into_owned) returns an error
+    /// then.
+    #[must_use]
+    pub fn into_owned(self) -> CodePointInversionListAndStringList<'static> {
+        plain(self.try_into_owned())
+    }
+
     /// Returns the strings of the set, sorted by their bytes.
     #[must_use]
     pub fn strings(&self) -> Strings<'_> {

@@ -75,7 +75,7 @@ pub use crate::icu_trie_text::text;
 #[cfg(feature = "alloc")]
 use crate::codepointinvlist::CodePointInversionList;
 #[cfg(feature = "alloc")]
-use crate::plain::{plain, plain_clone};
+use crate::plain::plain;
 #[cfg(feature = "alloc")]
 use crate::zerovec::MemoryError;
 use crate::zerovec::ule::UleError;
@@ -83,12 +83,31 @@ use crate::zerovec::ule::UleError;
 use core::ops::RangeInclusive;
 
 #[cfg(feature = "alloc")]
-plain_clone! {
-    impl<'trie, T: TrieValue> Clone for CodePointTrie<'trie, T>;
-}
-
-#[cfg(feature = "alloc")]
 impl<T: TrieValue> CodePointTrie<'_, T> {
+    /// Returns the same trie, which then owns its index and its data. What it already owns is not
+    /// copied.
+    ///
+    /// # Errors
+    /// Returns [`MemoryError`] if an allocation fails. The trie is then dropped.
+    pub fn try_into_owned(self) -> Result<CodePointTrie<'static, T>, MemoryError> {
+        Ok(CodePointTrie {
+            header: self.header,
+            index: self.index.try_into_owned()?,
+            data: self.data.try_into_owned()?,
+        })
+    }
+
+    /// Returns the same trie, which then owns its index and its data. What it already owns is not
+    /// copied.
+    ///
+    /// # Panics
+    /// Panics if an allocation fails; [`try_into_owned`](Self::try_into_owned) returns an error
+    /// then.
+    #[must_use]
+    pub fn into_owned(self) -> CodePointTrie<'static, T> {
+        plain(self.try_into_owned())
+    }
+
     /// Returns the set of code points whose range in [`iter_ranges`](Self::iter_ranges) has the
     /// value.
     ///

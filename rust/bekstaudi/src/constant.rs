@@ -45,6 +45,10 @@ pub trait ConstCells: AsULE {
     /// The cells that are values, each as the number of its bytes, lowest byte first: ranges with
     /// both bounds included.
     const CELLS: &'static [(u32, u32)];
+
+    /// Whether the type is signed. [`zeroslice!`](crate::zeroslice) then packs -1 as the cell 255 of
+    /// one byte, and 255 does not compile.
+    const IS_SIGNED: bool = false;
 }
 
 /// A value of tries in constants.
@@ -119,10 +123,11 @@ pub trait ConstValue: TrieValue + ConstCells {
 }
 
 macro_rules! values {
-    ($($value:ty: $cells:expr $(, $numbers:expr)?;)*) => {
+    ($($value:ty: $is_signed:literal, $cells:expr $(, $numbers:expr)?;)*) => {
         $(
             impl ConstCells for $value {
                 const CELLS: &'static [(u32, u32)] = &$cells;
+                const IS_SIGNED: bool = $is_signed;
             }
 
             impl ConstValue for $value {
@@ -133,14 +138,14 @@ macro_rules! values {
 }
 
 values! {
-    u8: [(0, 0xFF)];
-    u16: [(0, 0xFFFF)];
-    u32: [(0, u32::MAX)];
+    u8: false, [(0, 0xFF)];
+    u16: false, [(0, 0xFFFF)];
+    u32: false, [(0, u32::MAX)];
     // Any cell is a signed value, whose number has the sign's bit in all bits above.
-    i8: [(0, 0xFF)], [(0, 0x7F), (0xFFFF_FF80, u32::MAX)];
-    i16: [(0, 0xFFFF)], [(0, 0x7FFF), (0xFFFF_8000, u32::MAX)];
-    i32: [(0, u32::MAX)];
-    char: [(0, 0xD7FF), (0xE000, 0x10_FFFF)];
+    i8: true, [(0, 0xFF)], [(0, 0x7F), (0xFFFF_FF80, u32::MAX)];
+    i16: true, [(0, 0xFFFF)], [(0, 0x7FFF), (0xFFFF_8000, u32::MAX)];
+    i32: true, [(0, u32::MAX)];
+    char: false, [(0, 0xD7FF), (0xE000, 0x10_FFFF)];
 }
 
 impl ConstCells for PotentialCodePoint {
@@ -230,16 +235,60 @@ impl<'a, T: ConstCells> ZeroSlice<'a, T> {
     }
 }
 
-/// Returns the cell of a number, for [`zeroslice!`](crate::zeroslice).
+/// Returns the least and the greatest number that a cell of the type can be, for
+/// [`zeroslice!`](crate::zeroslice).
 #[doc(hidden)]
 #[must_use]
-pub const fn cell_of(number: i64, width: usize) -> [u8; 4] {
-    let bits = 8 * width;
-    assert!(
-        number >= -(1 << (bits - 1)) && number < 1 << bits,
-        "a number needs more bytes"
-    );
-    (number as u32).to_le_bytes()
+pub const fn number_bounds<T: ConstCells>() -> (i128, i128) {
+    let count = 1 << (8 * T::WIDTH);
+    if T::IS_SIGNED {
+        (-count / 2, count / 2 - 1)
+    } else {
+        (0, count - 1)
+    }
+}
+
+/// Returns the least and the greatest number that a cell of the type can be, either as that of a
+/// value or of its bytes, for [`trie_of!`](crate::trie_of).
+#[doc(hidden)]
+#[must_use]
+pub const fn table_bounds<T: ConstCells>() -> (i128, i128) {
+    (number_bounds::<T>().0, (1 << (8 * T::WIDTH)) - 1)
+}
+
+/// Packs numbers, for [`zeroslice!`](crate::zeroslice).
+///
+/// # Panics
+/// Panics if a number is outside of these bounds.
+#[doc(hidden)]
+#[must_use]
+pub const fn packed<const N: usize, const BYTES: usize>(
+    numbers: &[i128; N],
+    (least, greatest): (i128, i128),
+    width: usize,
+) -> [u8; BYTES] {
+    let mut bytes = [0; BYTES];
+    let mut i = 0;
+    // No loop over the bytes of a number: the compiler interprets this, and that takes longer.
+    while i < N {
+        let (number, start) = (numbers[i], i * width);
+        assert!(
+            least <= number && number <= greatest,
+            "a number is not a value of the type"
+        );
+        bytes[start] = number as u8;
+        if width > 1 {
+            bytes[start + 1] = (number >> 8) as u8;
+        }
+        if width > 2 {
+            bytes[start + 2] = (number >> 16) as u8;
+        }
+        if width > 3 {
+            bytes[start + 3] = (number >> 24) as u8;
+        }
+        i += 1;
+    }
+    bytes
 }
 
 /// Packs an array of numbers in a constant, and returns a
@@ -248,6 +297,20 @@ pub const fn cell_of(number: i64, width: usize) -> [u8; 4] {
 /// `zeroslice!(u16; [1, 2])` packs values of a type of this crate. For other types of values, the
 /// array has their numbers: `zeroslice!(PotentialCodePoint as u32; [0x41, 0x5B])`. A number that is
 /// not a value of the type does not compile.
+///
+/// The compiler interprets the packing: 100,000 numbers take 2 seconds. For a large table, let
+/// [`ZeroSlice::from_static`] borrow a file of packed cells, lowest byte first. That takes no time,
+/// except that each cell of an enum is tested:
+///
+/// ```
+/// use bekstaudi::zerovec::ZeroSlice;
+///
+/// # macro_rules! include_bytes { ($path:literal) => { &[0x34, 0x12, 0xFF, 0] } }
+/// static NUMBERS: ZeroSlice<'static, u16> = ZeroSlice::from_static(include_bytes!("numbers.bin"));
+/// assert_eq!(NUMBERS.get(1), Some(255));
+/// ```
+///
+/// A small one can be in the source:
 ///
 /// ```
 /// use bekstaudi::zerovec::{PotentialCodePoint, ZeroSlice};
@@ -259,37 +322,63 @@ pub const fn cell_of(number: i64, width: usize) -> [u8; 4] {
 /// assert_eq!(ENDS.as_bytes(), [0, 0xF6, 1]);
 /// ```
 ///
+/// Numbers that are not values of the type do not compile:
+///
 /// ```compile_fail,E0080
 /// use bekstaudi::zerovec::{PotentialCodePoint, ZeroSlice};
 ///
 /// const ENDS: ZeroSlice<PotentialCodePoint> =
 ///     bekstaudi::zeroslice!(PotentialCodePoint as u32; [0x100_0000]);
 /// ```
+///
+/// ```compile_fail,E0080
+/// # use bekstaudi::zerovec::{PotentialCodePoint, ZeroSlice};
+/// const ENDS: ZeroSlice<PotentialCodePoint> =
+///     bekstaudi::zeroslice!(PotentialCodePoint as i32; [-1]);
+/// ```
+///
+/// ```compile_fail,E0080
+/// # use bekstaudi::zerovec::ZeroSlice;
+/// const NUMBERS: ZeroSlice<u8> = bekstaudi::zeroslice!(u8 as i32; [-1]);
+/// ```
+///
+/// ```compile_fail,E0080
+/// # use bekstaudi::zerovec::ZeroSlice;
+/// const NUMBERS: ZeroSlice<u16> = bekstaudi::zeroslice!(u16 as i64; [-2]);
+/// ```
+///
+/// ```compile_fail,E0080
+/// # use bekstaudi::zerovec::ZeroSlice;
+/// const NUMBERS: ZeroSlice<i8> = bekstaudi::zeroslice!(i8 as i32; [200]);
+/// ```
 #[macro_export]
 macro_rules! zeroslice {
     ($value:ty; $values:expr) => {
         $crate::zeroslice!($value as $value; $values)
     };
-    ($value:ty as $number:ty; $values:expr) => {{
-        const NUMBERS: &[$number] = &$values;
-        const WIDTH: usize = <$value as $crate::zerovec::ule::AsULE>::WIDTH;
-        const BYTES: &[u8; NUMBERS.len() * WIDTH] = &{
-            let mut bytes = [0; NUMBERS.len() * WIDTH];
+    ($value:ty as $number:ty; $values:expr) => {
+        $crate::zeroslice!(@number_bounds; $value as $number; $values)
+    };
+    // The names of constants are not hygienic, so they are ones that no caller has.
+    (@$bounds:ident; $value:ty as $number:ty; $values:expr) => {{
+        const __BEKSTAUDI_NUMBERS: &[$number] = &$values;
+        #[allow(long_running_const_eval)]
+        const __BEKSTAUDI_BYTES: &[u8; __BEKSTAUDI_NUMBERS.len()
+                 * <$value as $crate::zerovec::ule::AsULE>::WIDTH] = &{
+            let numbers = __BEKSTAUDI_NUMBERS;
+            let mut wide = [0; __BEKSTAUDI_NUMBERS.len()];
             let mut i = 0;
-            while i < NUMBERS.len() {
-                let cell = $crate::zerovec::cell_of(NUMBERS[i] as i64, WIDTH);
-                let mut byte = 0;
-                while byte < WIDTH {
-                    bytes[i * WIDTH + byte] = cell[byte];
-                    byte += 1;
-                }
+            while i < numbers.len() {
+                wide[i] = numbers[i] as i128;
                 i += 1;
             }
-            bytes
+            let width = <$value as $crate::zerovec::ule::AsULE>::WIDTH;
+            $crate::zerovec::packed(&wide, $crate::zerovec::$bounds::<$value>(), width)
         };
-        const SLICE: $crate::zerovec::ZeroSlice<'static, $value> =
-            $crate::zerovec::ZeroSlice::from_static(BYTES);
-        SLICE
+        #[allow(long_running_const_eval)]
+        const __BEKSTAUDI_SLICE: $crate::zerovec::ZeroSlice<'static, $value> =
+            $crate::zerovec::ZeroSlice::from_static(__BEKSTAUDI_BYTES);
+        __BEKSTAUDI_SLICE
     }};
 }
 
@@ -447,8 +536,10 @@ impl<'trie, T: ConstValue> CodePointTrie<'trie, T> {
 /// not a value of the type does not compile. This includes the numbers of `--default` and `--error`, which
 /// are 0 if they are not given. For a signed type, a number is the cell of a value: 255 is the `i8` -1.
 ///
-/// Each build of your crate checks the table, except that an incremental one keeps the result: 480 kB
-/// of data take 4 to 7 seconds, a few kilobytes less than 0.1 seconds.
+/// Each build of your crate packs and checks the table, except that an incremental one keeps the
+/// result. A few kilobytes take less than 0.2 seconds, 100,000 cells 2 to 4 seconds. For a larger table, give
+/// [`CodePointTrie::from_static`] the index and the data by [`ZeroSlice::from_static`] over
+/// `include_bytes!`, which takes no time: both as packed cells, lowest byte first.
 ///
 /// ```
 /// use bekstaudi::codepointtrie::CodePointTrie;
@@ -535,7 +626,7 @@ macro_rules! trie_of {
         $crate::trie_of!($($table)::+ as $($table)::+::Value)
     };
     ($($table:ident)::+ as $value:ty) => {{
-        const TRIE: $crate::codepointtrie::CodePointTrie<'static, $value> =
+        const __BEKSTAUDI_TRIE: $crate::codepointtrie::CodePointTrie<'static, $value> =
             $crate::codepointtrie::CodePointTrie::from_static(
                 $crate::codepointtrie::CodePointTrieHeader {
                     high_start: $($table)::+::HIGH_START,
@@ -549,9 +640,11 @@ macro_rules! trie_of {
                     },
                 },
                 $crate::zeroslice!(u16; $($table)::+::INDEX),
-                $crate::zeroslice!($value as $($table)::+::Value; $($table)::+::DATA),
+                $crate::zeroslice!(
+                    @table_bounds; $value as $($table)::+::Value; $($table)::+::DATA
+                ),
             );
-        TRIE
+        __BEKSTAUDI_TRIE
     }};
 }
 
@@ -721,124 +814,4 @@ impl<'data> Char16Trie<'data> {
     pub const fn from_static(units: ZeroSlice<'data, u16>) -> Self {
         Char16Trie::new(units.as_zerovec())
     }
-}
-
-/// Returns ranges that contain the same numbers, ascending and joined, and then empty ones; and how
-/// many are not empty. For [`trie_values!`](crate::trie_values).
-#[doc(hidden)]
-#[must_use]
-pub const fn joined<const N: usize>(mut numbers: [u32; N]) -> ([(u32, u32); N], usize) {
-    let mut ranges = [(1, 0); N];
-    let mut count: usize = 0;
-    let mut i = 0;
-    while i < N {
-        let mut place = i;
-        while place > 0 && numbers[place - 1] > numbers[place] {
-            (numbers[place - 1], numbers[place]) = (numbers[place], numbers[place - 1]);
-            place -= 1;
-        }
-        i += 1;
-    }
-    let mut i = 0;
-    while i < N {
-        if count > 0 && ranges[count - 1].1 == numbers[i].wrapping_sub(1) {
-            ranges[count - 1].1 = numbers[i];
-        } else {
-            ranges[count] = (numbers[i], numbers[i]);
-            count += 1;
-        }
-        i += 1;
-    }
-    (ranges, count)
-}
-
-/// Declares an enum whose values a trie can store, also in a constant.
-///
-/// The type after the name, `u8`, `u16` or `u32`, is that of a value's cell. Each value has a
-/// number, a literal. Attributes on the enum, such as more derives, and on its values apply to them.
-///
-/// The enum gets [`AsULE`](crate::zerovec::ule::AsULE),
-/// [`TrieValue`](crate::codepointtrie::TrieValue), [`ConstCells`](crate::zerovec::ConstCells) and
-/// [`ConstValue`](crate::codepointtrie::ConstValue), beside `Clone`, `Copy`, `Debug`, `PartialEq`,
-/// `Eq`, `PartialOrd`, `Ord` and `Hash`.
-///
-/// ```
-/// use bekstaudi::codepointtrie::{CodePointTrieBuilder, TrieType};
-///
-/// bekstaudi::trie_values! {
-///     /// A kind of character.
-///     pub enum Kind: u8 {
-///         /// Neither of the others.
-///         Other = 0,
-///         Letter = 1,
-///         Digit = 2,
-///     }
-/// }
-///
-/// let mut builder = CodePointTrieBuilder::new(Kind::Other, Kind::Other, TrieType::Small);
-/// builder.set_range_value(0x30..=0x39, Kind::Digit);
-/// assert_eq!(builder.build().get('7'), Kind::Digit);
-/// ```
-#[macro_export]
-macro_rules! trie_values {
-    (
-        $(#[$meta:meta])*
-        $vis:vis enum $value:ident: $number:ident {
-            $($(#[$inner:meta])* $name:ident = $n:literal),+ $(,)?
-        }
-    ) => {
-        $(#[$meta])*
-        #[derive(Clone, Copy, Debug, PartialEq, Eq, PartialOrd, Ord, Hash)]
-        #[repr($number)]
-        $vis enum $value {
-            $($(#[$inner])* $name = $n),+
-        }
-
-        impl $crate::zerovec::ule::AsULE for $value {
-            const WIDTH: usize = core::mem::size_of::<$number>();
-
-            #[inline]
-            fn to_unaligned(self) -> [u8; 4] {
-                (self as u32).to_le_bytes()
-            }
-
-            #[inline]
-            fn from_unaligned(bytes: &[u8]) -> Option<Self> {
-                let mut cell = [0; core::mem::size_of::<$number>()];
-                cell.copy_from_slice(&bytes[..core::mem::size_of::<$number>()]);
-                match <$number>::from_le_bytes(cell) {
-                    $($n => Some(Self::$name),)+
-                    _ => None,
-                }
-            }
-        }
-
-        impl $crate::codepointtrie::TrieValue for $value {
-            type TryFromU32Error = $crate::codepointtrie::NotAValue;
-
-            #[inline]
-            fn to_u32(self) -> u32 {
-                self as u32
-            }
-
-            #[inline]
-            fn try_from_u32(i: u32) -> Result<Self, Self::TryFromU32Error> {
-                match i {
-                    $($n => Ok(Self::$name),)+
-                    _ => Err($crate::codepointtrie::NotAValue),
-                }
-            }
-        }
-
-        impl $crate::zerovec::ConstCells for $value {
-            const CELLS: &'static [(u32, u32)] = {
-                const NUMBERS: &[u32] = &[$($n),+];
-                const JOINED: &([(u32, u32); NUMBERS.len()], usize) =
-                    &$crate::zerovec::joined([$($n),+]);
-                JOINED.0.split_at(JOINED.1).0
-            };
-        }
-
-        impl $crate::codepointtrie::ConstValue for $value {}
-    };
 }

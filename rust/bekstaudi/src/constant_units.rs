@@ -157,10 +157,22 @@ pub const fn is_unit_trie<const N: usize>(units: &[u16; N]) -> bool {
 
 /// Makes a unit trie of an array of its units in a constant, and returns a
 /// [`Char16Trie<'static>`](crate::char16trie::Char16Trie). Units that are not the trie of a map do
-/// not compile. The test is that of `try_is_trie`, and takes as long as
-/// [`zeroslice!`](crate::zeroslice): 4 seconds for 170,000 units.
+/// not compile. The test is that of `try_is_trie`.
 ///
-/// The units may be those that `ucptrie words --as rust --name words` writes:
+/// The compiler interprets the test: 100,000 units take 5 seconds. For a large dictionary, let the trie
+/// borrow the file that `ucptrie words --as icu` writes. That takes no time, since its units are not
+/// tested, and look-ups return on all units:
+///
+/// ```
+/// use bekstaudi::{char16trie::Char16Trie, zerovec::ZeroSlice};
+///
+/// # macro_rules! include_bytes { ($path:literal) => { &[0x31, 0, 0x61, 0, 0x62, 0, 3, 0x80] } }
+/// static WORDS: Char16Trie<'static> =
+///     Char16Trie::from_static(ZeroSlice::from_static(include_bytes!("words.icu")));
+/// assert_eq!(WORDS.longest_match_str("abc"), Some((2, 3)));
+/// ```
+///
+/// The units of a small one may be those that `ucptrie words --as rust --name words` writes:
 ///
 /// ```
 /// use bekstaudi::char16trie::Char16Trie;
@@ -188,12 +200,14 @@ pub const fn is_unit_trie<const N: usize>(units: &[u16; N]) -> bool {
 #[macro_export]
 macro_rules! unit_trie {
     ($units:expr) => {{
+        #[allow(long_running_const_eval)]
         const _: () = assert!(
             $crate::char16trie::is_unit_trie(&$units),
             "the units are not a trie"
         );
-        const TRIE: $crate::char16trie::Char16Trie<'static> =
+        // Names of constants are not hygienic, so this is one that no caller has.
+        const __BEKSTAUDI_UNITS: $crate::char16trie::Char16Trie<'static> =
         $crate::char16trie::Char16Trie::from_static($crate::zeroslice!(u16; $units));
-        TRIE
+        __BEKSTAUDI_UNITS
     }};
 }

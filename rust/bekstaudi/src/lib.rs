@@ -66,8 +66,9 @@
 //! [`try_new`](codepointtrie::CodePointTrie::try_new) does at run time, so a bad table does not compile:
 //! [`CodePointTrie::from_static`](codepointtrie::CodePointTrie::from_static),
 //! [`CodePointInversionList::from_static`](codepointinvlist::CodePointInversionList::from_static),
-//! [`unit_trie!`]. [`zeroslice!`] packs an array for them, and [`trie_values!`] declares an enum of
-//! values.
+//! [`unit_trie!`]. [`ZeroSlice::from_static`](zerovec::ZeroSlice::from_static) over `include_bytes!`
+//! borrows a file for them, [`zeroslice!`] packs a small array, and [`trie_values!`] declares an enum
+//! of values.
 //!
 //! The program `ucptrie` makes the parts of a trie from rows such as `0041..005A;1`, and [`trie_of!`]
 //! makes the trie of them. `ucptrie build --as rust-static` also writes the `static`, and an enum if
@@ -82,8 +83,8 @@
 //!   `icu_collections`: numbers and texts in formats that people read, such as JSON, and packed
 //!   bytes, which are borrowed, in others. A field of such a type needs `#[serde(borrow)]`, and its
 //!   struct a lifetime. Functions for `DeserializeOwned`, such as `serde_json::from_reader`, cannot
-//!   read it. `try_clone` of a value that was read owns its data, so they can read a type of your own
-//!   whose `deserialize` returns such a copy. The strings of a set are never borrowed, unlike those
+//!   read it. `into_owned` of a value that was read owns its data, so they can read a type of your own
+//!   whose `deserialize` returns such a value. The strings of a set are never borrowed, unlike those
 //!   of `icu_collections`
 //! - `json`: sets, tries and unit tries to and from the values of `serde_json`. The forms are those
 //!   of `serde`, except that a trie has the number of each value, also if its values are signed or
@@ -117,6 +118,7 @@ struct Readme;
 mod collected;
 mod constant;
 mod constant_units;
+mod constant_values;
 mod plain;
 #[cfg(feature = "serde")]
 mod serde_forms;

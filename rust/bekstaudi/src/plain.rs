@@ -43,11 +43,11 @@ pub(crate) use plain_calls;
 #[cfg(feature = "alloc")]
 /// A clone over `try_clone`, which panics if an allocation fails.
 macro_rules! plain_clone {
-    ($(impl<$($life:lifetime $(, $of:ident: $bound:path)?)?> Clone for $name:ty;)*) => {
+    ($($name:ty;)*) => {
         $(
             /// # Panics
             /// Panics if an allocation fails; `try_clone` returns an error then.
-            impl<$($life $(, $of: $bound)?)?> Clone for $name {
+            impl Clone for $name {
                 fn clone(&self) -> Self {
                     crate::plain::plain(self.try_clone())
                 }

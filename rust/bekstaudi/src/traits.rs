@@ -102,8 +102,10 @@ impl<'a, T: AsULE> IntoIterator for ZeroSlice<'a, T> {
     }
 }
 
-// Without an allocator, clones borrow what is borrowed. With one, they own a copy.
-#[cfg(not(feature = "alloc"))]
+/// Borrows what the trie borrows, and copies what it owns.
+///
+/// # Panics
+/// Panics if an allocation fails; `try_clone` returns an error then.
 impl<T: TrieValue> Clone for CodePointTrie<'_, T> {
     fn clone(&self) -> Self {
         CodePointTrie {
@@ -114,7 +116,10 @@ impl<T: TrieValue> Clone for CodePointTrie<'_, T> {
     }
 }
 
-#[cfg(not(feature = "alloc"))]
+/// Borrows what the set borrows, and copies what it owns.
+///
+/// # Panics
+/// Panics if an allocation fails; `try_clone` returns an error then.
 impl Clone for CodePointInversionList<'_> {
     fn clone(&self) -> Self {
         CodePointInversionList {
@@ -124,7 +129,10 @@ impl Clone for CodePointInversionList<'_> {
     }
 }
 
-#[cfg(not(feature = "alloc"))]
+/// Borrows what the trie borrows, and copies what it owns.
+///
+/// # Panics
+/// Panics if an allocation fails; `try_clone` returns an error then.
 impl Clone for Char16Trie<'_> {
     fn clone(&self) -> Self {
         Char16Trie::new(self.data.clone())
@@ -134,6 +142,8 @@ impl Clone for Char16Trie<'_> {
 macro_rules! typed_clone {
     ($($name:ident $variant:ident;)*) => {
         $(
+            /// Borrows what the trie borrows, and copies what it owns.
+            ///
             /// # Panics
             /// Panics if an allocation fails.
             impl<T: TrieValue> Clone for $name<'_, T> {
@@ -153,6 +163,8 @@ typed_clone! {
     SmallCodePointTrie Small;
 }
 
+/// Borrows what the trie borrows, and copies what it owns.
+///
 /// # Panics
 /// Panics if an allocation fails.
 impl Clone for AnyWidthTrie<'_> {

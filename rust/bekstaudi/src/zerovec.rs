@@ -11,7 +11,9 @@
 
 pub use crate::constant::ConstCells;
 #[doc(hidden)]
-pub use crate::constant::{cell_of, joined};
+pub use crate::constant::{number_bounds, packed, table_bounds};
+#[doc(hidden)]
+pub use crate::constant_values::joined;
 pub use crate::icu_zerovec::code_point::{CODE_POINT_LIMIT, PotentialCodePoint};
 pub use crate::icu_zerovec::memory::{ApplyRefused, MemoryError};
 pub use crate::icu_zerovec::slice::ZeroSlice;
@@ -21,12 +23,24 @@ pub use crate::icu_zerovec::{iter, ule};
 pub use crate::strings::VarZeroVec;
 
 #[cfg(feature = "alloc")]
-use crate::plain::{plain, plain_clone};
+use crate::plain::plain;
 use ule::AsULE;
 
-#[cfg(feature = "alloc")]
-plain_clone! {
-    impl<'a, T: AsULE> Clone for ZeroVec<'a, T>;
+/// Borrows what the vector borrows, and copies what it owns.
+///
+/// # Panics
+/// Panics if an allocation fails; `try_clone` returns an error then.
+impl<T: AsULE> Clone for ZeroVec<'_, T> {
+    fn clone(&self) -> Self {
+        match self.borrowed() {
+            Some(vector) => vector,
+            #[cfg(feature = "alloc")]
+            None => plain(self.try_clone()),
+            // Without an allocator, a vector that borrows nothing is empty.
+            #[cfg(not(feature = "alloc"))]
+            None => ZeroVec::new(),
+        }
+    }
 }
 
 #[cfg(feature = "alloc")]

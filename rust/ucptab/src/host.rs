@@ -11,8 +11,8 @@ pub struct HostRuntime;
 
 impl HostRuntime {
     /// Returns the standard input.
-    pub fn stdin(&self) -> std::io::Stdin {
-        std::io::stdin()
+    pub fn stdin(&self) -> Stdin {
+        Stdin
     }
 
     /// Returns the standard output, which is not buffered.
@@ -26,13 +26,84 @@ impl HostRuntime {
     }
 }
 
-/// The standard output. Each write reports its own failure.
+/// Which standard streams were closed when the program started. Rust's std opens `/dev/null` in
+/// their place before `main`, so the loader calls `look` before that.
+#[cfg(target_os = "linux")]
+mod closed {
+    use std::io;
+    use std::os::fd::AsFd;
+    use std::sync::atomic::{AtomicBool, Ordering};
+
+    static INPUT: AtomicBool = AtomicBool::new(false);
+    static OUTPUT: AtomicBool = AtomicBool::new(false);
+
+    /// What Linux returns for a closed stream: `EBADF`.
+    const CLOSED: i32 = 9;
+
+    fn is_closed(stream: impl AsFd) -> bool {
+        let copy = stream.as_fd().try_clone_to_owned();
+        copy.is_err_and(|it| it.raw_os_error() == Some(CLOSED))
+    }
+
+    extern "C" fn look() {
+        INPUT.store(is_closed(io::stdin()), Ordering::Relaxed);
+        OUTPUT.store(is_closed(io::stdout()), Ordering::Relaxed);
+    }
+
+    // The one use of unsafe code in the programs: the name of a section, which has to be right.
+    #[allow(unsafe_code)]
+    #[used]
+    #[unsafe(link_section = ".init_array")]
+    static LOOK: extern "C" fn() = look;
+
+    fn expect_open(was_closed: &AtomicBool) -> io::Result<()> {
+        match was_closed.load(Ordering::Relaxed) {
+            true => Err(io::Error::from_raw_os_error(CLOSED)),
+            false => Ok(()),
+        }
+    }
+
+    /// Returns an error if the standard input was closed.
+    pub fn expect_input() -> io::Result<()> {
+        expect_open(&INPUT)
+    }
+
+    /// Returns an error if the standard output was closed.
+    pub fn expect_output() -> io::Result<()> {
+        expect_open(&OUTPUT)
+    }
+}
+
+/// Elsewhere, a closed stream is what std makes of it.
+#[cfg(not(target_os = "linux"))]
+mod closed {
+    pub fn expect_input() -> std::io::Result<()> {
+        Ok(())
+    }
+
+    pub fn expect_output() -> std::io::Result<()> {
+        Ok(())
+    }
+}
+
+/// The standard input. A read fails if it was closed.
+pub struct Stdin;
+
+impl std::io::Read for Stdin {
+    fn read(&mut self, bytes: &mut [u8]) -> std::io::Result<usize> {
+        closed::expect_input()?;
+        std::io::stdin().read(bytes)
+    }
+}
+
+/// The standard output. Each write reports its own failure, and fails if it was closed.
 pub struct Stdout;
 
 #[cfg(unix)]
 impl std::io::Write for Stdout {
     fn write(&mut self, bytes: &[u8]) -> std::io::Result<usize> {
         use std::os::fd::AsFd;
+        closed::expect_output()?;
         // Not through std's own buffer, which would write again at the end what failed before.
         std::fs::File::from(std::io::stdout().as_fd().try_clone_to_owned()?).write(bytes)
     }

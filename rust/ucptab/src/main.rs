@@ -1,6 +1,6 @@
 //! The program ucptab: crates/ucptab and crates/ucptab_table without their proofs, over
 //! `bekstaudi`.
-#![forbid(unsafe_code)]
+#![deny(unsafe_code)]
 
 extern crate alloc;
 

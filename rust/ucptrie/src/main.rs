@@ -1,7 +1,7 @@
 //! The program ucptrie: crates/ucptrie, crates/ucptrie_sets, crates/ucptrie_source,
 //! crates/ucptrie_tables, crates/ucptrie_words, crates/bzip2_reader, crates/ucd_files and
 //! crates/ucptab_table without their proofs, over `bekstaudi`, `clap`, `serde_json` and `toml`.
-#![forbid(unsafe_code)]
+#![deny(unsafe_code)]
 #![allow(clippy::write_with_newline)] // A format has whole lines.
 
 extern crate alloc;

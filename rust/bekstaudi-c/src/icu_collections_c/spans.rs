@@ -181,7 +181,8 @@ fn span_units<K: Kind>(kind: &mut K, units: &[u16]) -> usize {
 
 /// Returns the length in bytes of the longest prefix of the text that is UTF-8 and whose characters
 /// are all in the frozen set at the start of the words or, if `held` is false, all outside it.
-/// Reads no further than the character after the span. Any words are accepted, as by
+/// Reads at most the nine bytes after the span, and none outside the text: a long span is tested
+/// eight bytes at a time. Any words are accepted, as by
 /// [`bks_frozen_contains`](crate::icu_collections_c::frozen::bks_frozen_contains).
 ///
 /// ICU: `uset_spanUTF8`, which takes an ill-formed sequence for U+FFFD instead.
@@ -195,7 +196,7 @@ pub fn bks_frozen_span(table: &[u64], text: &[u8], held: bool) -> i64 {
 
 /// Returns the offset in bytes of the longest suffix of the text that is UTF-8 and whose characters
 /// are all in the frozen set at the start of the words or, if `held` is false, all outside it.
-/// Reads no further than the four bytes before the span. Any words are accepted.
+/// Reads at most the four bytes before the span, and none outside the text. Any words are accepted.
 ///
 /// ICU: `uset_spanBackUTF8`, which takes an ill-formed sequence for U+FFFD instead.
 ///
@@ -217,9 +218,9 @@ pub fn bks_frozen_span_utf16(table: &[u64], text: &[u16], held: bool) -> usize {
 }
 
 /// Returns the length in bytes of the longest prefix of the text that is UTF-8 and whose characters
-/// are all in the set with these boundaries or, if `held` is false, all outside it. Reads no
-/// further than the character after the span. The result is unspecified (but memory-safe) if
-/// [`bks_set_test`](crate::icu_collections_c::sets::bks_set_test) returns false.
+/// are all in the set with these boundaries or, if `held` is false, all outside it. Reads at most
+/// the four bytes after the span, and none outside the text. The result is unspecified (but
+/// memory-safe) if [`bks_set_test`](crate::icu_collections_c::sets::bks_set_test) returns false.
 ///
 /// ICU: `uset_spanUTF8`, which takes an ill-formed sequence for U+FFFD instead.
 ///
@@ -231,9 +232,9 @@ pub fn bks_set_span(ends: &[u32], text: &[u8], held: bool) -> i64 {
 }
 
 /// Returns the offset in bytes of the longest suffix of the text that is UTF-8 and whose characters
-/// are all in the set with these boundaries or, if `held` is false, all outside it. Reads no
-/// further than the four bytes before the span. The result is unspecified (but memory-safe) if
-/// [`bks_set_test`](crate::icu_collections_c::sets::bks_set_test) returns false.
+/// are all in the set with these boundaries or, if `held` is false, all outside it. Reads at most
+/// the four bytes before the span, and none outside the text. The result is unspecified (but
+/// memory-safe) if [`bks_set_test`](crate::icu_collections_c::sets::bks_set_test) returns false.
 ///
 /// ICU: `uset_spanBackUTF8`, which takes an ill-formed sequence for U+FFFD instead.
 ///

@@ -7,8 +7,9 @@ use crate::icu_collections_c::status::Refusal;
 use crate::icu_collections_c::unit_tries::{Cursor, place_of};
 use crate::icu_collections_c::units::trie_in;
 
-/// Writes the units that can come next in some key to the start of a buffer, ascending and each
-/// once, as many as fit. Returns how many there are, at most 65,536.
+/// Writes the units that can come next in some key to the start of a buffer, as many as fit.
+/// Returns how many there are, at most 65,536. If the units are a trie, they ascend, each once. If
+/// not, they are those of the entries of a branch, as far as the entries are there.
 ///
 /// ICU: `UCharsTrie::getNextUChars`.
 ///

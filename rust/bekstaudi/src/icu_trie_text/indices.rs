@@ -48,7 +48,7 @@ pub fn value_indices_of<'a, T: TrieValue>(
 impl<'a, T: TrieValue> Iterator for ValueIndicesOf<'a, T> {
     type Item = (usize, char, T);
 
-    #[inline]
+    #[inline(always)]
     fn next(&mut self) -> Option<(usize, char, T)> {
         let offset = self.end - self.rest.as_str().len();
         let (c, value) = first_value(&self.trie, &mut self.rest)?;
@@ -62,7 +62,7 @@ impl<'a, T: TrieValue> Iterator for ValueIndicesOf<'a, T> {
 }
 
 impl<T: TrieValue> DoubleEndedIterator for ValueIndicesOf<'_, T> {
-    #[inline]
+    #[inline(always)]
     fn next_back(&mut self) -> Option<(usize, char, T)> {
         let last = self.rest.next_back()?;
         self.end -= last.len_utf8();

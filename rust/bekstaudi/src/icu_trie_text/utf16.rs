@@ -43,7 +43,7 @@ pub const fn values_of_utf16<'a, T: TrieValue>(
 impl<'a, T: TrieValue> Iterator for ValuesOfUtf16<'a, T> {
     type Item = (u32, T);
 
-    #[inline]
+    #[inline(always)]
     fn next(&mut self) -> Option<(u32, T)> {
         let (first, rest) = first_code_point(self.rest)?;
         self.rest = rest;
@@ -58,7 +58,7 @@ impl<'a, T: TrieValue> Iterator for ValuesOfUtf16<'a, T> {
 }
 
 impl<T: TrieValue> DoubleEndedIterator for ValuesOfUtf16<'_, T> {
-    #[inline]
+    #[inline(always)]
     fn next_back(&mut self) -> Option<(u32, T)> {
         let last = self.rest.len().checked_sub(1)?;
         let start = match self

@@ -102,7 +102,7 @@ fn first_item<T: TrieValue>(trie: &AsciiInPlace<'_, T>, bytes: &[u8]) -> ((char,
 impl<'a, T: TrieValue> Iterator for ValuesOfUtf8<'a, T> {
     type Item = (char, T);
 
-    #[inline]
+    #[inline(always)]
     fn next(&mut self) -> Option<(char, T)> {
         let bytes = self.rest.as_slice();
         let lead = *bytes.first()?;

@@ -43,7 +43,7 @@ pub fn values_of<'a, T: TrieValue>(
 impl<'a, T: TrieValue> Iterator for ValuesOf<'a, T> {
     type Item = (char, T);
 
-    #[inline]
+    #[inline(always)]
     fn next(&mut self) -> Option<(char, T)> {
         first_value(&self.trie, &mut self.rest)
     }
@@ -55,7 +55,7 @@ impl<'a, T: TrieValue> Iterator for ValuesOf<'a, T> {
 }
 
 impl<T: TrieValue> DoubleEndedIterator for ValuesOf<'_, T> {
-    #[inline]
+    #[inline(always)]
     fn next_back(&mut self) -> Option<(char, T)> {
         let last = self.rest.next_back()?;
         Some((last, self.trie.get(last)))

@@ -287,13 +287,12 @@ impl<'a, T: AsULE + fmt::Debug> fmt::Debug for ZeroVec<'a, T> {
     }
 }
 
-/// Borrows what the vector borrows. Without an allocator, a vector that borrows nothing is empty.
-#[cfg(not(feature = "alloc"))]
-impl<T: AsULE> Clone for ZeroVec<'_, T> {
-    fn clone(&self) -> Self {
+impl<'a, T: AsULE> ZeroVec<'a, T> {
+    /// Returns the same vector if it borrows its bytes, otherwise `None`.
+    pub(crate) const fn borrowed(&self) -> Option<ZeroVec<'a, T>> {
         match self.store {
-            Store::Borrowed(bytes) => ZeroVec::from_packed(bytes),
-            Store::Owned(_) => ZeroVec::from_packed(&[]),
+            Store::Borrowed(bytes) => Some(ZeroVec::from_packed(bytes)),
+            Store::Owned(_) => None,
         }
     }
 }

@@ -6,10 +6,11 @@ use crate::support::AllocError;
 #[allow(unused_imports)]
 use crate::support::prelude::*;
 use crate::ucd_files::aliases::alias_names;
-use crate::ucd_files::kind::{are_code_points, are_decimal, has_missing_lines};
+use crate::ucd_files::kind::{are_code_points, are_decimal, has_missing_lines, have_leading_zero};
 use crate::ucd_files::names::{Matching, Name, Numbering, is_same_name};
 use crate::ucd_files::order::names_in_order;
 use crate::ucd_files::statement::Columns;
+use crate::ucd_files::title::title_of;
 use crate::ucd_files::value_names::ValueNames;
 
 /// What the values of a file are.
@@ -195,12 +196,38 @@ pub fn by_names<'n>(choice: &'n Choice<'n>) -> Numbering<'n> {
     Numbering::Names(&choice.names, matching_of(choice.kind))
 }
 
+/// Returns whether the title is that of a file in which field 1 of each line is a code point.
+fn is_pair_title(title: &[u8]) -> bool {
+    title.starts_with(b"BidiMirroring".as_slice())
+        || title.starts_with(b"BidiBrackets".as_slice())
+        || title.starts_with(b"EquivalentUnifiedIdeograph".as_slice())
+}
+
+/// Returns whether the values are code points by the title of the file.
+pub fn is_pair_file(input: &[u8], columns: Columns<'_>) -> bool {
+    match (columns, title_of(input)) {
+        (Columns::Field(1), Some(title)) => is_pair_title(title),
+        _ => false,
+    }
+}
+
+/// Returns whether the values look as code points do, and not as decimal numbers: all have 4 to 6
+/// hexadecimal digits, and one starts with `0`. Values of Unihan are no code points without `U+`.
+fn are_marked(input: &[u8], columns: Columns<'_>) -> bool {
+    match columns {
+        Columns::Unihan(_) => false,
+        _ => are_code_points(input, columns) && have_leading_zero(input, columns),
+    }
+}
+
 /// Returns the kind of numbering that a file shows, whose values are of this kind.
 fn shown_numbering(input: &[u8], columns: Columns<'_>, kind: ValueKind) -> NumberingKind {
     match (columns, kind) {
         (Columns::SimpleFolding | Columns::UnicodeData(12..=14), _) => NumberingKind::Hexadecimal,
         (_, ValueKind::Set) => NumberingKind::One,
         (_, ValueKind::Binary | ValueKind::Aliases) => NumberingKind::Names,
+        _ if is_pair_file(input, columns) => NumberingKind::Hexadecimal,
+        _ if are_marked(input, columns) => NumberingKind::Hexadecimal,
         _ if are_decimal(input, columns) => NumberingKind::Decimal,
         _ if are_code_points(input, columns) => NumberingKind::Hexadecimal,
         _ => NumberingKind::Names,

@@ -10,9 +10,12 @@ use core::fmt;
 /// What is wrong with a line. Lines are tested in this order.
 #[derive(Clone, Copy, Debug, PartialEq, Eq)]
 pub enum LineFault {
-    /// The line before gives the first code point of a range, and this line does not give the last
-    /// one. Or this line gives the last one, and the line before does not give the first one.
+    /// In `UnicodeData.txt`, the line before gives the first code point of a range, and this line
+    /// does not give the last one of the same range, with the same value. Or this line gives the
+    /// last one, and the line before does not give the first one.
     Unpaired,
+    /// In another file, the line gives one of the two code points of a range in two lines.
+    SplitRange,
     /// Field 0 is neither `HEX` nor `HEX..HEX`.
     NotCodePoints,
     /// A code point is above 10FFFF.
@@ -29,7 +32,12 @@ impl LineFault {
     /// Returns what the test that failed expects of a line, in words.
     pub fn expected(self) -> &'static str {
         match self {
-            LineFault::Unpaired => "`<.., First>` and `<.., Last>` in two lines in a row",
+            LineFault::Unpaired => {
+                "a line `<NAME, First>`, then a line `<NAME, Last>` with the same value"
+            }
+            LineFault::SplitRange => {
+                "HEX..HEX for a range: only UnicodeData.txt has it in two lines"
+            }
             LineFault::NotCodePoints => "HEX or HEX..HEX before the first `;`",
             LineFault::CodePoint => "code points up to 10FFFF",
             LineFault::Reversed => "a range whose end is not below its start",

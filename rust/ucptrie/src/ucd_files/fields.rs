@@ -61,3 +61,9 @@ pub fn ends_in_first(content: &[u8]) -> bool {
 pub fn ends_in_last(content: &[u8]) -> bool {
     field(1, content).ends_with(b", Last>".as_slice())
 }
+
+/// Returns whether a text ends as the name of the first or the last code point of a range in two
+/// lines: in `, First>` or `, Last>`.
+pub fn marks_range(text: &[u8]) -> bool {
+    text.ends_with(b", First>".as_slice()) || text.ends_with(b", Last>".as_slice())
+}

@@ -61,10 +61,23 @@ pub fn has_values(input: &[u8]) -> bool {
     !first_content(input).is_empty() || has_missing_line(input)
 }
 
+/// Returns whether a line of a file has a field after its code points.
+fn has_fields(input: &[u8]) -> bool {
+    let mut rest = input;
+    while let Some((line, after)) = first_line(rest) {
+        if has_field(1, content_of(line)) {
+            return true;
+        }
+        rest = after;
+    }
+    false
+}
+
 /// Returns the kind of a file, by its first line with content. `UnicodeData.txt` has 14 semicolons
-/// in it. Other files of the Unicode Character Database start with a title. If their lines have one
-/// field, they are lists of code points. Files without a title are rows, unless they have an
-/// `@missing` line, or `has_properties` says that their lines have properties.
+/// in it. Other files of the Unicode Character Database start with a title. If no line has a second
+/// field, and none is an `@missing` line, they are lists of code points. Files without a title are
+/// rows, unless they have an `@missing` line, or `has_properties` says that their lines have
+/// properties.
 pub fn kind_of(input: &[u8], has_properties: bool) -> FileKind {
     let content = first_content(input);
     if content.iter().filter(|byte| **byte == b';').count() == 14 {
@@ -77,7 +90,7 @@ pub fn kind_of(input: &[u8], has_properties: bool) -> FileKind {
     if !(has_title || has_properties || has_missing_line(input)) {
         return FileKind::Rows;
     }
-    if has_title && !has_field(1, content) {
+    if has_title && !has_fields(input) && !has_missing_line(input) {
         FileKind::CodePoints
     } else {
         FileKind::Properties
@@ -162,4 +175,24 @@ pub fn are_code_points(input: &[u8], columns: Columns<'_>) -> bool {
         rest = after;
     }
     true
+}
+
+/// Returns whether a line has a value that starts with `0`.
+fn has_leading_zero(columns: Columns<'_>, line: &[u8]) -> bool {
+    match text_of_line(columns, line) {
+        Some(text) => text.starts_with(b"0".as_slice()),
+        None => false,
+    }
+}
+
+/// Returns whether a value in a file starts with `0`, as code points of 4 digits do.
+pub fn have_leading_zero(input: &[u8], columns: Columns<'_>) -> bool {
+    let mut rest = input;
+    while let Some((line, after)) = first_line(rest) {
+        if has_leading_zero(columns, line) {
+            return true;
+        }
+        rest = after;
+    }
+    false
 }

@@ -7,16 +7,15 @@ use crate::support::AllocError;
 use crate::support::prelude::*;
 use crate::ucd_files::fields::missing_of;
 use crate::ucd_files::names::Matching;
-use crate::ucd_files::statement::{Columns, missing_text, value_text};
+use crate::ucd_files::statement::{Columns, content_in, missing_text, value_text};
 use crate::ucd_files::value_names::ValueNames;
 use crate::ucptab_table::input::first_line;
-use crate::ucptab_table::rows::content_of;
 
 /// Returns the text of a line's value, if it has one that is not empty.
 pub fn text_of_line<'t>(columns: Columns<'_>, line: &'t [u8]) -> Option<&'t [u8]> {
     let text = match missing_of(line) {
         Some(content) => missing_text(columns, content)?,
-        None => value_text(columns, content_of(line))?,
+        None => value_text(columns, content_in(columns, line))?,
     };
     if text.is_empty() {
         return None;

@@ -4,10 +4,10 @@
 use crate::host::{HostRuntime, Text};
 use crate::ucd_files::fault::LineFault;
 use crate::ucd_files::fields::{
-    after_mark, column, ends_in_first, ends_in_last, field, has_field, missing_of,
+    after_mark, column, ends_in_first, ends_in_last, field, has_field, marks_range, missing_of,
 };
-use crate::ucd_files::names::{Numbering, is_same_name, number_of};
-use crate::ucptab_table::rows::{CodePoints, code_points_of, content_of};
+use crate::ucd_files::names::{Matching, Numbering, is_match, is_same_name, number_of};
+use crate::ucptab_table::rows::{CodePoints, after, before, code_points_of, content_of, trimmed};
 use bekstaudi::codepointtrie::Write;
 use bekstaudi::zerovec::CODE_POINT_LIMIT;
 
@@ -17,13 +17,14 @@ pub enum Columns<'a> {
     /// In this field, counted from 0. An empty field says nothing.
     Field(usize),
     /// Field 1 has a property, and only lines of this property count. The value is in field 2, or
-    /// is the property itself if field 2 is empty.
+    /// is the property itself if there is no field 2. If field 2 is empty, as in a mapping to
+    /// nothing, the value is `<empty>`.
     Property(&'a [u8]),
     /// In this field of `UnicodeData.txt`. Two lines can give one range: the name of the first one
     /// ends in `, First>`, and that of the second one in `, Last>`. An empty field says nothing.
     UnicodeData(usize),
     /// In column 2 of the lines of this property in a file of Unihan: `U+HEX`, the property and the
-    /// value, with tabs between them.
+    /// value, with tabs between them. Only a line that starts with `#` is a comment.
     Unihan(&'a [u8]),
     /// In field 2 of the lines of `CaseFolding.txt` that have the status `C` or `S` in field 1: the
     /// simple case folding.
@@ -37,6 +38,16 @@ pub enum Statement {
     Missing(Write<u32>),
     /// The value of the code points.
     Explicit(Write<u32>),
+}
+
+/// Returns the content of a line: what comes before `#`, without blanks around it. In a file of
+/// Unihan, `#` starts a comment only at the start of the line.
+pub(crate) fn content_in<'t>(columns: Columns<'_>, line: &'t [u8]) -> &'t [u8] {
+    match columns {
+        Columns::Unihan(_) if line.starts_with(b"#".as_slice()) => &[],
+        Columns::Unihan(_) => trimmed(line),
+        _ => content_of(line),
+    }
 }
 
 /// Returns field 2, or field 1 if field 2 is empty.
@@ -63,6 +74,20 @@ fn field_text(n: usize, content: &[u8]) -> Option<&[u8]> {
     }
 }
 
+/// Returns the value of the property in field 1: field 2, or the property itself if the line has no
+/// field 2, or `<empty>` if field 2 is empty.
+fn property_value(content: &[u8]) -> &[u8] {
+    if !has_field(2, content) {
+        return field(1, content);
+    }
+    let value = field(2, content);
+    if value.is_empty() {
+        b"<empty>".as_slice()
+    } else {
+        value
+    }
+}
+
 /// Returns whether a mapping with this status in `CaseFolding.txt` is one of the simple case
 /// folding: `C` (common) or `S` (simple).
 fn is_simple(status: &[u8]) -> bool {
@@ -76,7 +101,7 @@ pub(crate) fn value_text<'t>(columns: Columns<'_>, content: &'t [u8]) -> Option<
         Columns::Field(n) | Columns::UnicodeData(n) => field_text(n, content),
         Columns::Property(name) => {
             if is_same_name(field(1, content), name) {
-                Some(later_field(content))
+                Some(property_value(content))
             } else {
                 None
             }
@@ -135,12 +160,40 @@ fn checked_points(points: Option<CodePoints>) -> Result<CodePoints, LineFault> {
     Ok(points)
 }
 
+/// Returns whether two lines of `UnicodeData.txt` name one range, and have the same value in field
+/// `n`. Of the names in field 1 only what comes before the comma is the same. Fields 0 and 1, the
+/// code point and the name, differ.
+fn is_same_range(n: usize, previous: &[u8], content: &[u8]) -> bool {
+    let name = before(b',', field(1, content));
+    is_match(Matching::Exact, before(b',', field(1, previous)), name)
+        && (n <= 1 || is_match(Matching::Exact, field(n, previous), field(n, content)))
+}
+
 /// Returns whether a line of `UnicodeData.txt` gives the last code point of a range exactly if the
-/// line before it gives the first one. Lines of other files need no partner.
+/// line before it gives the first one of the same range. Lines of other files need no partner.
 pub(crate) fn is_paired(columns: Columns<'_>, previous: &[u8], content: &[u8]) -> bool {
     match columns {
-        Columns::UnicodeData(n) => ends_in_first(previous) == ends_in_last(content),
+        Columns::UnicodeData(n) if ends_in_last(content) => {
+            ends_in_first(previous) && is_same_range(n, content_of(previous), content)
+        }
+        Columns::UnicodeData(_) => !ends_in_first(previous),
         _ => true,
+    }
+}
+
+/// Returns whether a line with this content gives one of the two code points of a range, as lines
+/// of `UnicodeData.txt` do: it has one code point, and a name or a comment that ends in `, First>`
+/// or `, Last>`. In `UnicodeData.txt` and Unihan no line is one of these.
+fn is_split(columns: Columns<'_>, line: &[u8]) -> bool {
+    let content = content_of(line);
+    match (columns, code_points_of(field(0, content))) {
+        (Columns::UnicodeData(_) | Columns::Unihan(_), _) => false,
+        (_, Some(CodePoints::Single(_))) => {
+            marks_range(field(1, content))
+                || marks_range(field(2, content))
+                || marks_range(trimmed(after(b'#', line)))
+        }
+        _ => false,
     }
 }
 
@@ -251,7 +304,7 @@ pub fn statement_of(
     previous: &[u8],
     line: &[u8],
 ) -> Result<Option<Statement>, LineFault> {
-    let content = content_of(line);
+    let content = content_in(columns, line);
     if !is_paired(columns, previous, content) {
         return Err(LineFault::Unpaired);
     }
@@ -260,6 +313,9 @@ pub fn statement_of(
     }
     if content.is_empty() {
         return Ok(None);
+    }
+    if is_split(columns, line) {
+        return Err(LineFault::SplitRange);
     }
     explicit_statement(columns, numbering, previous, content)
 }

@@ -6,7 +6,7 @@ use crate::support::prelude::*;
 use crate::ucptab_table::input::line_at;
 use crate::ucptab_table::message::line_message;
 use crate::ucptrie::fault::{Fault, about, about_arguments, said};
-use crate::ucptrie::streams::{input_name, text_at};
+use crate::ucptrie::streams::{input_name, text_at, without_mark};
 use crate::ucptrie_tables::asked::{AskedFault, push_asked, push_asked_lines};
 use clap::ArgMatches;
 
@@ -21,11 +21,12 @@ fn unasked(name: &str, text: &[u8], number: u64) -> Fault {
 
 /// Appends the numbers that the lines of a file ask for.
 fn push_file(rt: &HostRuntime, asked: &mut Vec<u32>, path: &str) -> Result<(), Fault> {
-    let text = text_at(rt, path)?;
-    match push_asked_lines(asked, &text) {
+    let bytes = text_at(rt, path)?;
+    let text = without_mark(&bytes);
+    match push_asked_lines(asked, text) {
         Ok(()) => Ok(()),
         Err(AskedFault::Memory) => Err(Fault::Memory),
-        Err(AskedFault::Line(number)) => Err(unasked(input_name(path), &text, number)),
+        Err(AskedFault::Line(number)) => Err(unasked(input_name(path), text, number)),
     }
 }
 

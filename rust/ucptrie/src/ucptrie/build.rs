@@ -1,17 +1,22 @@
 //! The command `build`: a table of rows, or of a file of the Unicode Character Database.
 #[allow(unused_imports)]
 use crate::host::{HostRuntime, Text};
+use crate::support::AllocError;
 #[allow(unused_imports)]
 use crate::support::prelude::*;
 use crate::ucd_files::kind::{FileKind, kind_of};
-use crate::ucptab_table::fault::TableError;
+use crate::ucptab_table::fault::{RowFault, TableError};
+use crate::ucptab_table::input::line_at;
 use crate::ucptab_table::message::row_message;
+use crate::ucptab_table::rows::{after, before, code_points_of, content_of, trimmed};
 use crate::ucptrie::compressed::expect_lines;
 use crate::ucptrie::fault::{Fault, about, said};
 use crate::ucptrie::forms::is_made;
-use crate::ucptrie::static_trie::with_static;
+use crate::ucptrie::names::expect_names;
 use crate::ucptrie::tables::{form, number, trie_type, width};
-use crate::ucptrie::unicode_files::{build_file, column_option, named_kind, not_of_rows};
+use crate::ucptrie::unicode_files::{
+    build_file, column_option, named_kind, not_of_rows, with_names,
+};
 use crate::ucptrie::wide::{row_with, too_wide};
 use crate::ucptrie_tables::built;
 use crate::ucptrie_tables::fault::BuildFault;
@@ -42,6 +47,26 @@ fn options_of_rows(matches: &ArgMatches, rows: &[u8]) -> TableOptions {
     }
 }
 
+/// Returns whether a line would be a row if its value were a number, and not a name.
+fn has_name(line: &[u8]) -> bool {
+    let content = content_of(line);
+    match trimmed(after(b';', content)) {
+        [first, ..] if first.is_ascii_alphabetic() => {
+            code_points_of(trimmed(before(b';', content))).is_some()
+        }
+        _ => false,
+    }
+}
+
+/// Returns the line about the fault of a row.
+fn row_line(name: &str, rows: &[u8], number: u64, fault: RowFault) -> Result<String, AllocError> {
+    let mut line = row_message(name, rows, number, fault)?;
+    if matches!(fault, RowFault::NotARow) && has_name(line_at(rows, number).unwrap_or(&[])) {
+        line.try_push_str("; for names give --format properties")?;
+    }
+    Ok(line)
+}
+
 /// Returns the fault of rows that make no table, or of a table that is not written. `name` is what
 /// they were read from.
 pub fn unbuilt(name: &str, rows: &[u8], fault: BuildFault) -> Fault {
@@ -52,7 +77,7 @@ pub fn unbuilt(name: &str, rows: &[u8], fault: BuildFault) -> Fault {
             about(name, why)
         }
         BuildFault::Table(TableError::Row(number, fault)) => {
-            said(row_message(name, rows, number, fault))
+            said(row_line(name, rows, number, fault))
         }
         _ => about(name, fault),
     }
@@ -61,8 +86,9 @@ pub fn unbuilt(name: &str, rows: &[u8], fault: BuildFault) -> Fault {
 /// Builds a table of rows, in the form that the arguments name. `name` is what they were read from.
 fn build_rows(matches: &ArgMatches, name: &str, rows: &[u8]) -> Result<Vec<u8>, Fault> {
     let options = options_of_rows(matches, rows);
-    match built(rows, options, form(matches)) {
-        Ok(bytes) => Ok(with_static(matches, bytes, options.width, &[])?),
+    let form = form(matches);
+    match built(rows, options, form) {
+        Ok(bytes) => Ok(with_names(matches, bytes, form, options.width, &[])?),
         Err(BuildFault::Width(value, width)) => {
             let place = row_with(rows, value);
             Err(too_wide(matches, name, place, value, width))
@@ -118,6 +144,10 @@ pub fn build(
             let why = "expected lines: ucptrie convert reads tables, and ucptrie set reads sets";
             Err(about(name, why))
         }
-        built => built,
+        Ok(bytes) => {
+            expect_names(matches, name, &bytes)?;
+            Ok(bytes)
+        }
+        Err(fault) => Err(fault),
     }
 }

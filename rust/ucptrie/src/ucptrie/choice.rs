@@ -6,6 +6,7 @@ use crate::support::prelude::*;
 use crate::ucd_files::choice::{Choice, NumberingKind, alias_choice, numbering_of, own_choice};
 use crate::ucd_files::names::Numbering;
 use crate::ucd_files::statement::Columns;
+use crate::ucptrie::aliases::{Aliases, name_in_values, unknown_property};
 use crate::ucptrie::fault::{Fault, about};
 use clap::ArgMatches;
 
@@ -17,8 +18,8 @@ pub struct UnicodeFile<'f> {
     pub bytes: &'f [u8],
     /// Where its lines have their values.
     pub columns: Columns<'f>,
-    /// The bytes of the file of aliases, or none if the arguments name no such file.
-    pub aliases: Vec<u8>,
+    /// The files of aliases that the arguments name.
+    pub aliases: Aliases,
 }
 
 /// Returns the names of the property's values in the file of aliases, and what they are.
@@ -30,10 +31,11 @@ fn choice_of_aliases<'f>(
         let why = "--aliases needs --property, the property whose values are named";
         return Err(about("arguments", why));
     };
-    let choice = alias_choice(&file.aliases, property.as_bytes(), file.columns)?;
+    let aliases = &file.aliases;
+    let name = name_in_values(aliases, property.as_bytes());
+    let choice = alias_choice(&aliases.values, name, file.columns)?;
     if choice.names.as_slice().is_empty() {
-        let why = "the file of aliases has no value of this property";
-        return Err(about(property, why));
+        return Err(unknown_property(aliases, property));
     }
     Ok(choice)
 }
@@ -41,11 +43,7 @@ fn choice_of_aliases<'f>(
 /// Returns the names of the values of a file, and what they are: those in the file of aliases, if
 /// the arguments name one, and else those in the file itself.
 pub fn choice_of<'f>(matches: &ArgMatches, file: &'f UnicodeFile<'f>) -> Result<Choice<'f>, Fault> {
-    if matches
-        .get_one::<String>("aliases")
-        .map(String::as_str)
-        .is_none()
-    {
+    if file.aliases.values.is_empty() {
         return Ok(own_choice(file.bytes, file.columns)?);
     }
     choice_of_aliases(matches, file)

@@ -4,27 +4,28 @@ use crate::bzip2_reader::error::Bzip2Error;
 use crate::bzip2_reader::stream::{decompressed, is_bzip2};
 #[allow(unused_imports)]
 use crate::host::{HostRuntime, Text};
+use crate::support::AllocError;
 #[allow(unused_imports)]
 use crate::support::prelude::*;
-use crate::ucptrie::fault::{Fault, about};
+use crate::ucptrie::fault::{Fault, about, said};
 
 /// The first bytes of files that are not text, and the message about each.
 static OTHERS: [(&[u8], &str); 6] = [
     (
         b"\x1f\x8b",
-        "found a gzip file: decompress it first, as in `gunzip -c FILE | ucptrie build -`",
+        "found a gzip file: decompress it first, as in `gunzip -c FILE | ucptrie COMMAND -`",
     ),
     (
         b"PK\x03\x04",
-        "found a zip file: decompress it first, as in `unzip -p FILE | ucptrie build -`",
+        "found a zip file: decompress it first, as in `unzip -p FILE | ucptrie COMMAND -`",
     ),
     (
         b"\xfd7zXZ",
-        "found an xz file: decompress it first, as in `xz -dc FILE | ucptrie build -`",
+        "found an xz file: decompress it first, as in `xz -dc FILE | ucptrie COMMAND -`",
     ),
     (
         b"\x28\xb5\x2f\xfd",
-        "found a zstd file: decompress it first, as in `zstd -dc FILE | ucptrie build -`",
+        "found a zstd file: decompress it first, as in `zstd -dc FILE | ucptrie COMMAND -`",
     ),
     (b"\xfe\xff", "found UTF-16: convert it to UTF-8"),
     (b"\xff\xfe", "found UTF-16: convert it to UTF-8"),
@@ -65,10 +66,39 @@ pub fn expect_line_feeds(name: &str, text: &[u8]) -> Result<(), Fault> {
     Ok(())
 }
 
-/// Returns a fault if bytes that are to be lines start as in another format, or if the lines end in
-/// CR alone, but for an LF at the end of all. `name` is what they were read from.
+/// Returns the number of the first line with a CR that no LF follows, counted from 1: a CR would
+/// hide what comes after it, as in a comment.
+fn line_with_cr(text: &[u8]) -> Option<u64> {
+    let mut number = 1u64;
+    let mut rest = text;
+    while let [byte, after @ ..] = rest {
+        if *byte == b'\r' && !after.starts_with(b"\n".as_slice()) {
+            return Some(number);
+        }
+        if *byte == b'\n' {
+            number = number.saturating_add(1);
+        }
+        rest = after;
+    }
+    None
+}
+
+/// Returns the line about a CR in a line of an input.
+fn cr_line(name: &str, number: u64) -> Result<String, AllocError> {
+    let mut line = String::new();
+    write!(
+        line,
+        "{name}:{number}: a CR has no LF after it: lines end with LF or CR LF"
+    )?;
+    Ok(line)
+}
+
+/// Returns a fault if bytes that are to be lines start as in another format, or if a CR has no LF
+/// after it. `name` is what they were read from.
 pub fn expect_lines(name: &str, bytes: &[u8]) -> Result<(), Fault> {
     expect_text(name, bytes)?;
-    let text = bytes.strip_suffix(b"\n".as_slice()).unwrap_or(bytes);
-    expect_line_feeds(name, text)
+    match line_with_cr(bytes) {
+        Some(number) => Err(said(cr_line(name, number))),
+        None => Ok(()),
+    }
 }

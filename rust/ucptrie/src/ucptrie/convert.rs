@@ -5,6 +5,7 @@ use crate::host::{HostRuntime, Text};
 use crate::support::prelude::*;
 use crate::ucptrie::build::unbuilt;
 use crate::ucptrie::fault::{Fault, about};
+use crate::ucptrie::names::{expect_names, is_list, say_many};
 use crate::ucptrie::offsets::start_of;
 use crate::ucptrie::tables::{file_in, form, number, table_of_property, trie_type, width};
 use crate::ucptrie::unicode_files::with_names;
@@ -55,9 +56,10 @@ fn converted(name: &str, table: &Table, form: Form<'_>) -> Result<Vec<u8>, Fault
     }
 }
 
-/// Returns a table in a form, followed by the source of the names that its file has for its values,
-/// if the form is source. `name` is what the file was read from.
+/// Returns a table in a form, followed by the source of the names that its file has for its values
+/// if the form is source, or only the list of these names. `name` is what the file was read from.
 fn with_names_of_file(
+    rt: &HostRuntime,
     matches: &ArgMatches,
     name: &str,
     file: &ParsedFile<'_>,
@@ -65,25 +67,38 @@ fn with_names_of_file(
     width: ValueWidth,
 ) -> Result<Vec<u8>, Fault> {
     let form = form(matches);
-    if !matches!(form, Form::C(_) | Form::Rust(_)) {
+    if !matches!(form, Form::C(_) | Form::Rust(_)) && !is_list(matches) {
         return Ok(with_names(matches, bytes, form, width, &[])?);
     }
-    match property_names(
+    let names = match property_names(
         file,
         matches.get_one::<String>("property").map(String::as_str),
     ) {
-        Ok(names) => Ok(with_names(matches, bytes, form, width, names.as_slice())?),
-        Err(NamesFault::Memory) => Err(Fault::Memory),
-        Err(fault) => Err(about(name, fault)),
-    }
+        Ok(names) => names,
+        Err(NamesFault::Memory) => return Err(Fault::Memory),
+        Err(fault) => return Err(about(name, fault)),
+    };
+    say_many(rt, matches, name, names.as_slice())?;
+    Ok(with_names(matches, bytes, form, width, names.as_slice())?)
 }
 
 /// Returns the table of a file in the form that the arguments name. `name` is what the file was
 /// read from.
-pub fn convert(matches: &ArgMatches, name: &str, bytes: &[u8]) -> Result<Vec<u8>, Fault> {
+pub fn convert(
+    rt: &HostRuntime,
+    matches: &ArgMatches,
+    name: &str,
+    bytes: &[u8],
+) -> Result<Vec<u8>, Fault> {
     let file = file_in(name, bytes, start_of(matches))?;
     let table = table_of_property(matches, name, &file)?;
     let table = changed(matches, name, table)?;
-    let bytes = converted(name, &table, form(matches))?;
-    with_names_of_file(matches, name, &file, bytes, table.width)
+    let bytes = if is_list(matches) {
+        Vec::new()
+    } else {
+        converted(name, &table, form(matches))?
+    };
+    let whole = with_names_of_file(rt, matches, name, &file, bytes, table.width)?;
+    expect_names(matches, name, &whole)?;
+    Ok(whole)
 }

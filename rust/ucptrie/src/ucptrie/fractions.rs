@@ -1,11 +1,16 @@
-//! Values that are numbers, but no whole ones: a table has them as names.
+//! What is said of values that can be read in two ways, or not as they are written: numbers that
+//! are no whole ones, and words of hexadecimal digits.
 #[allow(unused_imports)]
 use crate::host::{HostRuntime, Text};
 use crate::support::AllocError;
 #[allow(unused_imports)]
 use crate::support::prelude::*;
-use crate::ucd_files::choice::{Choice, ValueKind};
+use crate::ucd_files::choice::{Choice, ValueKind, is_pair_file};
+use crate::ucd_files::kind::{are_code_points, are_digits};
 use crate::ucd_files::names::{Name, Numbering, short_decimal};
+use crate::ucd_files::order::text_of_line;
+use crate::ucd_files::statement::Columns;
+use crate::ucptab_table::input::first_line;
 use crate::ucptrie::choice::{UnicodeFile, numbering};
 use crate::ucptrie::properties::push_text;
 use crate::ucptrie::streams::say;
@@ -64,6 +69,78 @@ pub fn say_fractions(
     }
     if let Some(text) = first_fraction(choice.names.as_slice()) {
         say(rt, &fraction_line(file.name, text)?);
+    }
+    Ok(())
+}
+
+/// Returns whether a text has letters alone.
+fn are_letters(text: &[u8]) -> bool {
+    text.iter().all(|byte| byte.is_ascii_alphabetic())
+}
+
+/// Returns the first value of a file if its values can be read in two ways: all are code points of
+/// 4 to 6 hexadecimal digits, and all have decimal digits alone, or all have letters alone.
+fn ambiguous<'f>(file: &UnicodeFile<'f>) -> Option<&'f [u8]> {
+    if !are_code_points(file.bytes, file.columns) || is_pair_file(file.bytes, file.columns) {
+        return None;
+    }
+    let mut found: Option<&'f [u8]> = None;
+    let mut rest = file.bytes;
+    while let Some((line, after)) = first_line(rest) {
+        rest = after;
+        if let Some(text) = text_of_line(file.columns, line) {
+            let first = found.unwrap_or(text);
+            let is_alike = if are_digits(first) {
+                are_digits(text)
+            } else {
+                are_letters(text)
+            };
+            if !is_alike {
+                return None;
+            }
+            found = Some(first);
+        }
+    }
+    found
+}
+
+/// Returns the line about values that are read in one of two ways.
+fn reading_line(name: &str, text: &[u8], is_hexadecimal: bool) -> Result<String, AllocError> {
+    let mut line = String::new();
+    write!(line, "{name}: the values, as ")?;
+    push_text(&mut line, text)?;
+    line.try_push_str(match (is_hexadecimal, are_digits(text)) {
+        (true, true) => ", are read as code points: --values decimal reads decimal numbers",
+        (true, false) => ", are read as code points: --values names reads names",
+        (false, _) => ", are read as decimal numbers: --values hexadecimal reads code points",
+    })?;
+    Ok(line)
+}
+
+/// Says on standard error how the values of a file are read, if they can be decimal numbers or
+/// names as well as code points, and the arguments do not say it. Simple case mappings are code
+/// points.
+pub fn say_reading(
+    rt: &HostRuntime,
+    matches: &ArgMatches,
+    file: &UnicodeFile<'_>,
+    choice: &Choice<'_>,
+) -> Result<(), AllocError> {
+    let is_mapping = matches!(
+        file.columns,
+        Columns::SimpleFolding | Columns::UnicodeData(12..=14)
+    );
+    let is_asked = matches
+        .get_one::<String>("values")
+        .map(String::as_str)
+        .is_some()
+        || !matches!(choice.kind, ValueKind::Own);
+    if is_asked || is_mapping {
+        return Ok(());
+    }
+    if let Some(text) = ambiguous(file) {
+        let is_hexadecimal = matches!(numbering(matches, file, choice), Numbering::Hexadecimal);
+        say(rt, &reading_line(file.name, text, is_hexadecimal)?);
     }
     Ok(())
 }

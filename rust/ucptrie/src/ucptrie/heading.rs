@@ -1,4 +1,5 @@
 //! The first lines of source: the command that makes it, and what its input says of itself.
+use crate::formats::ValueParser;
 #[allow(unused_imports)]
 use crate::host::{HostRuntime, Text};
 use crate::support::AllocError;
@@ -6,17 +7,9 @@ use crate::support::AllocError;
 use crate::support::prelude::*;
 use crate::ucd_files::title::{note_of, title_of};
 use crate::ucptab_table::input::first_line;
+use crate::ucptrie::tables::number;
+use crate::ucptrie::words::{Argument, arguments_of};
 use clap::ArgMatches;
-
-/// Returns how many words, from this one on, only name the output.
-fn words_of_target(word: &str) -> usize {
-    match word {
-        "-o" | "--output" | "--check" => 2,
-        _ if word.starts_with("--output=") || word.starts_with("--check=") => 1,
-        _ if word.starts_with("-o") => 1,
-        _ => 0,
-    }
-}
 
 /// Returns whether a shell reads the word as it is.
 fn is_bare(word: &str) -> bool {
@@ -55,21 +48,83 @@ fn push_word(text: &mut String, word: &str) -> Result<(), AllocError> {
     text.try_push('\'')
 }
 
-/// Appends the line with the command, without the words that name the output: so
-/// `--check` expects what `--output` wrote.
-fn push_command(text: &mut String, words: &[String]) -> Result<(), AllocError> {
-    text.try_push_str("// ucptrie")?;
-    let mut left_out = 0;
-    for word in words.get(1..).unwrap_or(&[]) {
-        if left_out == 0 {
-            left_out = words_of_target(word);
-        }
-        if left_out == 0 {
+/// Returns the name of a file without its folders. `-` is standard input.
+fn base_name(path: &str) -> &str {
+    path.rsplit(['/', '\\']).next().unwrap_or(path)
+}
+
+/// Appends an option of the command with its value.
+fn push_option(text: &mut String, id: &str, value: &str) -> Result<(), AllocError> {
+    text.try_push_str(" --")?;
+    text.try_push_str(id)?;
+    text.try_push(' ')?;
+    push_word(text, value)
+}
+
+/// Appends the options that name the files of aliases, without their folders.
+fn push_aliases(text: &mut String, matches: &ArgMatches) -> Result<(), AllocError> {
+    for path in matches.get_many::<String>("aliases").into_iter().flatten() {
+        push_option(text, "aliases", base_name(path))?;
+    }
+    Ok(())
+}
+
+/// Appends an option with a number, if it is given.
+fn push_number(text: &mut String, matches: &ArgMatches, id: &str) -> Result<(), AllocError> {
+    match number(matches, id) {
+        Some(number) => write!(text, " --{id} {number}"),
+        None => Ok(()),
+    }
+}
+
+/// Appends an option, if it is given and its value is not the default.
+fn push_text(
+    text: &mut String,
+    matches: &ArgMatches,
+    id: &str,
+    default: &[&str],
+) -> Result<(), AllocError> {
+    match matches.get_one::<String>(id).map(String::as_str) {
+        Some(value) if !default.contains(&value) => push_option(text, id, value),
+        _ => Ok(()),
+    }
+}
+
+/// Appends an argument of the command, unless it only says where the output goes.
+fn push_argument(
+    text: &mut String,
+    matches: &ArgMatches,
+    argument: &Argument,
+) -> Result<(), AllocError> {
+    match (argument.id, argument.values) {
+        ("output" | "check", _) => Ok(()),
+        ("file", _) => {
             text.try_push(' ')?;
-            push_word(text, word)?;
-        } else {
-            left_out -= 1;
+            push_word(
+                text,
+                base_name(
+                    matches
+                        .get_one::<String>("file")
+                        .map(String::as_str)
+                        .unwrap_or("-"),
+                ),
+            )
         }
+        ("aliases", _) => push_aliases(text, matches),
+        (id, ValueParser::Signed(_, _)) => push_number(text, matches, id),
+        (id, _) => push_text(text, matches, id, argument.default),
+    }
+}
+
+/// Appends the line with the command. It depends on what the command makes, and not on how it was
+/// typed: it has the input's name without folders, then the options in the order of the help, each
+/// as `--NAME VALUE`, without defaults and without those that name the output. So `--check` expects
+/// what `--output` wrote, in whichever folder.
+fn push_command(text: &mut String, command: &str, matches: &ArgMatches) -> Result<(), AllocError> {
+    text.try_push_str("// ucptrie ")?;
+    text.try_push_str(command)?;
+    for argument in arguments_of(command) {
+        push_argument(text, matches, argument)?;
     }
     text.try_push('\n')
 }
@@ -104,7 +159,7 @@ fn push_origin(text: &mut String, path: &str, input: &[u8]) -> Result<(), AllocE
     let name = match title_of(input) {
         Some(title) => title,
         None if path == "-" => return Ok(()),
-        None => path.as_bytes(),
+        None => base_name(path).as_bytes(),
     };
     push_note(text, "// From ", name)?;
     push_notes(text, input)?;
@@ -120,19 +175,23 @@ fn is_source(matches: &ArgMatches) -> bool {
     )
 }
 
-/// Returns the first lines of source. `words` are the command, and `path` is what its input was
-/// read from.
-fn heading(words: &[String], path: &str, input: &[u8]) -> Result<String, AllocError> {
+/// Returns the first lines of source that a command makes. `path` is what its input was read from.
+fn heading(
+    command: &str,
+    matches: &ArgMatches,
+    path: &str,
+    input: &[u8],
+) -> Result<String, AllocError> {
     let mut text = String::new();
-    push_command(&mut text, words)?;
+    push_command(&mut text, command, matches)?;
     push_origin(&mut text, path, input)?;
     Ok(text)
 }
 
 /// Returns what a command writes, with the first lines before it if it is source.
 pub fn with_heading(
+    command: &str,
     matches: &ArgMatches,
-    words: &[String],
     path: &str,
     input: &[u8],
     bytes: Vec<u8>,
@@ -140,7 +199,7 @@ pub fn with_heading(
     if !is_source(matches) {
         return Ok(bytes);
     }
-    let mut whole = heading(words, path, input)?.into_bytes();
+    let mut whole = heading(command, matches, path, input)?.into_bytes();
     whole.try_extend_from_slice(&bytes)?;
     Ok(whole)
 }

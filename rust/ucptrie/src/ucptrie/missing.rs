@@ -5,11 +5,19 @@ use crate::support::AllocError;
 #[allow(unused_imports)]
 use crate::support::prelude::*;
 use crate::ucd_files::choice::{Choice, ValueKind};
+use crate::ucd_files::fields::{field, missing_of};
+use crate::ucd_files::kind::are_digits;
 use crate::ucd_files::missing_values::{MissingValue, missing_value, only_missing, only_name};
 use crate::ucd_files::names::Numbering;
+use crate::ucd_files::order::text_of_line;
+use crate::ucd_files::title::title_of;
+use crate::ucptab_table::input::first_line;
+use crate::ucptab_table::rows::{after, code_points_of, content_of, trimmed};
+use crate::ucptrie::aliases::name_in_values;
 use crate::ucptrie::choice::UnicodeFile;
 use crate::ucptrie::fault::{Fault, about, said};
 use crate::ucptrie::properties::push_text;
+use crate::ucptrie::streams::say;
 use crate::ucptrie::unicode_files::unread;
 use crate::ucptrie_tables::fault::UnicodeFileFault;
 use clap::ArgMatches;
@@ -19,8 +27,8 @@ fn only_missing_line(name: &str, value: &[u8]) -> Result<String, AllocError> {
     let mut line = String::new();
     write!(line, "{name}: the value ")?;
     push_text(&mut line, value)?;
-    line.try_push_str(" is only in an @missing line: give --aliases PropertyValueAliases.txt, ")?;
-    line.try_push_str("which has all names of each value")?;
+    line.try_push_str(" is only in an @missing line: give --property and --aliases ")?;
+    line.try_push_str("PropertyValueAliases.txt, which has all names of each value")?;
     Ok(line)
 }
 
@@ -60,15 +68,141 @@ pub fn default_of(
     other: u32,
     how: &str,
 ) -> Result<u32, Fault> {
+    let aliases = &file.aliases;
     let property = matches
         .get_one::<String>("property")
         .map(String::as_str)
         .unwrap_or("")
         .as_bytes();
-    match missing_value(file.bytes, file.columns, numbering, &file.aliases, property) {
+    match missing_value(
+        file.bytes,
+        file.columns,
+        numbering,
+        &aliases.values,
+        name_in_values(aliases, property),
+    ) {
         Ok(MissingValue::Numbers | MissingValue::InLines) => Ok(other),
         Ok(MissingValue::Number(number)) => Ok(number),
         Ok(MissingValue::Unsaid) => Err(about(file.name, how)),
-        Err(fault) => Err(unread(file.name, file.bytes, UnicodeFileFault::File(fault))),
+        Err(fault) => Err(unread(
+            file.name,
+            file.bytes,
+            numbering,
+            UnicodeFileFault::File(fault),
+        )),
     }
+}
+
+/// Returns whether a line is a comment that says the value of code points in nearly the form of an
+/// `@missing` line, which starts with `# @missing: `.
+fn is_nearly_missing(line: &[u8]) -> bool {
+    if missing_of(line).is_some() || !trimmed(line).starts_with(b"#".as_slice()) {
+        return false;
+    }
+    match trimmed(after(b'#', line)).strip_prefix(b"@missing:".as_slice()) {
+        Some(content) => code_points_of(field(0, content_of(content))).is_some(),
+        None => false,
+    }
+}
+
+/// Returns the number of the first line of a file that is nearly an `@missing` line, counted from
+/// 1.
+fn nearly_missing(file: &[u8]) -> Option<u64> {
+    let mut number = 0u64;
+    let mut rest = file;
+    while let Some((line, after)) = first_line(rest) {
+        rest = after;
+        number = number.saturating_add(1);
+        if is_nearly_missing(line) {
+            return Some(number);
+        }
+    }
+    None
+}
+
+/// Returns whether a line that is no `@missing` line has this value.
+fn has_value(file: &UnicodeFile<'_>, value: &[u8]) -> bool {
+    let mut rest = file.bytes;
+    while let Some((line, after)) = first_line(rest) {
+        rest = after;
+        if missing_of(line).is_none() && text_of_line(file.columns, line) == Some(value) {
+            return true;
+        }
+    }
+    false
+}
+
+/// Returns the value of the first `@missing` line of the property.
+fn first_missing<'f>(file: &UnicodeFile<'f>) -> Option<&'f [u8]> {
+    let mut rest = file.bytes;
+    while let Some((line, after)) = first_line(rest) {
+        rest = after;
+        if missing_of(line).is_some() {
+            if let Some(value) = text_of_line(file.columns, line) {
+                return Some(value);
+            }
+        }
+    }
+    None
+}
+
+/// Returns the name in the `@missing` line of a file `Derived*.txt` if no other line has it, unless
+/// the file is rejected because of it. These files have long names in `@missing` lines and short
+/// ones elsewhere.
+fn unused_missing<'f>(file: &UnicodeFile<'f>) -> Result<Option<&'f [u8]>, AllocError> {
+    if !title_of(file.bytes).is_some_and(|title| title.starts_with(b"Derived".as_slice())) {
+        return Ok(None);
+    }
+    let is_rejected = only_missing(file.bytes, file.columns)?.is_some()
+        || only_name(file.bytes, file.columns)?.is_some();
+    if is_rejected {
+        return Ok(None);
+    }
+    match first_missing(file) {
+        Some(value) if !are_digits(value) && !has_value(file, value) => Ok(Some(value)),
+        _ => Ok(None),
+    }
+}
+
+/// Returns the line about a value of an `@missing` line that may be another name of a value.
+fn unused_line(name: &str, value: &[u8]) -> Result<String, AllocError> {
+    let mut line = String::new();
+    write!(line, "{name}: the value ")?;
+    push_text(&mut line, value)?;
+    line.try_push_str(" is only in an @missing line, and may be the long name of another one: ")?;
+    line.try_push_str("--aliases PropertyValueAliases.txt has all names")?;
+    Ok(line)
+}
+
+/// Says on standard error which line is nearly an `@missing` line, and which value of one may be a
+/// second name, if the arguments name no file of aliases.
+pub fn say_missing(
+    rt: &HostRuntime,
+    matches: &ArgMatches,
+    file: &UnicodeFile<'_>,
+) -> Result<(), AllocError> {
+    if let Some(number) = nearly_missing(file.bytes) {
+        let mut line = String::new();
+        let name = file.name;
+        write!(
+            line,
+            "{name}:{number}: a comment, since it does not start with `# @missing: `"
+        )?;
+        say(rt, &line);
+    }
+    let is_asked = matches
+        .get_one::<String>("aliases")
+        .map(String::as_str)
+        .is_some()
+        || matches
+            .get_one::<String>("values")
+            .map(String::as_str)
+            .is_some();
+    if is_asked {
+        return Ok(());
+    }
+    if let Some(value) = unused_missing(file)? {
+        say(rt, &unused_line(file.name, value)?);
+    }
+    Ok(())
 }

@@ -5,6 +5,7 @@
 use crate::host::{HostRuntime, Text};
 #[allow(unused_imports)]
 use crate::support::prelude::*;
+mod aliases;
 mod asked;
 mod build;
 mod choice;
@@ -13,7 +14,9 @@ mod convert;
 mod fault;
 mod forms;
 mod fractions;
+mod groups;
 mod heading;
+mod line_faults;
 mod missing;
 mod names;
 mod offsets;
@@ -43,8 +46,8 @@ use crate::ucptrie::offsets::{Start, start_of};
 use crate::ucptrie::output::{deliver, target_of};
 use crate::ucptrie::progress::{report, started};
 use crate::ucptrie::sets::set;
-use crate::ucptrie::streams::{INPUT, bytes_at, input_name, put, say};
-use crate::ucptrie::tables::table_at;
+use crate::ucptrie::streams::{INPUT, bytes_at, input_name, put, say, without_mark};
+use crate::ucptrie::tables::{number, table_at};
 use crate::ucptrie::word_lists::word_list;
 use crate::ucptrie::words::program_words;
 use crate::ucptrie_tables::diff::differences_text;
@@ -53,11 +56,32 @@ use crate::ucptrie_tables::shown::{answered, shown};
 use crate::ucptrie_tables::table::Table;
 use clap::ArgMatches;
 
+/// Returns whether an input is standard input.
+fn is_input(path: &str) -> bool {
+    path == "-"
+}
+
+/// Returns the fault of two inputs that are standard input.
+fn read_twice() -> Fault {
+    about_arguments(INPUT, "can be read once, and two inputs are -")
+}
+
 /// Tests that not both of two inputs are standard input, all of which the first one reads.
 fn test_once(first: &str, second: Option<&str>) -> Result<(), Fault> {
-    if first == "-" && second == Some("-") {
-        let why = "can be read once, and two inputs are -";
-        return Err(about_arguments(INPUT, why));
+    match second {
+        Some(second) if is_input(first) && is_input(second) => Err(read_twice()),
+        _ => Ok(()),
+    }
+}
+
+/// Tests that not two of an input and the files of aliases are standard input.
+fn test_inputs(matches: &ArgMatches, path: &str) -> Result<(), Fault> {
+    let mut is_read = is_input(path);
+    for name in matches.get_many::<String>("aliases").into_iter().flatten() {
+        if is_read && is_input(name) {
+            return Err(read_twice());
+        }
+        is_read = is_read || is_input(name);
     }
     Ok(())
 }
@@ -76,18 +100,34 @@ fn made(
         "build" => build(rt, matches, name, file),
         "set" => set(rt, matches, name, file),
         "words" => word_list(matches, name, file),
-        _ => convert(matches, name, file),
+        _ => convert(rt, matches, name, file),
     }
 }
 
-/// Sends what a command makes of a file, or of standard input, to its target. `words` are the
-/// command.
-fn make(
-    rt: &HostRuntime,
-    words: &[String],
-    command: &str,
-    matches: &ArgMatches,
-) -> Result<(), Fault> {
+/// Returns whether the input of a command may be binary and start with any bytes: the arguments say
+/// that it is a serialized set or units, or give the offset of its trie.
+fn may_be_binary(command: &str, matches: &ArgMatches) -> bool {
+    match (
+        command,
+        matches.get_one::<String>("format").map(String::as_str),
+    ) {
+        ("set", Some("serialized")) | ("words", Some("icu")) => true,
+        ("set" | "convert", _) => number(matches, "offset").is_some(),
+        _ => false,
+    }
+}
+
+/// Returns the input of a command, in a text without a byte order mark at its start.
+fn input_of<'f>(command: &str, matches: &ArgMatches, file: &'f [u8]) -> &'f [u8] {
+    if may_be_binary(command, matches) {
+        file
+    } else {
+        without_mark(file)
+    }
+}
+
+/// Sends what a command makes of a file, or of standard input, to its target.
+fn make(rt: &HostRuntime, command: &str, matches: &ArgMatches) -> Result<(), Fault> {
     let start = started(rt);
     let target = target_of(matches)?;
     test_name(matches)?;
@@ -95,15 +135,13 @@ fn make(
         .get_one::<String>("file")
         .map(String::as_str)
         .unwrap_or("-");
-    test_once(
-        path,
-        matches.get_one::<String>("aliases").map(String::as_str),
-    )?;
+    test_inputs(matches, path)?;
     let file = bytes_at(rt, path)?;
     report(rt, start, "read", file.len());
-    let bytes = made(rt, command, matches, input_name(path), &file)?;
+    let input = input_of(command, matches, &file);
+    let bytes = made(rt, command, matches, input_name(path), input)?;
     report(rt, start, "made", bytes.len());
-    let whole = with_heading(matches, words, path, &file, bytes)?;
+    let whole = with_heading(command, matches, path, input, bytes)?;
     let is_binary = matches.get_one::<String>("as").map(String::as_str) == Some("icu");
     deliver(rt, target, &whole, is_binary)
 }
@@ -174,9 +212,9 @@ fn diff(rt: &HostRuntime, matches: &ArgMatches) -> Result<u8, Fault> {
 }
 
 /// Does what a command asks for, and returns the status.
-fn run(rt: &HostRuntime, words: &[String], name: &str, matches: &ArgMatches) -> Result<u8, Fault> {
+fn run(rt: &HostRuntime, name: &str, matches: &ArgMatches) -> Result<u8, Fault> {
     match name {
-        "build" | "convert" | "set" | "words" => make(rt, words, name, matches)?,
+        "build" | "convert" | "set" | "words" => make(rt, name, matches)?,
         "show" => show(rt, matches)?,
         "get" | "explain" => get(rt, name, matches)?,
         _ => return diff(rt, matches),
@@ -217,11 +255,11 @@ fn given_words(rt: &HostRuntime) -> Result<Vec<String>, Fault> {
 }
 
 /// Does what the command asks for, and returns the status.
-fn status_of(rt: &HostRuntime, words: &[String], matches: &ArgMatches) -> u8 {
+fn status_of(rt: &HostRuntime, matches: &ArgMatches) -> u8 {
     let Some((name, matches)) = matches.subcommand() else {
         return 2;
     };
-    match run(rt, words, name, matches) {
+    match run(rt, name, matches) {
         Ok(status) => status,
         Err(fault) => failed(rt, &fault, name == "diff"),
     }
@@ -233,7 +271,7 @@ fn status(rt: &HostRuntime, words: &[String]) -> u8 {
         return failed(rt, &Fault::Memory, false);
     };
     match command.try_get_matches_from(words) {
-        Ok(matches) => status_of(rt, words, &matches),
+        Ok(matches) => status_of(rt, &matches),
         Err(error) => not_taken(rt, &error),
     }
 }

@@ -1,10 +1,16 @@
-//! Names in source.
+//! Names in source, and lists of the names of values.
 #[allow(unused_imports)]
 use crate::host::{HostRuntime, Text};
+use crate::support::AllocError;
 #[allow(unused_imports)]
 use crate::support::prelude::*;
+use crate::ucd_files::choice::{Choice, ValueKind};
+use crate::ucd_files::names::{Name, Numbering};
+use crate::ucptrie::choice::{UnicodeFile, numbering};
 use crate::ucptrie::fault::{Fault, about};
+use crate::ucptrie::streams::say;
 use crate::ucptrie_tables::source::is_name;
+use crate::ucptrie_tables::value_names::MOST;
 use clap::ArgMatches;
 
 /// The words that cannot name a module in Rust: its keywords, including the reserved ones, and `_`.
@@ -57,4 +63,62 @@ pub fn test_name(matches: &ArgMatches) -> Result<(), Fault> {
         Some(why) => Err(about(name, why)),
         None => Ok(()),
     }
+}
+
+/// Returns whether the arguments ask for the list of the names of values.
+pub fn is_list(matches: &ArgMatches) -> bool {
+    matches.get_one::<String>("as").map(String::as_str) == Some("names")
+}
+
+/// Tests whether a list of names has any, if the arguments ask for one. `name` is what the values
+/// were read from.
+pub fn expect_names(matches: &ArgMatches, name: &str, bytes: &[u8]) -> Result<(), Fault> {
+    if is_list(matches) && bytes.is_empty() {
+        let why = "expected values with names for --as names, found only numbers";
+        return Err(about(name, why));
+    }
+    Ok(())
+}
+
+/// Returns the line about names of which source has no enum.
+fn many_line(name: &str, count: usize) -> Result<String, AllocError> {
+    let mut line = String::new();
+    write!(
+        line,
+        "{name}: {count} names of values, and an enum has at most {MOST}: "
+    )?;
+    line.try_push_str("the source has no names; --as names writes them")?;
+    Ok(line)
+}
+
+/// Says on standard error that source has no enum, if the arguments ask for source and the values
+/// have too many names. `name` is what they were read from.
+pub fn say_many(
+    rt: &HostRuntime,
+    matches: &ArgMatches,
+    name: &str,
+    names: &[Name<'_>],
+) -> Result<(), AllocError> {
+    let is_source = matches!(
+        matches.get_one::<String>("as").map(String::as_str),
+        Some("c" | "rust" | "rust-static")
+    );
+    if is_source && names.len() > MOST {
+        say(rt, &many_line(name, names.len())?);
+    }
+    Ok(())
+}
+
+/// Says on standard error that source has no enum of the values of a file, as [`say_many`] does.
+pub fn say_many_in(
+    rt: &HostRuntime,
+    matches: &ArgMatches,
+    file: &UnicodeFile<'_>,
+    choice: &Choice<'_>,
+) -> Result<(), AllocError> {
+    let is_binary = matches!(choice.kind, ValueKind::Binary);
+    if matches!(numbering(matches, file, choice), Numbering::Names(_, _)) && !is_binary {
+        return say_many(rt, matches, file.name, choice.names.as_slice());
+    }
+    Ok(())
 }

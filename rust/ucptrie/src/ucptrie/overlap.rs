@@ -4,35 +4,122 @@ use crate::host::{HostRuntime, Text};
 use crate::support::AllocError;
 #[allow(unused_imports)]
 use crate::support::prelude::*;
-use crate::ucd_files::fields::field;
+use crate::ucd_files::choice::{by_names, own_choice};
+use crate::ucd_files::fields::ends_in_first;
+use crate::ucd_files::names::Numbering;
+use crate::ucd_files::statement::{Columns, Statement, statement_of};
 use crate::ucptab_table::input::first_line;
-use crate::ucptab_table::rows::{CodePoints, code_points_of, content_of};
+use bekstaudi::codepointtrie::Write;
 
-/// Returns the code points of all lines that start with some, as ranges.
-fn ranges_of(file: &[u8]) -> Result<Vec<(u32, u32)>, AllocError> {
-    let mut ranges = Vec::new();
+/// Two lines that give a code point different values.
+#[derive(Clone, Copy)]
+pub struct Conflict {
+    /// The code point.
+    pub code_point: u32,
+    /// The number of the earlier line, counted from 1.
+    pub first: u64,
+    /// The number of the later line.
+    pub second: u64,
+}
+
+/// What a line says: the value of the code points from the first to the last one, both inclusive.
+#[derive(Clone, Copy)]
+struct LineValue {
+    first: u32,
+    last: u32,
+    value: u32,
+    /// The number of the line, counted from 1.
+    line: u64,
+}
+
+/// Returns what a write says in a line with this number.
+fn line_value(write: &Write<u32>, line: u64) -> LineValue {
+    let (first, last, value) = match write {
+        Write::One(code_point, value) => (*code_point, *code_point, *value),
+        Write::Range(range, value) => (*range.start(), *range.end(), *value),
+    };
+    LineValue {
+        first,
+        last,
+        value,
+        line,
+    }
+}
+
+/// Returns whether a line has the first code point of a range in two lines. The second one has all
+/// of the range.
+fn is_first_of_range(columns: Columns<'_>, line: &[u8]) -> bool {
+    matches!(columns, Columns::UnicodeData(_)) && ends_in_first(line)
+}
+
+/// Returns what the lines of a file say, apart from `@missing` lines. Stops at the first faulty
+/// line, which the builder of the table reports.
+fn line_values(
+    file: &[u8],
+    columns: Columns<'_>,
+    numbering: Numbering<'_>,
+) -> Result<Vec<LineValue>, AllocError> {
+    let mut all = Vec::new();
+    let mut number = 0u64;
+    let mut previous: &[u8] = &[];
     let mut rest = file;
     while let Some((line, after)) = first_line(rest) {
         rest = after;
-        match code_points_of(field(0, content_of(line))) {
-            Some(CodePoints::Single(code_point)) => ranges.try_push((code_point, code_point))?,
-            Some(CodePoints::Span(start, end)) => ranges.try_push((start, end))?,
-            None => {}
+        number = number.saturating_add(1);
+        match statement_of(columns, numbering, previous, line) {
+            Ok(Some(Statement::Explicit(write))) if !is_first_of_range(columns, line) => {
+                all.try_push(line_value(&write, number))?;
+            }
+            Ok(_) => {}
+            Err(_) => return Ok(all),
         }
+        previous = line;
     }
-    Ok(ranges)
+    Ok(all)
 }
 
-/// Returns the first code point that has two lines, or `None` if there is none.
-pub fn overlap(file: &[u8]) -> Result<Option<u32>, AllocError> {
-    let mut ranges = ranges_of(file)?;
-    ranges.sort_unstable();
-    let mut end = None;
-    for (start, last) in ranges {
-        match end {
-            Some(end) if start <= end => return Ok(Some(start)),
-            _ => end = Some(last),
+/// Returns the two lines if a code point of the second one has another value by the first one.
+fn conflict_of(before: LineValue, after: LineValue) -> Option<Conflict> {
+    if after.first > before.last || after.value == before.value {
+        return None;
+    }
+    Some(Conflict {
+        code_point: after.first,
+        first: before.line.min(after.line),
+        second: before.line.max(after.line),
+    })
+}
+
+/// Returns the first code point that has two different values, and their lines. In order of their
+/// first code points, each line is compared with the one before it that ends last. That is enough,
+/// since all lines before it that cover its first code point have the same value.
+pub fn find_conflict(
+    file: &[u8],
+    columns: Columns<'_>,
+    numbering: Numbering<'_>,
+) -> Result<Option<Conflict>, AllocError> {
+    let mut all = line_values(file, columns, numbering)?;
+    all.sort_unstable_by_key(|line| (line.first, line.line));
+    let mut longest: Option<LineValue> = None;
+    for line in all {
+        match longest {
+            Some(before) => {
+                if let Some(conflict) = conflict_of(before, line) {
+                    return Ok(Some(conflict));
+                }
+                if line.last > before.last {
+                    longest = Some(line);
+                }
+            }
+            None => longest = Some(line),
         }
     }
     Ok(None)
+}
+
+/// Returns the first code point that has two different texts in field 1, and their lines.
+pub fn conflict_of_texts(file: &[u8]) -> Result<Option<Conflict>, AllocError> {
+    let columns = Columns::Field(1);
+    let choice = own_choice(file, columns)?;
+    find_conflict(file, columns, by_names(&choice))
 }

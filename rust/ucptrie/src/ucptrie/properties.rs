@@ -1,16 +1,18 @@
-//! Files in which no line has the property that is asked for.
+//! Files in which no line has the property or the field that is asked for.
 #[allow(unused_imports)]
 use crate::host::{HostRuntime, Text};
 use crate::support::AllocError;
 #[allow(unused_imports)]
 use crate::support::prelude::*;
-use crate::ucd_files::fields::{column, field};
+use crate::ucd_files::fields::{column, field, has_field, missing_of};
 use crate::ucd_files::names::{Matching, Name, is_same_name};
 use crate::ucd_files::statement::Columns;
 use crate::ucd_files::value_names::ValueNames;
 use crate::ucptab_table::input::first_line;
 use crate::ucptab_table::rows::content_of;
 use crate::ucptrie::fault::{Fault, said};
+use crate::ucptrie::tables::number;
+use clap::ArgMatches;
 
 /// How many properties a message lists at most.
 const LISTED: usize = 10;
@@ -66,7 +68,7 @@ pub fn push_text(line: &mut String, text: &[u8]) -> Result<(), AllocError> {
 }
 
 /// Appends the first of some names, and `..` if there are more.
-fn push_listed(line: &mut String, names: &[Name<'_>]) -> Result<(), AllocError> {
+pub fn push_listed(line: &mut String, names: &[Name<'_>]) -> Result<(), AllocError> {
     let mut mark = "; the file has ";
     for name in names.get(..LISTED).unwrap_or(names) {
         line.try_push_str(mark)?;
@@ -97,4 +99,54 @@ fn missing_line(
 /// and `columns` are where its lines have their property.
 pub fn missing_property(columns: Columns<'_>, property: &str, name: &str, file: &[u8]) -> Fault {
     said(missing_line(columns, property, name, file))
+}
+
+/// Returns whether a line has field `n`, or is an `@missing` line with one.
+fn has_field_in(n: usize, line: &[u8]) -> bool {
+    match missing_of(line) {
+        Some(content) => has_field(n, content),
+        None => has_field(n, content_of(line)),
+    }
+}
+
+/// Returns whether a line of a file has field `n`.
+fn is_field_of(n: usize, file: &[u8]) -> bool {
+    let mut rest = file;
+    while let Some((line, after)) = first_line(rest) {
+        rest = after;
+        if has_field_in(n, line) {
+            return true;
+        }
+    }
+    false
+}
+
+/// Returns the field of which the arguments ask, by its number or as a property of UnicodeData.txt.
+fn asked_field(matches: &ArgMatches, columns: Columns<'_>) -> Option<usize> {
+    match columns {
+        Columns::UnicodeData(n) => Some(n),
+        Columns::Field(n) if number(matches, "field").is_some() => Some(n),
+        _ => None,
+    }
+}
+
+/// Returns the line about a file in which no line has field `n`.
+fn no_field_line(name: &str, n: usize) -> Result<String, AllocError> {
+    let mut line = String::new();
+    write!(line, "{name}: no line has field {n}, counted from 0")?;
+    Ok(line)
+}
+
+/// Tests whether a line has the field of which the arguments ask. `name` is what the file was read
+/// from.
+pub fn expect_field(
+    matches: &ArgMatches,
+    columns: Columns<'_>,
+    name: &str,
+    file: &[u8],
+) -> Result<(), Fault> {
+    match asked_field(matches, columns) {
+        Some(n) if !is_field_of(n, file) => Err(said(no_field_line(name, n))),
+        _ => Ok(()),
+    }
 }

@@ -7,19 +7,23 @@ use crate::support::prelude::*;
 use crate::ucd_files::choice::{Choice, ValueKind, by_names};
 use crate::ucd_files::kind::{FileKind, kind_of};
 use crate::ucd_files::names::{Matching, Numbering, is_same_name, number_of};
+use crate::ucd_files::statement::Columns;
+use crate::ucd_files::title::title_of;
 use crate::ucd_files::value_names::ValueNames;
 use crate::ucptrie::build::unbuilt;
 use crate::ucptrie::choice::UnicodeFile;
 use crate::ucptrie::compressed::expect_lines;
 use crate::ucptrie::fault::{Fault, about, about_arguments};
 use crate::ucptrie::forms::{is_json, is_toml};
+use crate::ucptrie::groups::numbers_in_group;
 use crate::ucptrie::missing::{default_of, test_numbers, test_own_names};
 use crate::ucptrie::names::name_in;
 use crate::ucptrie::offsets::{has_tries, start_of, starts_trie};
 use crate::ucptrie::streams::say;
 use crate::ucptrie::tables::{number, table_in};
 use crate::ucptrie::unicode_files::{
-    choice_of_file, column_option, named_kind, not_of_rows, unicode_file, unread,
+    choice_of_file, column_option, is_named, named_kind, not_of_rows, test_conflicts, unicode_file,
+    unread, why_no_default,
 };
 use crate::ucptrie_sets::fault::{SetFileFault, SetWriteFault, ValueSetFault};
 use crate::ucptrie_sets::of_value::set_of_value;
@@ -29,14 +33,17 @@ use crate::ucptrie_sets::written::{SetForm, written};
 use crate::ucptrie_tables::table::{Table, TableOptions, table_of_rows};
 use crate::ucptrie_tables::unicode_file::table_of_file;
 use crate::ucptrie_tables::width::ValueWidth;
-use bekstaudi::codepointinvlist::CodePointInversionList;
 use bekstaudi::codepointinvlist::serialized::SerializedSetError;
+use bekstaudi::codepointinvlist::{CodePointInversionList, CodePointInversionListBuilder};
 use bekstaudi::codepointtrie::TrieType;
 use clap::ArgMatches;
 
 /// What is said of a file that says too little of code points without a line.
 const NO_DEFAULT: &str =
     "no line says which value the other code points have: make a table by build --default NUMBER";
+
+/// The number of the code points without a line, if the file gives them none: no value has it.
+const UNLISTED: u32 = u32::MAX;
 
 /// What a file is.
 #[derive(Clone, Copy)]
@@ -90,6 +97,25 @@ fn set_in_table(
     }
 }
 
+/// Returns the set of several values in a table. `name` is what the table was read from.
+fn union_in_table(
+    name: &str,
+    table: &Table,
+    values: &[u32],
+) -> Result<CodePointInversionList<'static>, Fault> {
+    let mut union = CodePointInversionListBuilder::new();
+    for value in values {
+        let set = set_in_table(name, table, *value)?;
+        if union.try_add_set(&set).is_err() {
+            return Err(Fault::Memory);
+        }
+    }
+    match union.try_build() {
+        Ok(set) => Ok(set),
+        Err(_) => Err(Fault::Memory),
+    }
+}
+
 /// Returns the value that the arguments ask for as a number, which is 1 if they ask for none.
 fn asked_number(matches: &ArgMatches) -> Result<u32, Fault> {
     let Some(text) = matches.get_one::<String>("value").map(String::as_str) else {
@@ -103,28 +129,75 @@ fn asked_number(matches: &ArgMatches) -> Result<u32, Fault> {
 
 /// Returns the number of the value with this name: of the one that is written so, or else of the
 /// first one that is the same apart from case, spaces, `_` and `-`. No value has an empty name.
-fn number_named(names: &ValueNames<'_>, text: &str) -> Result<u32, Fault> {
+fn number_named(names: &ValueNames<'_>, text: &str) -> Option<u32> {
+    if is_same_name(&[], text.as_bytes()) {
+        return None;
+    }
     let exact = number_of(Numbering::Names(names, Matching::Exact), text.as_bytes());
-    let loose = number_of(Numbering::Names(names, Matching::Loose), text.as_bytes());
-    match exact.or(loose) {
-        Some(number) if !is_same_name(&[], text.as_bytes()) => Ok(number),
-        _ => Err(about(text, "no value of the property has this name")),
+    exact.or(number_of(
+        Numbering::Names(names, Matching::Loose),
+        text.as_bytes(),
+    ))
+}
+
+/// Returns whether the values of a file are general categories.
+fn has_categories(matches: &ArgMatches, file: &UnicodeFile<'_>) -> bool {
+    if matches!(file.columns, Columns::UnicodeData(2)) {
+        return true;
+    }
+    match (
+        matches.get_one::<String>("property").map(String::as_str),
+        title_of(file.bytes),
+    ) {
+        (Some(property), _) => is_named("gc", "General_Category", property.as_bytes()),
+        (None, Some(title)) => title.starts_with(b"DerivedGeneralCategory".as_slice()),
+        (None, None) => false,
     }
 }
 
-/// Returns how the values of a file become numbers, and the number whose set is asked for.
-fn asked_value<'n>(
+/// Returns the number of the value with this name, or the numbers of the general categories in the
+/// group with this name.
+fn numbers_named(
+    matches: &ArgMatches,
+    file: &UnicodeFile<'_>,
+    names: &ValueNames<'_>,
+    text: &str,
+) -> Result<Vec<u32>, Fault> {
+    let mut numbers = Vec::new();
+    if let Some(number) = number_named(names, text) {
+        numbers.try_push(number)?;
+    } else if has_categories(matches, file) {
+        numbers = numbers_in_group(names.as_slice(), text, UNLISTED)?;
+    }
+    if numbers.is_empty() {
+        return Err(about(text, "no value of the property has this name"));
+    }
+    Ok(numbers)
+}
+
+/// Returns a list of the one value that means true, or of the lines of a set.
+fn only_one() -> Result<Vec<u32>, AllocError> {
+    let mut numbers = Vec::new();
+    numbers.try_push(1)?;
+    Ok(numbers)
+}
+
+/// Returns how the values of a file become numbers, and the numbers whose set is asked for.
+fn asked_values<'n>(
     matches: &ArgMatches,
     file: &UnicodeFile<'_>,
     choice: &'n Choice<'n>,
-) -> Result<(Numbering<'n>, u32), Fault> {
+) -> Result<(Numbering<'n>, Vec<u32>), Fault> {
     match (
         matches.get_one::<String>("value").map(String::as_str),
         choice.kind,
     ) {
-        (Some(text), _) => Ok((by_names(choice), number_named(&choice.names, text)?)),
-        (None, ValueKind::Set) => Ok((Numbering::One, 1)),
-        (None, ValueKind::Binary) => Ok((by_names(choice), 1)),
+        (Some(text), _) => {
+            let numbers = numbers_named(matches, file, &choice.names, text)?;
+            Ok((by_names(choice), numbers))
+        }
+        (None, ValueKind::Set) => Ok((Numbering::One, only_one()?)),
+        (None, ValueKind::Binary) => Ok((by_names(choice), only_one()?)),
         _ => {
             let why = "expected --value, or by --property a property that is true or false";
             Err(about(file.name, why))
@@ -142,8 +215,11 @@ fn default_in_set(
 ) -> Result<u32, Fault> {
     match choice.kind {
         ValueKind::Binary => Ok(0),
-        ValueKind::Aliases => default_of(matches, file, numbering, u32::MAX, NO_DEFAULT),
-        ValueKind::Set | ValueKind::Own => Ok(u32::MAX),
+        ValueKind::Aliases => {
+            let how = why_no_default(file.columns, NO_DEFAULT);
+            default_of(matches, file, numbering, UNLISTED, how)
+        }
+        ValueKind::Set | ValueKind::Own => Ok(UNLISTED),
     }
 }
 
@@ -153,13 +229,14 @@ fn set_of_lines(
     file: &UnicodeFile<'_>,
     choice: &Choice<'_>,
 ) -> Result<CodePointInversionList<'static>, Fault> {
-    let (numbering, value) = asked_value(matches, file, choice)?;
+    let (numbering, values) = asked_values(matches, file, choice)?;
+    test_conflicts(file, numbering)?;
     test_own_names(file, choice)?;
     test_numbers(file, choice)?;
     let default = default_in_set(matches, file, choice, numbering)?;
     match table_of_file(file.bytes, file.columns, numbering, options(default)) {
-        Ok(table) => set_in_table(file.name, &table, value),
-        Err(fault) => Err(unread(file.name, file.bytes, fault)),
+        Ok(table) => union_in_table(file.name, &table, &values),
+        Err(fault) => Err(unread(file.name, file.bytes, numbering, fault)),
     }
 }
 
@@ -323,6 +400,17 @@ fn asked_set(
     }
 }
 
+/// Says on standard error that no code point is in the set.
+fn say_empty(rt: &HostRuntime, name: &str) -> Result<(), AllocError> {
+    let mut line = String::new();
+    write!(
+        line,
+        "{name}: the set is empty: no code point has the value"
+    )?;
+    say(rt, &line);
+    Ok(())
+}
+
 /// Returns the form that the arguments name.
 fn set_form(matches: &ArgMatches) -> SetForm<'_> {
     let name = name_in(matches);
@@ -347,6 +435,9 @@ pub fn set(
     file: &[u8],
 ) -> Result<Vec<u8>, Fault> {
     let set = asked_set(rt, matches, name, file)?;
+    if set.is_empty() {
+        say_empty(rt, name)?;
+    }
     match written(&set, set_form(matches)) {
         Ok(bytes) => Ok(bytes),
         Err(SetWriteFault::Memory) => Err(Fault::Memory),

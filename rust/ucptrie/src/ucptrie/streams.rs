@@ -19,6 +19,14 @@ pub fn input_name(path: &str) -> &str {
     if path == "-" { INPUT } else { path }
 }
 
+/// The byte order mark of UTF-8.
+const MARK: &[u8] = b"\xef\xbb\xbf";
+
+/// Returns a text without the byte order mark at its start, if it has one.
+pub fn without_mark(text: &[u8]) -> &[u8] {
+    text.strip_prefix(MARK).unwrap_or(text)
+}
+
 /// Reads all of standard input, and decompresses it if `bzip2` wrote it.
 fn input(rt: &HostRuntime) -> Result<Vec<u8>, Fault> {
     let mut bytes = Vec::new();

@@ -6,9 +6,10 @@ use crate::support::AllocError;
 use crate::support::prelude::*;
 use crate::ucptrie::compressed::expect_text;
 use crate::ucptrie::fault::{Fault, about, said};
+use crate::ucptrie::forms::is_toml;
 use crate::ucptrie::names::name_in;
 use crate::ucptrie::offsets::{Start, from_trie, starts_trie};
-use crate::ucptrie::streams::{bytes_at, input_name};
+use crate::ucptrie::streams::{bytes_at, input_name, without_mark};
 use crate::ucptrie_sets::fault::SetFileFault;
 use crate::ucptrie_sets::toml_file::set_of_file;
 use crate::ucptrie_tables::fault::{ReadFault, TomlFault};
@@ -152,10 +153,15 @@ fn without_trie(
     }
 }
 
+/// What is said of a text that is no table, as rows and the files that Unicode publishes.
+const NO_TABLE: &str =
+    "expected a table in ICU's binary form, JSON or TOML; ucptrie build makes one of lines";
+
 /// Returns a file with its TOML. `name` is what it was read from.
 fn parsed<'f>(name: &str, bytes: &'f [u8]) -> Result<ParsedFile<'f>, Fault> {
     match ParsedFile::new(bytes) {
         Ok(file) => Ok(file),
+        Err(ReadFault::Toml(_)) if !is_toml(bytes) => Err(about(name, NO_TABLE)),
         Err(fault) => Err(unread(name, fault)),
     }
 }
@@ -217,5 +223,9 @@ pub fn table_at(
         .map(String::as_str)
         .unwrap_or("-");
     let bytes = bytes_at(rt, path)?;
-    table_in(matches, input_name(path), &bytes, start)
+    let file = match start {
+        Start::At(_) => bytes.as_slice(),
+        Start::Found | Start::Only => without_mark(&bytes),
+    };
+    table_in(matches, input_name(path), file, start)
 }

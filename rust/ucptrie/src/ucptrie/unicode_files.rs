@@ -6,24 +6,30 @@ use crate::support::AllocError;
 use crate::support::prelude::*;
 use crate::ucd_files::choice::{Choice, ValueKind};
 use crate::ucd_files::fault::FileFault;
+use crate::ucd_files::fields::has_field;
 use crate::ucd_files::kind::{FileKind, has_missing_lines, has_property, has_values};
 use crate::ucd_files::names::{Name, Numbering, is_same_name};
 use crate::ucd_files::statement::Columns;
 use crate::ucd_files::title::title_of;
-use crate::ucptab_table::input::line_at;
+use crate::ucptab_table::input::{first_line, line_at};
 use crate::ucptab_table::message::line_message;
+use crate::ucptab_table::rows::content_of;
+use crate::ucptrie::aliases::{Aliases, name_in_lines, named_aliases};
 use crate::ucptrie::build::{options, unbuilt};
 use crate::ucptrie::choice::{UnicodeFile, choice_of, numbering};
 use crate::ucptrie::fault::{Fault, about, about_arguments, said};
-use crate::ucptrie::fractions::say_fractions;
-use crate::ucptrie::missing::{default_of, test_numbers, test_own_names};
-use crate::ucptrie::overlap::overlap;
-use crate::ucptrie::properties::{has_unihan_property, missing_property};
+use crate::ucptrie::fractions::{say_fractions, say_reading};
+use crate::ucptrie::line_faults::fault_line;
+use crate::ucptrie::missing::{default_of, say_missing, test_numbers, test_own_names};
+use crate::ucptrie::names::{is_list, say_many_in};
+use crate::ucptrie::overlap::{Conflict, conflict_of_texts, find_conflict};
+use crate::ucptrie::properties::{expect_field, has_unihan_property, missing_property};
 use crate::ucptrie::static_trie::{is_static, with_static};
-use crate::ucptrie::streams::{say, text_at};
+use crate::ucptrie::streams::say;
 use crate::ucptrie::tables::{form, number};
 use crate::ucptrie::wide::{line_with, too_wide};
 use crate::ucptrie_tables::fault::{BuildFault, UnicodeFileFault};
+use crate::ucptrie_tables::names_list::names_list;
 use crate::ucptrie_tables::table::TableOptions;
 use crate::ucptrie_tables::unicode_file::table_of_file;
 use crate::ucptrie_tables::value_names::names_source;
@@ -91,8 +97,19 @@ static UNICODE_DATA: [(&str, &str, usize); 11] = [
 ];
 
 /// Returns whether a property has this short or this long name.
-fn is_named(short: &str, long: &str, property: &[u8]) -> bool {
+pub fn is_named(short: &str, long: &str, property: &[u8]) -> bool {
     is_same_name(short.as_bytes(), property) || is_same_name(long.as_bytes(), property)
+}
+
+/// Returns whether two texts are names of one property: the same name, or the short and the long
+/// name of a property of `UnicodeData.txt`.
+pub fn are_names_of_one(property: &[u8], name: &[u8]) -> bool {
+    for (short, long, _) in UNICODE_DATA.iter() {
+        if is_named(short, long, property) && is_named(short, long, name) {
+            return true;
+        }
+    }
+    is_same_name(property, name)
 }
 
 /// Returns the field of a property in `UnicodeData.txt`. `name` is what the file was read from.
@@ -122,39 +139,98 @@ fn is_simple_folding(file: &[u8], property: Option<&str>) -> bool {
     }
 }
 
-/// Returns the line about a code point that has two lines. `how` says what to do.
-fn two_lines(name: &str, code_point: u32, how: &str) -> Result<String, AllocError> {
+/// Returns the line about a code point that has two different values. `how` says what to do.
+fn two_values(name: &str, conflict: Conflict, how: &str) -> Result<String, AllocError> {
     let mut line = String::new();
-    write!(line, "{name}: {code_point:04X} has two lines: {how}")?;
+    let (number, code_point) = (conflict.second, conflict.code_point);
+    write!(
+        line,
+        "{name}:{number}: {code_point:04X} has another value in line "
+    )?;
+    let first = conflict.first;
+    write!(line, "{first}{how}")?;
     Ok(line)
 }
 
-/// Returns field 1, unless a code point has two lines. `name` is what the lines were read from.
+/// Returns the number of the first line of `Blocks.txt` in the style of Unicode 3.0, whose fields
+/// are the first code point, the last code point and the name. Returns `None` for other files.
+fn old_block(file: &[u8]) -> Option<u64> {
+    if !title_of(file).is_some_and(|title| title.starts_with(b"Blocks".as_slice())) {
+        return None;
+    }
+    let mut number = 0u64;
+    let mut rest = file;
+    while let Some((line, after)) = first_line(rest) {
+        rest = after;
+        number = number.saturating_add(1);
+        if has_field(2, content_of(line)) {
+            return Some(number);
+        }
+    }
+    None
+}
+
+/// Returns field 1, unless a code point has two values there. `name` is what the lines were read
+/// from.
 fn only_field(name: &str, file: &[u8]) -> Result<Columns<'static>, Fault> {
-    match overlap(file)? {
-        Some(code_point) => {
-            let how = "name one property by --property";
-            Err(said(two_lines(name, code_point, how)))
+    if let Some(number) = old_block(file) {
+        let line = line_at(file, number).unwrap_or(&[]);
+        let form = "HEX..HEX before the first `;`";
+        return Err(said(line_message(name, number, form, line)));
+    }
+    match conflict_of_texts(file)? {
+        Some(conflict) => {
+            let how = ": if the file has several properties, name one by --property";
+            Err(said(two_values(name, conflict, how)))
         }
         None => Ok(Columns::Field(1)),
     }
 }
 
-/// Says on standard error that a code point has two lines, if the arguments name a field: the last
-/// line counts. `name` is what the lines were read from.
-fn say_overlap(
-    rt: &HostRuntime,
-    columns: Columns<'_>,
-    matches: &ArgMatches,
-    name: &str,
-    file: &[u8],
-) -> Result<(), AllocError> {
-    if !matches!(columns, Columns::Field(_)) || number(matches, "field").is_none() {
+/// Tests that no code point has two different values in the lines of a file.
+pub fn test_conflicts(file: &UnicodeFile<'_>, numbering: Numbering<'_>) -> Result<(), Fault> {
+    match find_conflict(file.bytes, file.columns, numbering)? {
+        Some(conflict) => Err(said(two_values(file.name, conflict, ""))),
+        None => Ok(()),
+    }
+}
+
+/// Returns the file that has a field of `UnicodeData.txt` for all code points, if that file itself
+/// leaves some out: the names and numeric values of ranges, and the bidirectional class of
+/// unassigned code points.
+fn whole_file(columns: Columns<'_>) -> Option<&'static str> {
+    match columns {
+        Columns::UnicodeData(1) => Some("extracted/DerivedName.txt"),
+        Columns::UnicodeData(4) => Some("extracted/DerivedBidiClass.txt"),
+        Columns::UnicodeData(8) => Some("extracted/DerivedNumericValues.txt"),
+        _ => None,
+    }
+}
+
+/// Returns why a file does not say the value of code points without a line: `other`, unless another
+/// file has it.
+pub fn why_no_default(columns: Columns<'_>, other: &'static str) -> &'static str {
+    match columns {
+        Columns::UnicodeData(4) => {
+            "no line says which value the other code points have: extracted/DerivedBidiClass.txt does"
+        }
+        _ => other,
+    }
+}
+
+/// Says on standard error which file has a property of all code points, if the file that is read
+/// does not.
+fn say_whole_file(rt: &HostRuntime, file: &UnicodeFile<'_>) -> Result<(), AllocError> {
+    let Some(whole) = whole_file(file.columns) else {
         return Ok(());
-    }
-    if let Some(code_point) = overlap(file)? {
-        say(rt, &two_lines(name, code_point, "the last one counts")?);
-    }
+    };
+    let mut line = String::new();
+    let name = file.name;
+    write!(
+        line,
+        "{name}: the values of some code points are only in {whole}"
+    )?;
+    say(rt, &line);
     Ok(())
 }
 
@@ -167,7 +243,7 @@ fn columns_of_all(
     file: &[u8],
 ) -> Result<Columns<'static>, Fault> {
     let columns = Columns::Field(1);
-    if overlap(file)?.is_some() {
+    if conflict_of_texts(file)?.is_some() {
         return Err(missing_property(columns, property, name, file));
     }
     if has_aliases {
@@ -182,16 +258,22 @@ fn columns_of_all(
 /// from.
 fn columns_of_lines<'a>(
     property: Option<&'a str>,
-    has_aliases: bool,
+    aliases: &Aliases,
     name: &str,
-    file: &[u8],
+    file: &'a [u8],
 ) -> Result<Columns<'a>, Fault> {
     match property {
         Some(property) if has_property(file, property.as_bytes()) => {
             Ok(Columns::Property(property.as_bytes()))
         }
         property if is_simple_folding(file, property) => Ok(Columns::SimpleFolding),
-        Some(property) => columns_of_all(property, has_aliases, name, file),
+        Some(property) => match name_in_lines(aliases, file, property.as_bytes()) {
+            Some(own_name) => Ok(Columns::Property(own_name)),
+            None => {
+                let has_values = !aliases.values.is_empty();
+                columns_of_all(property, has_values, name, file)
+            }
+        },
         None => only_field(name, file),
     }
 }
@@ -208,9 +290,10 @@ fn columns_of_unihan<'a>(property: &'a str, name: &str, file: &[u8]) -> Result<C
 /// Returns where the lines of a file have their values. `name` is what it was read from.
 fn columns<'a>(
     matches: &'a ArgMatches,
+    aliases: &Aliases,
     kind: FileKind,
     name: &str,
-    file: &[u8],
+    file: &'a [u8],
 ) -> Result<Columns<'a>, Fault> {
     if !has_values(file) {
         return Err(about(
@@ -235,25 +318,11 @@ fn columns<'a>(
                 Err(about(name, why))
             }
         },
-        _ => {
-            let has_aliases = matches
-                .get_one::<String>("aliases")
-                .map(String::as_str)
-                .is_some();
-            columns_of_lines(property, has_aliases, name, file)
-        }
+        _ => columns_of_lines(property, aliases, name, file),
     }
 }
 
-/// Returns the bytes of the file of aliases, or none if the arguments name no such file.
-fn named_file(rt: &HostRuntime, matches: &ArgMatches) -> Result<Vec<u8>, Fault> {
-    match matches.get_one::<String>("aliases").map(String::as_str) {
-        Some(path) => text_at(rt, path),
-        None => Ok(Vec::new()),
-    }
-}
-
-/// Returns a file of the Unicode Character Database, with the file of aliases that the arguments
+/// Returns a file of the Unicode Character Database, with the files of aliases that the arguments
 /// name. `name` is what it was read from.
 pub fn unicode_file<'f>(
     rt: &HostRuntime,
@@ -262,8 +331,9 @@ pub fn unicode_file<'f>(
     bytes: &'f [u8],
     kind: FileKind,
 ) -> Result<UnicodeFile<'f>, Fault> {
-    let columns = columns(matches, kind, name, bytes)?;
-    let aliases = named_file(rt, matches)?;
+    let aliases = named_aliases(rt, matches)?;
+    let columns = columns(matches, &aliases, kind, name, bytes)?;
+    expect_field(matches, columns, name, bytes)?;
     Ok(UnicodeFile {
         name,
         bytes,
@@ -273,13 +343,13 @@ pub fn unicode_file<'f>(
 }
 
 /// Returns the fault of a file that makes no table. `name` is what it was read from.
-pub fn unread(name: &str, file: &[u8], fault: UnicodeFileFault) -> Fault {
+/// `numbering` is how its values become numbers.
+pub fn unread(name: &str, file: &[u8], numbering: Numbering<'_>, fault: UnicodeFileFault) -> Fault {
     match fault {
         UnicodeFileFault::File(FileFault::Memory) => Fault::Memory,
         UnicodeFileFault::File(FileFault::Unfinished) => about(name, FileFault::Unfinished),
         UnicodeFileFault::File(FileFault::Line(number, fault)) => {
-            let line = line_at(file, number).unwrap_or(&[]);
-            said(line_message(name, number, fault.expected(), line))
+            said(fault_line(name, file, number, fault, numbering))
         }
         UnicodeFileFault::Build(fault) => unbuilt(name, file, fault),
     }
@@ -298,7 +368,7 @@ fn push_names(
 }
 
 /// Returns a table in a form, followed by the source of these names and by the static trie that the
-/// arguments ask for.
+/// arguments ask for, or only the list of the names if they ask for that.
 pub fn with_names(
     matches: &ArgMatches,
     bytes: Vec<u8>,
@@ -306,6 +376,9 @@ pub fn with_names(
     width: ValueWidth,
     names: &[Name<'_>],
 ) -> Result<Vec<u8>, AllocError> {
+    if is_list(matches) {
+        return names_list(names);
+    }
     let mut bytes = bytes;
     if !is_static(matches) {
         push_names(&mut bytes, form, width, names)?;
@@ -347,6 +420,7 @@ fn options_of_file(
     };
     if needs_default && number(matches, "default").is_none() {
         let how = "no line says which value the other code points have: give --default NUMBER";
+        let how = why_no_default(file.columns, how);
         let default = default_of(matches, file, numbering, given.default, how)?;
         return Ok(TableOptions { default, ..given });
     }
@@ -360,6 +434,7 @@ fn built_of_file(
     choice: &Choice<'_>,
 ) -> Result<Vec<u8>, Fault> {
     let numbering = numbering(matches, file, choice);
+    test_conflicts(file, numbering)?;
     if matches!(numbering, Numbering::Names(_, _)) {
         test_own_names(file, choice)?;
     }
@@ -377,18 +452,19 @@ fn built_of_file(
             let place = line_with(file, numbering, value);
             Err(too_wide(matches, file.name, place, value, width))
         }
-        Err(fault) => Err(unread(file.name, file.bytes, fault)),
+        Err(fault) => Err(unread(file.name, file.bytes, numbering, fault)),
     }
 }
 
 /// Returns what the values of a file of the Unicode Character Database are. Says on standard error
-/// if code points have two lines.
+/// which other file has the whole property, and which `@missing` lines are not read.
 pub fn choice_of_file<'f>(
     rt: &HostRuntime,
     matches: &ArgMatches,
     file: &'f UnicodeFile<'f>,
 ) -> Result<Choice<'f>, Fault> {
-    say_overlap(rt, file.columns, matches, file.name, file.bytes)?;
+    say_whole_file(rt, file)?;
+    say_missing(rt, matches, file)?;
     choice_of(matches, file)
 }
 
@@ -404,5 +480,7 @@ pub fn build_file(
     let file = unicode_file(rt, matches, name, bytes, kind)?;
     let choice = choice_of_file(rt, matches, &file)?;
     say_fractions(rt, matches, &file, &choice)?;
+    say_many_in(rt, matches, &file, &choice)?;
+    say_reading(rt, matches, &file, &choice)?;
     built_of_file(matches, &file, &choice)
 }

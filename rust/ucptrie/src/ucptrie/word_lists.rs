@@ -48,10 +48,6 @@ fn trie<'f>(matches: &ArgMatches, name: &str, file: &'f [u8]) -> Result<Char16Tr
         };
     }
     expect_text(name, file)?;
-    if file.starts_with(b"\xef\xbb\xbf".as_slice()) {
-        let why = "found a byte order mark: save the file without it";
-        return Err(about(name, why));
-    }
     expect_line_feeds(name, file)?;
     match trie_of_words(file) {
         Ok(trie) => Ok(trie),

@@ -5,17 +5,19 @@ use crate::host::{HostRuntime, Text};
 use crate::support::AllocError;
 #[allow(unused_imports)]
 use crate::support::prelude::*;
-use clap::{Arg, Command};
+use clap::{Arg, ArgAction, Command};
 
 /// The program's version, which is that of the file VERSION.
 const VERSION: &str = "0.2.0";
 
 /// How an argument is given.
 #[derive(Clone, Copy)]
-enum Place {
+pub enum Place {
     /// `--id VALUE`, anywhere.
     Option,
-    /// The same, or this letter after one `-`.
+    /// The same, as often as needed.
+    Options,
+    /// `--id VALUE`, or this letter after one `-`.
     Short(char),
     /// One word, by its position.
     Word,
@@ -25,16 +27,16 @@ enum Place {
 
 /// One argument of a command.
 #[derive(Clone, Copy)]
-struct Argument {
-    id: &'static str,
+pub struct Argument {
+    pub id: &'static str,
     place: Place,
     required: bool,
     /// What help calls the value. If it is empty, help shows the id.
     value_name: &'static [&'static str],
     /// Which values are accepted.
-    values: ValueParser<'static>,
+    pub values: ValueParser<'static>,
     /// The value if the argument is left out, if there is one.
-    default: &'static [&'static str],
+    pub default: &'static [&'static str],
     help: &'static str,
 }
 
@@ -88,11 +90,12 @@ const FIELD: Argument = Argument {
     ..NUMBER
 };
 
-/// The file with the names of values.
+/// The files with the names of values and of properties.
 const ALIASES: Argument = Argument {
     id: "aliases",
+    place: Place::Options,
     value_name: &["FILE"],
-    help: "PropertyValueAliases.txt: the names of the property's values",
+    help: "PropertyValueAliases.txt: names of values; PropertyAliases.txt: names of properties",
     ..OPTION
 };
 
@@ -106,9 +109,18 @@ const OFFSET: Argument = Argument {
 /// The form in which a table is written.
 const FORM: Argument = Argument {
     id: "as",
-    values: ValueParser::Names(&["icu", "toml", "json", "c", "rust", "rust-static", "rows"]),
+    values: ValueParser::Names(&[
+        "icu",
+        "toml",
+        "json",
+        "c",
+        "rust",
+        "rust-static",
+        "rows",
+        "names",
+    ]),
     required: true,
-    help: "The output form",
+    help: "The output form; names: lines NUMBER;NAME. An enum in c, rust has at most 4096 names",
     ..OPTION
 };
 
@@ -188,10 +200,7 @@ const BUILD: [Argument; 14] = [
         help: "What values are; names get numbers in order of first appearance",
         ..OPTION
     },
-    Argument {
-        help: "PropertyValueAliases.txt: the names of the property's values, in its order",
-        ..ALIASES
-    },
+    ALIASES,
     Argument {
         default: &["fast"],
         ..TYPE
@@ -235,6 +244,7 @@ const WORDS: [Argument; 6] = [
     },
     Argument {
         values: ValueParser::Names(&["icu", "c", "rust", "rows"]),
+        help: "The output form",
         ..FORM
     },
     Argument {
@@ -326,6 +336,7 @@ const SET: [Argument; 11] = [
             "c-frozen",
             "rust-frozen",
         ]),
+        help: "The output form",
         ..FORM
     },
     Argument {
@@ -388,6 +399,16 @@ static COMMANDS: [Row; 8] = [
     },
 ];
 
+/// Returns the arguments of the command with this name, in the order of the help.
+pub fn arguments_of(name: &str) -> &'static [Argument] {
+    for row in &COMMANDS {
+        if row.name == name {
+            return row.arguments;
+        }
+    }
+    &[]
+}
+
 /// Sets what help calls the argument's value.
 fn with_value_name(argument: Arg, row: &Argument) -> Arg {
     argument.value_names(row.value_name)
@@ -407,6 +428,7 @@ fn with_default(argument: Arg, row: &Argument) -> Arg {
 fn placed(argument: Arg, row: &Argument) -> Arg {
     match row.place {
         Place::Option => argument.long(row.id),
+        Place::Options => argument.long(row.id).action(ArgAction::Append),
         Place::Short(letter) => argument.long(row.id).short(letter),
         Place::Word => argument,
         Place::Words => argument.num_args(1..),

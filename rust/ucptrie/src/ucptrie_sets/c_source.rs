@@ -1,11 +1,12 @@
 //! A set as source in C.
+
 #[allow(unused_imports)]
 use crate::host::{HostRuntime, Text};
 use crate::support::AllocError;
 #[allow(unused_imports)]
 use crate::support::prelude::*;
 use crate::ucptrie_sets::source::{
-    frozen_with_title, push_boundaries, push_packed_indices, push_words, title_of,
+    INDEX_WORDS, frozen_of, push_boundaries, push_packed_indices, push_words, title_of,
 };
 use crate::ucptrie_source::pattern::Number::Decimal;
 use crate::ucptrie_source::pattern::{push_named, push_pattern};
@@ -42,18 +43,36 @@ static inline bool @_contains(uint32_t c) {
 }
 ";
 
-/// Returns the set in C: an array with the boundaries, and a search in it. An array in C is not
-/// empty, so that of the empty set has a cell that is not read.
-pub(crate) fn c_text(set: &CodePointInversionList<'_>, name: &str) -> Result<String, AllocError> {
-    let length = set.as_inversion_list().len();
-    let sizes = [Decimal(length), Decimal(length.max(1))];
-    let mut text = title_of(set)?;
-    push_pattern(&mut text, BOUNDARIES, name, &sizes)?;
-    if length == 0 {
-        text.try_push('0')?;
+/// Appends what precedes so many boundaries. An array in C is not empty, so that of the empty set
+/// has a cell that is not read.
+fn push_head(text: &mut String, name: &str, count: usize) -> Result<(), AllocError> {
+    push_pattern(
+        text,
+        BOUNDARIES,
+        name,
+        &[Decimal(count), Decimal(count.max(1))],
+    )
+}
+
+/// Appends the boundaries of a set, or the cell that is not read.
+fn push_cells(text: &mut String, set: &CodePointInversionList<'_>) -> Result<(), AllocError> {
+    if set.is_empty() {
+        return text.try_push('0');
     }
-    push_boundaries(&mut text, set)?;
-    push_named(&mut text, SEARCH, name)?;
+    push_boundaries(text, set)
+}
+
+/// Appends the search in the boundaries.
+fn push_search(text: &mut String, name: &str) -> Result<(), AllocError> {
+    push_named(text, SEARCH, name)
+}
+
+/// Returns the set in C: an array with the boundaries, and a search in it.
+pub(crate) fn c_text(set: &CodePointInversionList<'_>, name: &str) -> Result<String, AllocError> {
+    let mut text = title_of(set)?;
+    push_head(&mut text, name, set.as_inversion_list().len())?;
+    push_cells(&mut text, set)?;
+    push_search(&mut text, name)?;
     Ok(text)
 }
 
@@ -84,13 +103,22 @@ static inline bool @_contains(uint32_t c) {
 }
 ";
 
+/// Appends what precedes so many words of a frozen set.
+fn push_frozen_head(text: &mut String, name: &str, count: usize) -> Result<(), AllocError> {
+    push_pattern(text, WORDS, name, &[Decimal(count)])
+}
+
+/// Appends the look-up in the words of a frozen set.
+fn push_look_up(text: &mut String, name: &str) -> Result<(), AllocError> {
+    push_named(text, LOOK_UP, name)
+}
+
 /// Appends an array with the words of a frozen set, and a look-up in it.
 fn push_frozen(text: &mut String, tables: FrozenTables<'_>, name: &str) -> Result<(), AllocError> {
-    push_pattern(text, WORDS, name, &[Decimal(1088 + tables.words.len())])?;
+    push_frozen_head(text, name, INDEX_WORDS + tables.words.len())?;
     push_packed_indices(text, tables.index)?;
-    text.try_push_str(",\n")?;
-    push_words(text, tables.words)?;
-    push_named(text, LOOK_UP, name)
+    push_words(text, INDEX_WORDS, tables.words)?;
+    push_look_up(text, name)
 }
 
 /// Returns the frozen set in C: an array with its words, and a look-up in it.
@@ -98,7 +126,8 @@ pub(crate) fn frozen_c_text(
     set: &CodePointInversionList<'_>,
     name: &str,
 ) -> Result<String, AllocError> {
-    let (frozen, mut text) = frozen_with_title(set)?;
+    let frozen = frozen_of(set)?;
+    let mut text = title_of(set)?;
     push_frozen(&mut text, frozen.tables(), name)?;
     Ok(text)
 }

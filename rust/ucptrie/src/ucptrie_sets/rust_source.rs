@@ -1,12 +1,11 @@
 //! A set as source in Rust.
+
 #[allow(unused_imports)]
 use crate::host::{HostRuntime, Text};
 use crate::support::AllocError;
 #[allow(unused_imports)]
 use crate::support::prelude::*;
-use crate::ucptrie_sets::source::{
-    frozen_with_title, push_boundaries, push_indices, push_words, title_of,
-};
+use crate::ucptrie_sets::source::{frozen_of, push_boundaries, push_indices, push_words, title_of};
 use crate::ucptrie_source::pattern::Number::Decimal;
 use crate::ucptrie_source::pattern::{push_named, push_pattern};
 use bekstaudi::codepointinvlist::CodePointInversionList;
@@ -32,16 +31,25 @@ pub mod @ {
     pub static BOUNDARIES: [u32; %] = [
 ";
 
+/// Appends what precedes so many boundaries.
+fn push_head(text: &mut String, name: &str, count: usize) -> Result<(), AllocError> {
+    push_pattern(text, BOUNDARIES, name, &[Decimal(count)])
+}
+
+/// Appends the search in the boundaries.
+fn push_search(text: &mut String) -> Result<(), AllocError> {
+    text.try_push_str(SEARCH)
+}
+
 /// Returns the set in Rust: a module with the boundaries, and a search in them.
 pub(crate) fn rust_text(
     set: &CodePointInversionList<'_>,
     name: &str,
 ) -> Result<String, AllocError> {
-    let length = [Decimal(set.as_inversion_list().len())];
     let mut text = title_of(set)?;
-    push_pattern(&mut text, BOUNDARIES, name, &length)?;
+    push_head(&mut text, name, set.as_inversion_list().len())?;
     push_boundaries(&mut text, set)?;
-    text.try_push_str(SEARCH)?;
+    push_search(&mut text)?;
     Ok(text)
 }
 
@@ -78,13 +86,28 @@ const WORDS: &str = "
     pub static WORDS: [u64; %] = [
 ";
 
+/// Appends what precedes the indices of a frozen set.
+fn push_frozen_head(text: &mut String, name: &str) -> Result<(), AllocError> {
+    push_named(text, INDEX, name)
+}
+
+/// Appends what is between the indices and so many words of a frozen set.
+fn push_words_head(text: &mut String, count: usize) -> Result<(), AllocError> {
+    push_pattern(text, WORDS, "", &[Decimal(count)])
+}
+
+/// Appends the look-up in the tables of a frozen set.
+fn push_look_up(text: &mut String) -> Result<(), AllocError> {
+    text.try_push_str(LOOK_UP)
+}
+
 /// Appends a module with the tables of a frozen set, and a look-up in them.
 fn push_frozen(text: &mut String, tables: FrozenTables<'_>, name: &str) -> Result<(), AllocError> {
-    push_named(text, INDEX, name)?;
+    push_frozen_head(text, name)?;
     push_indices(text, tables.index)?;
-    push_pattern(text, WORDS, "", &[Decimal(tables.words.len())])?;
-    push_words(text, tables.words)?;
-    text.try_push_str(LOOK_UP)
+    push_words_head(text, tables.words.len())?;
+    push_words(text, 0, tables.words)?;
+    push_look_up(text)
 }
 
 /// Returns the frozen set in Rust: a module with its tables, and a look-up in them.
@@ -92,7 +115,8 @@ pub(crate) fn frozen_rust_text(
     set: &CodePointInversionList<'_>,
     name: &str,
 ) -> Result<String, AllocError> {
-    let (frozen, mut text) = frozen_with_title(set)?;
+    let frozen = frozen_of(set)?;
+    let mut text = title_of(set)?;
     push_frozen(&mut text, frozen.tables(), name)?;
     Ok(text)
 }

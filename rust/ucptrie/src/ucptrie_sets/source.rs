@@ -1,4 +1,5 @@
 //! What the sources in C and in Rust have in common.
+
 #[allow(unused_imports)]
 use crate::host::{HostRuntime, Text};
 use crate::support::AllocError;
@@ -12,6 +13,9 @@ use bekstaudi::codepointinvlist::FrozenCodePointSet;
 /// How many cells a line has.
 const CELLS_IN_LINE: usize = 8;
 
+/// How many words the indices of a frozen set take, four in each.
+pub(crate) const INDEX_WORDS: usize = 1088;
+
 /// The first line of source. Each `%` is replaced by a number.
 const TITLE: &str = "// Made by ucptrie: a set of % code points in % ranges.\n";
 
@@ -23,24 +27,38 @@ pub(crate) fn title_of(set: &CodePointInversionList<'_>) -> Result<String, Alloc
     Ok(text)
 }
 
-/// Freezes the set, and returns it with the first line of its source.
-pub(crate) fn frozen_with_title(
+/// Returns the frozen set.
+pub(crate) fn frozen_of(
     set: &CodePointInversionList<'_>,
-) -> Result<(FrozenCodePointSet, String), AllocError> {
+) -> Result<FrozenCodePointSet, AllocError> {
     let Ok(frozen) = FrozenCodePointSet::try_freeze(set) else {
         return Err(AllocError);
     };
-    Ok((frozen, title_of(set)?))
+    Ok(frozen)
+}
+
+/// Appends what precedes the cell `i` of an array: nothing, a comma and a space, or a comma and a
+/// new line.
+fn push_gap(text: &mut String, i: usize) -> Result<(), AllocError> {
+    if i == 0 {
+        return Ok(());
+    }
+    text.try_push_str(if i.is_multiple_of(CELLS_IN_LINE) {
+        ",\n"
+    } else {
+        ", "
+    })
+}
+
+/// Appends a number in hexadecimal digits in lower case, behind `0x`.
+fn push_number(text: &mut String, number: u64) -> Result<(), AllocError> {
+    write!(text, "0x{number:x}")
 }
 
 /// Appends a cell of an array: eight to a line, with commas between them. `i` is its index.
 fn push_cell(text: &mut String, i: usize, cell: u64) -> Result<(), AllocError> {
-    if !i.is_multiple_of(CELLS_IN_LINE) {
-        text.try_push_str(", ")?;
-    } else if i > 0 {
-        text.try_push_str(",\n")?;
-    }
-    write!(text, "{cell:#x}")
+    push_gap(text, i)?;
+    push_number(text, cell)
 }
 
 /// Appends the boundaries of a set.
@@ -63,27 +81,27 @@ pub(crate) fn push_indices(text: &mut String, indices: &[u16]) -> Result<(), All
     Ok(())
 }
 
-/// Appends words of 64 bits.
-pub(crate) fn push_words(text: &mut String, words: &[u64]) -> Result<(), AllocError> {
+/// Appends words of 64 bits. They are the cells of an array from the cell `start` on.
+pub(crate) fn push_words(text: &mut String, start: usize, words: &[u64]) -> Result<(), AllocError> {
     for (i, word) in words.iter().enumerate() {
-        push_cell(text, i, *word)?;
+        push_cell(text, start + i, *word)?;
     }
     Ok(())
 }
 
-/// Returns the word of up to four indices of 16 bits, the first one in the lowest bits.
-fn word_of(indices: &[u16]) -> u64 {
-    let mut word = 0u64;
-    for index in indices.iter().rev() {
-        word = (word << 16) | u64::from(*index);
-    }
-    word
+/// Returns the word of the four indices of 16 bits from `first` on, the first one in the lowest
+/// bits.
+fn word_at(indices: &[u16], first: usize) -> u64 {
+    let (a, b) = (u64::from(indices[first]), u64::from(indices[first + 1]));
+    let (c, d) = (u64::from(indices[first + 2]), u64::from(indices[first + 3]));
+    a + 0x1_0000 * (b + 0x1_0000 * (c + 0x1_0000 * d))
 }
 
-/// Appends indices of 16 bits in words of 64 bits, four in each, the first one in the lowest bits.
+/// Appends the indices of a frozen set in words of 64 bits, four in each, the first one in the
+/// lowest bits.
 pub(crate) fn push_packed_indices(text: &mut String, indices: &[u16]) -> Result<(), AllocError> {
-    for (i, four) in indices.chunks(4).enumerate() {
-        push_cell(text, i, word_of(four))?;
+    for i in 0..INDEX_WORDS {
+        push_cell(text, i, word_at(indices, 4 * i))?;
     }
     Ok(())
 }

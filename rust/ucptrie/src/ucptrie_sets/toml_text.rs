@@ -1,10 +1,42 @@
 //! A set in TOML, as ICU's icuexportdata writes it.
+
 #[allow(unused_imports)]
 use crate::host::{HostRuntime, Text};
 use crate::support::AllocError;
 #[allow(unused_imports)]
 use crate::support::prelude::*;
+use crate::ucptrie_source::pattern::Number::Hexadecimal;
+use crate::ucptrie_source::pattern::{push_named, push_pattern};
 use bekstaudi::codepointinvlist::CodePointInversionList;
+use core::ops::RangeInclusive;
+
+/// What precedes the ranges. Each `@` is replaced by the name.
+const HEAD: &str = "\
+[[binary_property]]
+long_name = \"@\"
+short_name = \"@\"
+# Inclusive ranges of the code points in the set.
+ranges = [
+";
+
+/// Appends what precedes the ranges.
+fn push_head(text: &mut String, name: &str) -> Result<(), AllocError> {
+    push_named(text, HEAD, name)
+}
+
+/// Appends the line of a range.
+fn push_range(text: &mut String, range: &RangeInclusive<u32>) -> Result<(), AllocError> {
+    let bounds = [Hexadecimal(*range.start()), Hexadecimal(*range.end())];
+    push_pattern(text, "  [%, %],\n", "", &bounds)
+}
+
+/// Appends the lines of the ranges of a set, in ascending order.
+fn push_ranges(text: &mut String, set: &CodePointInversionList<'_>) -> Result<(), AllocError> {
+    for range in set.iter_ranges() {
+        push_range(text, &range)?;
+    }
+    Ok(())
+}
 
 /// Returns the set in TOML: a property with this long and short name.
 pub(crate) fn toml_text(
@@ -12,15 +44,8 @@ pub(crate) fn toml_text(
     name: &str,
 ) -> Result<String, AllocError> {
     let mut text = String::new();
-    writeln!(
-        text,
-        "[[binary_property]]\nlong_name = \"{name}\"\nshort_name = \"{name}\""
-    )?;
-    text.try_push_str("# Inclusive ranges of the code points in the set.\nranges = [\n")?;
-    for range in set.iter_ranges() {
-        let (start, end) = (*range.start(), *range.end());
-        writeln!(text, "  [{start:#x}, {end:#x}],")?;
-    }
+    push_head(&mut text, name)?;
+    push_ranges(&mut text, set)?;
     text.try_push_str("]\n")?;
     Ok(text)
 }

@@ -19,7 +19,8 @@ use core::{error, fmt};
 pub enum BuildFault {
     /// A row has a fault, the map is too large for a trie, or an allocation failed.
     Table(TableError),
-    /// This value has more bits than this width.
+    /// A value of a code point, or the error value, that has more bits than this width. From
+    /// [`written`](crate::ucptrie_tables::written::written) it may also be the null value.
     Width(u32, ValueWidth),
     /// ICU's binary form has no room for the trie.
     Binary(WriteError),

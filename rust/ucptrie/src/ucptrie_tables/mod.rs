@@ -22,6 +22,7 @@
 //!   of a trie as numbers in a text
 //! - `toml_text`: a table in TOML
 //! - `value_names`: names of values in C and in Rust; `static_source`: a static trie in Rust
+//! - `names_list`: names of values as lines `NUMBER;NAME`
 //! - `fault`: why a table can't be made, written or read
 
 #[allow(unused_imports)]
@@ -35,6 +36,7 @@ pub mod compare;
 pub mod diff;
 pub mod explain;
 pub mod fault;
+pub mod names_list;
 pub mod other_toml;
 pub mod parsed;
 pub mod properties;
@@ -66,9 +68,10 @@ use crate::ucptrie_tables::written::{Form, written};
 ///
 /// # Errors
 /// Returns [`BuildFault::Table`] for the first line that is not a row, for a map that is too large
-/// for a trie, and if an allocation fails. Returns [`BuildFault::Width`] for the first value that
-/// has more bits than the asked width. Returns [`BuildFault::Binary`] if ICU's binary form has no
-/// room for the trie.
+/// for a trie, and if an allocation fails. Returns [`BuildFault::Width`] for a value of a code
+/// point, or the error value, that has more bits than the asked width; in ICU's binary form also
+/// for the null value. Returns [`BuildFault::Binary`] if ICU's binary form has no room for the
+/// trie.
 pub fn built(rows: &[u8], options: TableOptions, form: Form<'_>) -> Result<Vec<u8>, BuildFault> {
     let table = table_of_rows(rows, options)?;
     written(&table, form)

@@ -40,9 +40,9 @@ fn copied(
 /// Its type, its width and its error value are the given ones.
 ///
 /// # Errors
-/// Returns [`BuildFault::Width`] for the first value in the new trie's data that has more bits than
-/// the width. Returns [`BuildFault::Table`] if the values are too many for a trie, and if an
-/// allocation fails.
+/// Returns [`BuildFault::Width`] for a value of a code point, or the error value, that has more
+/// bits than the width: the first one in the new trie's data. Returns [`BuildFault::Table`] if the
+/// values are too many for a trie, and if an allocation fails.
 pub fn rebuilt(
     table: &Table,
     trie_type: TrieType,

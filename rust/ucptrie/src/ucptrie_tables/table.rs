@@ -40,8 +40,8 @@ pub(crate) fn first_wider(trie: &CodePointTrie<'_, u32>, width: ValueWidth) -> O
 ///
 /// # Errors
 /// Returns [`BuildFault::Table`] for a map that is too large for a trie, and if an allocation
-/// fails. Returns [`BuildFault::Width`] for the first value in the trie's data that has more bits
-/// than the asked width.
+/// fails. Returns [`BuildFault::Width`] for a value of a code point, or the error value, that has
+/// more bits than the asked width: the first one in the trie's data.
 pub fn table_of_writes(writes: &[Write<u32>], options: TableOptions) -> Result<Table, BuildFault> {
     let trie = try_build_from_writes(options.default, options.error, options.trie_type, writes)?;
     match first_wider(&trie, options.width) {
@@ -57,8 +57,9 @@ pub fn table_of_writes(writes: &[Write<u32>], options: TableOptions) -> Result<T
 ///
 /// # Errors
 /// Returns [`BuildFault::Table`] for the first line that is not a row, for a map that is too large
-/// for a trie, and if an allocation fails. Returns [`BuildFault::Width`] for the first value in the
-/// trie's data that has more bits than the asked width.
+/// for a trie, and if an allocation fails. Returns [`BuildFault::Width`] for a value of a code
+/// point, or the error value, that has more bits than the asked width: the first one in the trie's
+/// data.
 pub fn table_of_rows(rows: &[u8], options: TableOptions) -> Result<Table, BuildFault> {
     let writes = read_rows(rows)?;
     table_of_writes(&writes, options)

@@ -15,7 +15,8 @@ use crate::ucptrie_tables::table::{Table, TableOptions, table_of_writes};
 /// # Errors
 /// Returns [`UnicodeFileFault::File`] for the first line that has a fault, and if the file ends in
 /// the middle of a range. Returns [`UnicodeFileFault::Build`] for a map that is too large for a
-/// trie, for the first value that has more bits than the asked width, and if an allocation fails.
+/// trie, for a value of a code point, or the error value, that has more bits than the asked width,
+/// and if an allocation fails.
 pub fn table_of_file(
     file: &[u8],
     columns: Columns<'_>,

@@ -11,12 +11,12 @@ use crate::ucptrie_source::pattern::Number::Decimal;
 use crate::ucptrie_source::pattern::{push_named, push_number, push_pattern};
 use crate::ucptrie_tables::written::Form;
 
-/// How many names are written at most. More are no enum that a program would use.
-pub(crate) const MOST: usize = 4096;
+/// How many names an enum is made of at most. More are no enum that a program would use.
+pub const MOST: usize = 4096;
 
 /// Returns the bytes of a name, or 0 if it is a number, which has decimal digits alone: a value is
 /// named by its number only if it has no other name.
-fn name_length(name: &[u8]) -> usize {
+pub(crate) fn name_length(name: &[u8]) -> usize {
     if are_digits(name) { 0 } else { name.len() }
 }
 

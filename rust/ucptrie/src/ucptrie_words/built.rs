@@ -12,8 +12,9 @@ use bekstaudi::zerovec::ZeroVec;
 ///
 /// # Errors
 /// Returns [`WordsFault::Line`] for the first line that has a fault or repeats a key, counted from
-/// 1, [`WordsFault::TooLarge`] if the trie may need more than `0x7FFF_FFFF` units, and
-/// [`WordsFault::Memory`] if an allocation fails.
+/// 1, [`WordsFault::TooLarge`] if and only if no line has a fault and the entries may need more than
+/// `0x7FFF_FFFF` units (two for each unit of a key, and sixteen for each entry), and
+/// [`WordsFault::Memory`] if an allocation fails, even if the entries are too many.
 pub fn trie_of_words(input: &[u8]) -> Result<Char16Trie<'static>, WordsFault> {
     let builder = read_words(input)?;
     match builder.try_build() {

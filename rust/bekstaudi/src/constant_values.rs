@@ -1,0 +1,150 @@
+//! Enums as values of tries.
+
+/// Returns ranges that contain the same numbers, ascending and joined, and then empty ones; and how
+/// many are not empty. For [`trie_values!`](crate::trie_values).
+#[doc(hidden)]
+#[must_use]
+pub const fn joined<const N: usize>(mut numbers: [u32; N]) -> ([(u32, u32); N], usize) {
+    let mut ranges = [(1, 0); N];
+    let mut count: usize = 0;
+    let mut i = 0;
+    while i < N {
+        let mut place = i;
+        while place > 0 && numbers[place - 1] > numbers[place] {
+            (numbers[place - 1], numbers[place]) = (numbers[place], numbers[place - 1]);
+            place -= 1;
+        }
+        i += 1;
+    }
+    let mut i = 0;
+    while i < N {
+        if count > 0 && ranges[count - 1].1 == numbers[i].wrapping_sub(1) {
+            ranges[count - 1].1 = numbers[i];
+        } else {
+            ranges[count] = (numbers[i], numbers[i]);
+            count += 1;
+        }
+        i += 1;
+    }
+    (ranges, count)
+}
+
+/// Declares an enum whose values a trie can store, also in a constant.
+///
+/// The type after the name, `u8`, `u16` or `u32`, is that of a value's cell. Each value has a
+/// number, a literal that is not negative. Attributes on the enum, such as more derives, and on its
+/// values apply to them, except that `#[cfg(..)]` on a value does not compile.
+///
+/// Up to 256 values, a look-up takes as long as one of a number. With more, it takes a call.
+///
+/// The enum gets [`AsULE`](crate::zerovec::ule::AsULE),
+/// [`TrieValue`](crate::codepointtrie::TrieValue), [`ConstCells`](crate::zerovec::ConstCells) and
+/// [`ConstValue`](crate::codepointtrie::ConstValue), beside `Clone`, `Copy`, `Debug`, `PartialEq`,
+/// `Eq`, `PartialOrd`, `Ord` and `Hash`.
+///
+/// ```
+/// use bekstaudi::codepointtrie::{CodePointTrieBuilder, TrieType};
+///
+/// bekstaudi::trie_values! {
+///     /// A kind of character.
+///     pub enum Kind: u8 {
+///         /// Neither of the others.
+///         Other = 0,
+///         Letter = 1,
+///         Digit = 2,
+///     }
+/// }
+///
+/// let mut builder = CodePointTrieBuilder::new(Kind::Other, Kind::Other, TrieType::Small);
+/// builder.set_range_value(0x30..=0x39, Kind::Digit);
+/// assert_eq!(builder.build().get('7'), Kind::Digit);
+/// ```
+#[macro_export]
+macro_rules! trie_values {
+    (
+        $(#[$meta:meta])*
+        $vis:vis enum $value:ident: $number:ident {
+            $($(#[$inner:meta])* $name:ident = $n:literal),+ $(,)?
+        }
+    ) => {
+        $(#[$meta])*
+        #[derive(Clone, Copy, Debug, PartialEq, Eq, PartialOrd, Ord, Hash)]
+        #[repr($number)]
+        $vis enum $value {
+            $($(#[$inner])* $name = $n),+
+        }
+
+        #[allow(deprecated)]
+        impl $crate::zerovec::ule::AsULE for $value {
+            const WIDTH: usize = ::core::mem::size_of::<$number>();
+
+            #[inline]
+            fn to_unaligned(self) -> [u8; 4] {
+                (self as u32).to_le_bytes()
+            }
+
+            // The compiler turns the look-up of a few values into a comparison. It makes a call of it
+            // if it is not forced to, and takes long for many values if it is.
+            #[inline(always)]
+            fn from_unaligned(bytes: &[u8]) -> ::core::option::Option<Self> {
+                #[inline(always)]
+                fn value_of(number: $number) -> ::core::option::Option<$value> {
+                    match number {
+                        $($n => ::core::option::Option::Some($value::$name),)+
+                        _ => ::core::option::Option::None,
+                    }
+                }
+
+                #[inline(never)]
+                fn value_of_many(number: $number) -> ::core::option::Option<$value> {
+                    value_of(number)
+                }
+
+                let mut cell = [0; ::core::mem::size_of::<$number>()];
+                cell.copy_from_slice(&bytes[..::core::mem::size_of::<$number>()]);
+                let number = <$number>::from_le_bytes(cell);
+                if const { [$($n as $number),+].len() <= 256 } {
+                    value_of(number)
+                } else {
+                    value_of_many(number)
+                }
+            }
+        }
+
+        impl $crate::codepointtrie::TrieValue for $value {
+            type TryFromU32Error = $crate::codepointtrie::NotAValue;
+
+            #[inline(always)]
+            fn to_u32(self) -> u32 {
+                self as u32
+            }
+
+            #[inline]
+            fn try_from_u32(
+                number: u32,
+            ) -> ::core::result::Result<Self, $crate::codepointtrie::NotAValue> {
+                const WIDTH: usize = ::core::mem::size_of::<$number>();
+                let bytes = number.to_le_bytes();
+                let (cell, above) = bytes.split_at(WIDTH);
+                match <Self as $crate::zerovec::ule::AsULE>::from_unaligned(cell) {
+                    ::core::option::Option::Some(value) if above.iter().all(|byte| *byte == 0) => {
+                        ::core::result::Result::Ok(value)
+                    }
+                    _ => ::core::result::Result::Err($crate::codepointtrie::NotAValue),
+                }
+            }
+        }
+
+        impl $crate::zerovec::ConstCells for $value {
+            const CELLS: &'static [(u32, u32)] = {
+                const NUMBERS: &[u32] = &[$($n),+];
+                #[allow(long_running_const_eval)]
+                const JOINED: &([(u32, u32); NUMBERS.len()], usize) =
+                    &$crate::zerovec::joined([$($n),+]);
+                JOINED.0.split_at(JOINED.1).0
+            };
+        }
+
+        impl $crate::codepointtrie::ConstValue for $value {}
+    };
+}
