@@ -13,6 +13,7 @@ use ucd_files::kind::are_digits;
 use ucd_files::missing_values::{MissingValue, missing_value, only_missing, only_name};
 use ucd_files::names::Numbering;
 use ucd_files::order::text_of_line;
+use ucd_files::statement::Columns;
 use ucd_files::title::title_of;
 use ucptab_table::input::first_line;
 use ucptab_table::rows::{after, code_points_of, content_of, trimmed};
@@ -137,15 +138,20 @@ fn has_value(file: &UnicodeFile<'_>, value: &[u8]) -> bool {
     false
 }
 
+/// Returns the value of a line, if it is an `@missing` line of the property.
+fn value_in_missing<'f>(columns: Columns<'_>, line: &'f [u8]) -> Option<&'f [u8]> {
+    missing_of(line)?;
+    text_of_line(columns, line)
+}
+
 /// Returns the value of the first `@missing` line of the property.
 fn first_missing<'f>(file: &UnicodeFile<'f>) -> Option<&'f [u8]> {
     let mut rest = file.bytes;
     while let Some((line, after)) = first_line(rest) {
         rest = after;
-        if missing_of(line).is_some() {
-            if let Some(value) = text_of_line(file.columns, line) {
-                return Some(value);
-            }
+        let value = value_in_missing(file.columns, line);
+        if value.is_some() {
+            return value;
         }
     }
     None

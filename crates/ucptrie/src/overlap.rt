@@ -1,7 +1,7 @@
 //! Which code point has two values in a file, as in files of several properties.
 use icu_trie_builder::writes::Write;
 use std::alloc::{AllocError, Global};
-use ucd_files::choice::{by_names, own_choice};
+use ucd_files::choice::{Choice, by_names, own_choice};
 use ucd_files::fields::ends_in_first;
 use ucd_files::names::Numbering;
 use ucd_files::statement::{Columns, Statement, statement_of};
@@ -115,9 +115,19 @@ pub fn find_conflict(
     Ok(None)
 }
 
+/// Returns the first code point that has two different values by these names, and their lines.
+fn conflict_of_names(
+    alloc: Global,
+    file: &[u8],
+    columns: Columns<'_>,
+    choice: &Choice<'_>,
+) -> Result<Option<Conflict>, AllocError> {
+    find_conflict(alloc, file, columns, by_names(choice))
+}
+
 /// Returns the first code point that has two different texts in field 1, and their lines.
 pub fn conflict_of_texts(alloc: Global, file: &[u8]) -> Result<Option<Conflict>, AllocError> {
     let columns = Columns::Field(1);
     let choice = own_choice(alloc, file, columns)?;
-    find_conflict(alloc, file, columns, by_names(&choice))
+    conflict_of_names(alloc, file, columns, &choice)
 }

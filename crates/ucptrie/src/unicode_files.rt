@@ -293,14 +293,14 @@ fn columns_of_unihan<'a>(
 }
 
 /// Returns where the lines of a file have their values. `name` is what it was read from.
-fn columns<'a>(
+fn columns<'f, 'a: 'f>(
     alloc: Global,
     matches: &ArgMatches<'a>,
     aliases: &Aliases,
     kind: FileKind,
     name: &str,
-    file: &'a [u8],
-) -> Result<Columns<'a>, Fault> {
+    file: &'f [u8],
+) -> Result<Columns<'f>, Fault> {
     if !has_values(file) {
         return Err(about(
             alloc,
