@@ -71,7 +71,7 @@ EDITS = {
     "ucptrie/sets": [(r"\bfn set_form<'a>(\(matches: &ArgMatches\) -> SetForm)<'a>", r"fn set_form\1<'_>", 1)],
     "ucptrie/tables": [(r"\bfn form<'a>(\(matches: &ArgMatches\) -> Form)<'a>", r"fn form\1<'_>", 1)],
     "ucptrie/unicode_files": [
-        (r"(\bfn columns<'a>\(\s*matches: &)(ArgMatches)", r"\1'a \2", 1),
+        (r"(\bfn columns)<'f, 'a: 'f>(\(\s*matches: &)(ArgMatches)", r"\1<'f>\2'f \3", 1),
         (r"\bfn unicode_file<'f, 'a: 'f>(\([^)]*?matches: &)(ArgMatches)", r"fn unicode_file<'f>\1'f \2", 1),
     ],
     "ucptrie/word_lists": [(r"\bfn form<'a>(\(matches: &ArgMatches\) -> Form)<'a>", r"fn form\1<'_>", 1)],

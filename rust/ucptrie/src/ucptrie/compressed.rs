@@ -70,17 +70,17 @@ pub fn expect_line_feeds(name: &str, text: &[u8]) -> Result<(), Fault> {
 /// hide what comes after it, as in a comment.
 fn line_with_cr(text: &[u8]) -> Option<u64> {
     let mut number = 1u64;
-    let mut rest = text;
-    while let [byte, after @ ..] = rest {
-        if *byte == b'\r' && !after.starts_with(b"\n".as_slice()) {
+    let mut is_cr = false;
+    for byte in text {
+        if is_cr && *byte != b'\n' {
             return Some(number);
         }
         if *byte == b'\n' {
             number = number.saturating_add(1);
         }
-        rest = after;
+        is_cr = *byte == b'\r';
     }
-    None
+    if is_cr { Some(number) } else { None }
 }
 
 /// Returns the line about a CR in a line of an input.

@@ -10,6 +10,7 @@ use crate::ucd_files::kind::are_digits;
 use crate::ucd_files::missing_values::{MissingValue, missing_value, only_missing, only_name};
 use crate::ucd_files::names::Numbering;
 use crate::ucd_files::order::text_of_line;
+use crate::ucd_files::statement::Columns;
 use crate::ucd_files::title::title_of;
 use crate::ucptab_table::input::first_line;
 use crate::ucptab_table::rows::{after, code_points_of, content_of, trimmed};
@@ -132,15 +133,20 @@ fn has_value(file: &UnicodeFile<'_>, value: &[u8]) -> bool {
     false
 }
 
+/// Returns the value of a line, if it is an `@missing` line of the property.
+fn value_in_missing<'f>(columns: Columns<'_>, line: &'f [u8]) -> Option<&'f [u8]> {
+    missing_of(line)?;
+    text_of_line(columns, line)
+}
+
 /// Returns the value of the first `@missing` line of the property.
 fn first_missing<'f>(file: &UnicodeFile<'f>) -> Option<&'f [u8]> {
     let mut rest = file.bytes;
     while let Some((line, after)) = first_line(rest) {
         rest = after;
-        if missing_of(line).is_some() {
-            if let Some(value) = text_of_line(file.columns, line) {
-                return Some(value);
-            }
+        let value = value_in_missing(file.columns, line);
+        if value.is_some() {
+            return value;
         }
     }
     None

@@ -4,7 +4,7 @@ use crate::host::{HostRuntime, Text};
 use crate::support::AllocError;
 #[allow(unused_imports)]
 use crate::support::prelude::*;
-use crate::ucd_files::choice::{by_names, own_choice};
+use crate::ucd_files::choice::{Choice, by_names, own_choice};
 use crate::ucd_files::fields::ends_in_first;
 use crate::ucd_files::names::Numbering;
 use crate::ucd_files::statement::{Columns, Statement, statement_of};
@@ -117,9 +117,18 @@ pub fn find_conflict(
     Ok(None)
 }
 
+/// Returns the first code point that has two different values by these names, and their lines.
+fn conflict_of_names(
+    file: &[u8],
+    columns: Columns<'_>,
+    choice: &Choice<'_>,
+) -> Result<Option<Conflict>, AllocError> {
+    find_conflict(file, columns, by_names(choice))
+}
+
 /// Returns the first code point that has two different texts in field 1, and their lines.
 pub fn conflict_of_texts(file: &[u8]) -> Result<Option<Conflict>, AllocError> {
     let columns = Columns::Field(1);
     let choice = own_choice(file, columns)?;
-    find_conflict(file, columns, by_names(&choice))
+    conflict_of_names(file, columns, &choice)
 }

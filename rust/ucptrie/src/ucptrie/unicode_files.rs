@@ -288,13 +288,13 @@ fn columns_of_unihan<'a>(property: &'a str, name: &str, file: &[u8]) -> Result<C
 }
 
 /// Returns where the lines of a file have their values. `name` is what it was read from.
-fn columns<'a>(
-    matches: &'a ArgMatches,
+fn columns<'f>(
+    matches: &'f ArgMatches,
     aliases: &Aliases,
     kind: FileKind,
     name: &str,
-    file: &'a [u8],
-) -> Result<Columns<'a>, Fault> {
+    file: &'f [u8],
+) -> Result<Columns<'f>, Fault> {
     if !has_values(file) {
         return Err(about(
             name,
