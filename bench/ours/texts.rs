@@ -65,13 +65,17 @@ pub extern "C" fn ours_indices_8(parts: &Parts<'_>, text: &[u8], turns: usize) -
 
 /// Adds the byte offset of the first character with a value to `sum`, or the length of the text.
 #[inline(never)]
-fn add_found<const SQUARED: bool>(
-    trie: &CodePointTrie<'_, u8>,
-    text: &str,
-    wanted: u64,
-    sum: u64,
-) -> u64 {
-    match find_value(trie, text, |value| power::<u8, SQUARED>(value) == wanted) {
+fn add_found(trie: &CodePointTrie<'_, u8>, text: &str, wanted: u64, sum: u64) -> u64 {
+    match find_value(trie, text, |value| power::<u8, false>(value) == wanted) {
+        Some(found) => sum.wrapping_add(found.offset as u64),
+        None => sum.wrapping_add(text.len() as u64),
+    }
+}
+
+/// Adds the byte offset of the first character whose value has this square.
+#[inline(never)]
+fn add_found_square(trie: &CodePointTrie<'_, u8>, text: &str, wanted: u64, sum: u64) -> u64 {
+    match find_value(trie, text, |value| power::<u8, true>(value) == wanted) {
         Some(found) => sum.wrapping_add(found.offset as u64),
         None => sum.wrapping_add(text.len() as u64),
     }
@@ -85,21 +89,23 @@ pub extern "C" fn ours_find_8(parts: &Parts<'_>, text: &[u8], turns: usize) -> u
     };
     let mut sum = 0u64;
     for wanted in 0..turns / 2 {
-        sum = add_found::<false>(&trie, text, wanted as u64, sum);
-        sum = add_found::<true>(&trie, text, wanted as u64, sum);
+        sum = add_found(&trie, text, wanted as u64, sum);
+        sum = add_found_square(&trie, text, wanted as u64, sum);
     }
     sum
 }
 
 /// Adds the same offset to `sum`, as the length of the span of other values.
 #[inline(never)]
-fn add_span<const SQUARED: bool>(
-    trie: &CodePointTrie<'_, u8>,
-    text: &str,
-    wanted: u64,
-    sum: u64,
-) -> u64 {
-    let span = span_of_values(trie, text, |value| power::<u8, SQUARED>(value) != wanted);
+fn add_span(trie: &CodePointTrie<'_, u8>, text: &str, wanted: u64, sum: u64) -> u64 {
+    let span = span_of_values(trie, text, |value| power::<u8, false>(value) != wanted);
+    sum.wrapping_add(span as u64)
+}
+
+/// Adds the length of the span of values with other squares.
+#[inline(never)]
+fn add_span_of_squares(trie: &CodePointTrie<'_, u8>, text: &str, wanted: u64, sum: u64) -> u64 {
+    let span = span_of_values(trie, text, |value| power::<u8, true>(value) != wanted);
     sum.wrapping_add(span as u64)
 }
 
@@ -111,8 +117,8 @@ pub extern "C" fn ours_span_8(parts: &Parts<'_>, text: &[u8], turns: usize) -> u
     };
     let mut sum = 0u64;
     for wanted in 0..turns / 2 {
-        sum = add_span::<false>(&trie, text, wanted as u64, sum);
-        sum = add_span::<true>(&trie, text, wanted as u64, sum);
+        sum = add_span(&trie, text, wanted as u64, sum);
+        sum = add_span_of_squares(&trie, text, wanted as u64, sum);
     }
     sum
 }
