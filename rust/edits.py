@@ -25,25 +25,18 @@ UNTYPED_BODIES = """
 EDITS = {
     # The kit's library needs `std::simd`.
     "icu_collections_c/well_formed": [(r"simdutf8::is_utf8\(", "is_utf8_by_position(", 1)],
-    # Reads of cells, by the functions of rust/support/cells.
-    "icu_zerovec/cells": [
-        (r"let start = i \* T::WIDTH;\n.*", "T::from_unaligned(cell(bytes, T::WIDTH, i)?)", 1),
-        (r"match read\(bytes, i\) \{", "match T::from_unaligned(proved_cell(bytes, T::WIDTH, i)) {", 1),
-        (r"bytes\.split_at\(T::WIDTH\);", "bytes.split_at_checked(T::WIDTH)?;", 1),
+    # rustc gets the bodies with a test, or with the feature `proved-reads` those with a proof.
+    "icu_zerovec/raw": [
+        (r"mod proved;\n", '#[cfg(feature = "proved-reads")]\nmod proved;\n', 1),
+        (r"mod tested;\n", '#[cfg(not(feature = "proved-reads"))]\nmod tested;\n', 1),
         (
-            r"(?=    if len::<T>\(bytes\) == 0 \{\n +return Err\(0\);)",
-            '    #[cfg(not(feature = "proved-reads"))]\n'
-            "    if let Some(found) = searched(bytes, T::WIDTH, |cell| match T::from_unaligned(cell) {\n"
-            "        Some(value) => value.cmp(x),\n        None => unreachable!(),\n    }) {\n"
-            "        return found;\n    }\n",
+            r"(pub\(crate\) use )proved(::\{[^}]*\};\n)",
+            r'#[cfg(feature = "proved-reads")]\n\1proved\2#[cfg(not(feature = "proved-reads"))]\n\1tested\2',
             1,
         ),
-        (
-            r"(?=use crate::ule)",
-            "use crate::support::cells::{cell, proved_cell};\n"
-            '#[cfg(not(feature = "proved-reads"))]\nuse crate::support::cells::searched;\n',
-            1,
-        ),
+    ],
+    "icu_zerovec/raw/proved": [
+        (r"&bytes\[start\.\.start \+ width\]", "crate::support::cells::unchecked(bytes, start, width)", 1),
     ],
     # All boundaries are packed by rust/support/boundaries.
     "icu_invlist/codepointinvlist/cpinvlist/packing": [

@@ -45,6 +45,16 @@ fn no_cell() -> ! {
     unreachable!()
 }
 
+/// Returns `width` bytes from `start` on, which are proved to be there, without a test.
+#[cfg(feature = "proved-reads")]
+#[inline(always)]
+pub(crate) fn unchecked(bytes: &[u8], start: usize, width: usize) -> &[u8] {
+    debug_assert!(start + width <= bytes.len());
+    // SAFETY: the callers are those that rust/README.md lists, each with the reason why the index
+    // is in bounds whatever a user-defined type returns.
+    unsafe { bytes.get_unchecked(start..start + width) }
+}
+
 /// Returns a cell whose index is proved to be in bounds, without checking it.
 ///
 /// The number of cells depends on a type's width, so a vector of one type is never accepted as one

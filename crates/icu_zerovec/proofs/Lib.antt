@@ -1,8 +1,9 @@
 pub mod CallerLemmas
 pub mod CanonicalLemmas
 pub mod CellsLemmas
-mod Searches
 mod SameLemmas
 pub mod Converted
 pub mod FirstFaultLemmas
 pub mod DrainLemmas
+mod Chunks
+mod CellSearches

@@ -6,4 +6,4 @@ pub mod Slice
 pub mod Canonical
 pub mod CodePoints
 pub mod FirstFault
-pub mod Inside
+pub mod CellOrder

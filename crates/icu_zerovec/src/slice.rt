@@ -1,5 +1,5 @@
 //! Views of packed vectors, with the same queries.
-ghost use Rattle.std.specs.Prelude.{◌≡◌, ◌-◌, ◌*◌, ◌^◌, ◌<◌, [], ◌∷◌, length, slice_get, Option, Some, None, IsTrue, ◌↔◌, ⊤};
+ghost use Rattle.std.specs.Prelude.{◌≡◌, ◌-◌, ◌*◌, ◌^◌, ◌<◌, [], ◌∷◌, length, slice_get, Option, Some, None, IsTrue, ◌↔◌, ⊤, ◌≤◌, nat_lt, if◌then◌else◌};
 ghost use Rattle.std.specs.Cmp.{on_equiv, on_per, partial_equiv_from_equiv};
 ghost use Rattle.std.specs.Cmp.Lexicographic.{pointwise, lists_per, lists_equiv, nat_list_eq_equiv, bytes_decides};
 ghost use Rattle.std.specs.Hash as fed;
@@ -8,10 +8,10 @@ ghost use Rattle.std.specs.List.Sorted.{IsSearchInRange, IsBinarySearchResult};
 ghost use Rattle.std.specs.Ordering.{on};
 ghost use Rattle.icu_zerovec.specs.Cells.{IsPacked, same_bytes, one_write};
 
-use crate::cells;
 use crate::iter::Iter;
 use crate::ule::AsULE;
 use crate::vec::ZeroVec;
+use crate::{cells, search};
 use std::alloc::AllocError;
 use std::fmt;
 use std::hash::{Hash, Hasher};
@@ -101,6 +101,16 @@ impl<'a, T: AsULE> ZeroSlice<'a, T> {
         cells::at(self.bytes, i)
     }
 
+    /// Returns the value at index `i` if `i` is less than `end`, and otherwise `None`. `end` must be at
+    /// most the length. One test finds out both whether `i` is below `end` and whether there is a value.
+    #[inline(always)]
+    pub fn get_below(&self, end: usize, i: usize) -> Option<T>
+        requires { end ≤ length (slice_values self.now) }
+        ensures { result ≡ (if nat_lt i end then slice_get (slice_values self.now) i else None) }
+    {
+        cells::get_below(self.bytes, end, i)
+    }
+
     /// Returns the first value, or `None` if there are no values.
     #[inline]
     pub fn first(&self) -> Option<T>
@@ -144,7 +154,7 @@ impl<'a, T: AsULE> ZeroSlice<'a, T> {
         ensures position { IsBinarySearchResult (λ y. T.cmp y x.now)
             (slice_values self.now) result }
     {
-        cells::binary_search(self.bytes, x)
+        search::binary_search(self.bytes, x)
     }
 
     /// Returns the packed bytes of the values, in order.

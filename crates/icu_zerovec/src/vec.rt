@@ -3,11 +3,11 @@ ghost use Rattle.std.specs.Iterator.{Drains, IsFinite};
 ghost use Rattle.std.specs.List.Sorted.{IsSearchInRange, IsBinarySearchResult};
 ghost use Rattle.std.specs.Prelude.{◌≡◌, ◌-◌, ◌*◌, ◌^◌, ◌<◌, List, [], length, slice_get, Option, None, IfOk, IfErr, IsTrue, ◌↔◌};
 
-use crate::cells;
 use crate::iter::Iter;
 use crate::memory::MemoryError;
 use crate::slice::ZeroSlice;
 use crate::ule::{AsULE, UleError};
+use crate::{cells, search};
 use std::alloc::Global;
 use std::fmt;
 use std::marker::{Model, PhantomData};
@@ -283,7 +283,7 @@ impl<'a, T: AsULE> ZeroVec<'a, T> {
         ensures bound { IsSearchInRange result (length self.now) }
         ensures position { IsBinarySearchResult (λ y. T.cmp y x.now) self.now result }
     {
-        cells::binary_search(self.bytes(), x)
+        search::binary_search(self.bytes(), x)
     }
 
     /// Returns the packed bytes of the values, in order, as they are stored.
