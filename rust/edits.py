@@ -30,8 +30,8 @@ EDITS = {
         (r"mod proved;\n", '#[cfg(feature = "proved-reads")]\nmod proved;\n', 1),
         (r"mod tested;\n", '#[cfg(not(feature = "proved-reads"))]\nmod tested;\n', 1),
         (
-            r"(pub\(crate\) use )proved(::\{[^}]*\};\n)",
-            r'#[cfg(feature = "proved-reads")]\n\1proved\2#[cfg(not(feature = "proved-reads"))]\n\1tested\2',
+            r"pub use proved(::\{[^}]*\};\n)",
+            r'#[cfg(feature = "proved-reads")]\npub(crate) use proved\1#[cfg(not(feature = "proved-reads"))]\npub(crate) use tested\1',
             1,
         ),
     ],

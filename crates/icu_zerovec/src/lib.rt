@@ -26,7 +26,7 @@ mod equality;
 mod integers;
 pub mod iter;
 pub mod memory;
-mod raw;
+pub mod raw;
 mod search;
 pub mod slice;
 pub mod ule;

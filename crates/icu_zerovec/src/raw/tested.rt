@@ -20,7 +20,7 @@ fn cell_at_of<const WIDTH: usize>(bytes: &[u8], i: usize) -> &[u8]
 
 /// Returns cell `i` of cells of `width` bytes.
 #[inline(always)]
-pub(crate) fn cell_at(bytes: &[u8], width: usize, i: usize) -> &[u8]
+pub fn cell_at(bytes: &[u8], width: usize, i: usize) -> &[u8]
     requires some { 0 < width }
     requires few { width ≤ 4 }
     requires within { i < length bytes.now / width }
@@ -63,7 +63,7 @@ fn cell_below_of<const WIDTH: usize>(bytes: &[u8], end: usize, i: usize) -> Opti
 
 /// Returns cell `i` of the first `end` cells of `width` bytes, or `None` if `i` is not less than `end`.
 #[inline(always)]
-pub(crate) fn cell_below(bytes: &[u8], width: usize, end: usize, i: usize) -> Option<&[u8]>
+pub fn cell_below(bytes: &[u8], width: usize, end: usize, i: usize) -> Option<&[u8]>
     requires some { 0 < width }
     requires few { width ≤ 4 }
     requires within { end ≤ length bytes.now / width }
