@@ -23,8 +23,11 @@ UNTYPED_BODIES = """
 """
 # Changes to one source: pattern, replacement, and how often the pattern occurs.
 EDITS = {
-    # The kit's library needs `std::simd`.
-    "icu_collections_c/well_formed": [(r"simdutf8::is_utf8\(", "is_utf8_by_position(", 1)],
+    # rustc gets the test of UTF-8 that needs no `std::simd`.
+    "icu_collections_c/well_formed": [
+        (r"mod proved;\n", "", 1),
+        (r"use proved::", "use tested::", 1),
+    ],
     # rustc gets the bodies with a test, or with the feature `proved-reads` those with a proof.
     "icu_zerovec/raw": [
         (r"mod proved;\n", '#[cfg(feature = "proved-reads")]\nmod proved;\n', 1),
@@ -72,21 +75,6 @@ EDITS = {
             "let units = units.as_bytes().as_chunks::<2>().0;\n    Some(u16::from_le_bytes(*units.get(place)?))\n",
             1,
         ),
-    ],
-    "icu_collections_c/cells": [
-        (r"let start = i \* T::WIDTH;\n +", "", 1),
-        (r"&bytes\[start\.\.start \+ T::WIDTH\]", "proved_cell(bytes, T::WIDTH, i)", 1),
-        (
-            r"(?s)if i >= bytes.len\(\) / T::WIDTH \{.*?Some\(value_there\(bytes, i\)\)",
-            "T::from_unaligned(cell(bytes, T::WIDTH, i)?)",
-            1,
-        ),
-        (r"(?=use icu_trie_core::cells)", "use crate::support::cells::{cell, proved_cell};\n", 1),
-        (r"(count_of::<T>\(bytes\))\.saturating_sub\(1\)", r"\1.checked_sub(1)?", 1),
-    ],
-    # What makes the C library fast: the error value is a cold path.
-    "icu_collections_c/tries": [
-        (r"None => last_value\(values\),", "None => {\n            crate::cold();\n            last_value(values)\n        }", 1),
     ],
     # One test finds out both whether a block is in the fast index and whether it has a cell, and the
     # same for the value of an ASCII character.

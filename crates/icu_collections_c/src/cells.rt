@@ -18,6 +18,7 @@ use icu_trie_core::lookup::look_up;
 use icu_trie_core::range::CodePointMapRange;
 use icu_trie_core::value::TrieValue;
 use icu_trie_core::walk::walk;
+use icu_zerovec::raw::cell_at;
 use icu_zerovec::ule::AsULE;
 use std::marker::{Brand, PhantomData};
 use std::sync::ledger::{Blank, Ledger};
@@ -49,6 +50,11 @@ impl UnsignedValue for u32 {
     ghost number_is = { fitting-number (2 ^ 32) };
 }
 
+/// Tells the compiler that the path on which it is called is rare.
+#[cold]
+#[inline(always)]
+pub(crate) fn cold() {}
+
 /// Returns how many whole cells the bytes have.
 #[inline(always)]
 pub(crate) fn count_of<T: UnsignedValue>(bytes: &[u8]) -> usize
@@ -57,15 +63,13 @@ pub(crate) fn count_of<T: UnsignedValue>(bytes: &[u8]) -> usize
     bytes.len() / T::WIDTH
 }
 
-/// Returns the value of the cell at index `i`, which has to exist. The proved library has no test,
-/// since any bytes of a cell are a value.
+/// Returns the value of the cell at index `i`, which has to exist. Any bytes of a cell are a value.
 #[inline(always)]
 pub(crate) fn value_there<T: UnsignedValue>(bytes: &[u8], i: usize) -> T
     requires { i < length bytes.now / T.WIDTH }
     ensures { slice_get (values_of T.unpack T.WIDTH bytes.now) i ≡ Some result }
 {
-    let start = i * T::WIDTH;
-    match T::from_unaligned(&bytes[start..start + T::WIDTH]) {
+    match T::from_unaligned(cell_at(bytes, T::WIDTH, i)) {
         Some(value) => value,
         None => unreachable!(),
     }
@@ -87,7 +91,7 @@ pub(crate) fn value_at<T: UnsignedValue>(bytes: &[u8], i: usize) -> Option<T>
 pub(crate) fn last_value<T: UnsignedValue>(bytes: &[u8]) -> Option<T>
     ensures { result ≡ last_cell (values_of T.unpack T.WIDTH bytes.now) }
 {
-    value_at(bytes, count_of::<T>(bytes).saturating_sub(1))
+    value_at(bytes, count_of::<T>(bytes).checked_sub(1)?)
 }
 
 /// The index and the data of a trie, read in place from bytes.

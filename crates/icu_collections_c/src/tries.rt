@@ -8,7 +8,7 @@ ghost use Rattle.icu_trie.specs.Parts.{last_cell, trie_value};
 ghost use Rattle.icu_collections_c.specs.Buffers.{written};
 ghost use Rattle.icu_collections_c.specs.BytesTrie.{cells_of, header_of, parts_in, value_at};
 
-use crate::cells::{UnsignedValue, last_value, look_up_in};
+use crate::cells::{UnsignedValue, cold, last_value, look_up_in};
 use icu_trie_core::header::{CodePointTrieHeader, TrieType};
 
 /// A trie as C sees it, passed by value (`UCPTrie`). Its cells stay in the caller's bytes, which
@@ -78,7 +78,10 @@ pub(crate) fn value_of<T: UnsignedValue>(
 {
     match look_up_in(header, index, values, c) {
         Some(value) => Some(value),
-        None => last_value(values),
+        None => {
+            cold();
+            last_value(values)
+        }
     }
 }
 

@@ -1,6 +1,6 @@
 use Rattle.std.proofs.Common.{arith, rules}
 use Rattle.icu_collections_c.proofs.Utf8PositionLemmas.{text_by_position}
-use Rattle.icu_collections_c.proofs.well_formed.are_characters.Goals as goal
+use Rattle.icu_collections_c.proofs.well_formed.tested.are_characters.Goals as goal
 
 pub returns : goal.returns
 returns c =

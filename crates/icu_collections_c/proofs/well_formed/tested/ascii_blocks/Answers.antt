@@ -1,7 +1,7 @@
 use Rattle.std.proofs.Common.{◌≡◌, ◌+◌, ◌-◌, sym, subst, arith, take-add}
 use Rattle.std.specs.Str.{IsAscii}
 use Rattle.simdutf8.proofs.StepsLemmas.{IsAscii-append}
-use Rattle.icu_collections_c.proofs.well_formed.ascii_blocks.Goals as goal
+use Rattle.icu_collections_c.proofs.well_formed.tested.ascii_blocks.Goals as goal
 
 pub loop-end-preserved : goal.loop-end-preserved
 loop-end-preserved c =

@@ -1,6 +1,6 @@
 use Rattle.std.proofs.Common.{arith}
 use Rattle.icu_collections_c.proofs.Utf8PositionLemmas.{one_more}
-use Rattle.icu_collections_c.proofs.well_formed.has_fault.Goals as goal
+use Rattle.icu_collections_c.proofs.well_formed.tested.has_fault.Goals as goal
 
 pub loop-i-preserved : goal.loop-i-preserved
 loop-i-preserved c =

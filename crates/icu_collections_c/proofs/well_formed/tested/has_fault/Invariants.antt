@@ -1,6 +1,6 @@
 use Rattle.std.proofs.Common.{◌≡◌, ℕ, ◌+◌, ◌<◌, ◌↔◌, slice_index, false}
 use Rattle.simdutf8.specs.Steps.{Step}
-use Rattle.icu_collections_c.proofs.well_formed.has_fault.Given as goal
+use Rattle.icu_collections_c.proofs.well_formed.tested.has_fault.Given as goal
 
 -- No byte before the current one is a fault, if none was found.
 abbrev pub invariant-loop-i : goal.invariant-loop-i

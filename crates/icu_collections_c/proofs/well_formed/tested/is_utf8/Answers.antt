@@ -1,7 +1,7 @@
 use Rattle.std.proofs.Common.{drop, take-append-drop}
 use Rattle.std.proofs.lemmas.List.{take_rest}
 use Rattle.simdutf8.proofs.StepsLemmas.{IsUtf8-after_ascii}
-use Rattle.icu_collections_c.proofs.well_formed.is_utf8_by_position.Goals as goal
+use Rattle.icu_collections_c.proofs.well_formed.tested.is_utf8.Goals as goal
 
 pub returns : goal.returns
 returns c =
