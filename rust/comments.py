@@ -1,17 +1,8 @@
 """The comments of the Rust edition, which have its own names and do not mention clauses."""
 import re
-import textwrap
 
 from rules import FALLIBLE, TRIED
 
-# What docs say about clauses, which the Rust edition does not have.
-CLAUSES = [
-    r"(?:^| )(?:A clause|The clauses) .*?\.(?= |$)( That they .*? is in no clause\.)?",
-    r",? and a clause .*?(?=\.(?: |$))",
-    r": contracts name it .*?(?=\.(?: |$))",
-    r"(?:^| )In contracts, .*?\.(?= |$)",
-]
-WHOLE = {"break_long_words": False, "break_on_hyphens": False}
 DOC_RULES = [
     (r"\((?:alloc|Global)(?:, |(?=\)))", "("),
     (r"\b(vec!\[)in alloc; ", r"\1"),
@@ -67,17 +58,7 @@ def fences(text):
     return re.sub(r"```ignore(?=\s+//[/!] //)", "```text", text)
 
 
-def without_clauses(code):
-    """Removes from docs what they say about clauses, and fills the lines again."""
-
-    def told(found):
-        words = found[0].replace("///", " ")
-        if not re.search("clause|contracts", words):
-            return found[0]
-        words = re.sub("|".join(CLAUSES), "", " ".join(words.split())).strip()
-        head = found[1] + "/// "
-        return "".join(f"{head}{line}\n" for line in textwrap.wrap(words, 100 - len(head), **WHOLE))
-
-    code = re.sub(r"(?m)^( *)///(?= \S).*\n(?:\1/// \S.*\n)*", told, code)
-    code = re.sub(r"(?m)^( *///\n)\1+", r"\1", code)
+def without_contracts(code):
+    """Removes from docs the section `# Contract`, which says what a contract means."""
+    code = re.sub(r"(?m)^( *)/// # Contract\n(?:\1///(?! # ).*\n)*", "", code)
     return re.sub(r"(?m)(?:^ *///\n)+(?= *[^ /])", "", code)
