@@ -28,12 +28,13 @@ use std::marker::Model;
 /// bytes for each range up to 142 ranges. If more blocks than that are neither empty nor full, they
 /// take at most 64 bytes for each such block.
 ///
-/// In contracts, a frozen set is the list of the set's boundaries.
-///
 /// ```
 /// let letters = FrozenCodePointSet::freeze(alloc, &set)?;
 /// // letters.contains('a') is set.contains('a'), and so at every other code point
 /// ```
+///
+/// # Contract
+/// In contracts, a frozen set is the list of the set's boundaries.
 #[derive(Debug, Drop)]
 pub struct FrozenCodePointSet {
     set: CodePointInversionList<'static>,

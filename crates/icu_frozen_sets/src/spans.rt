@@ -19,6 +19,7 @@ pub struct Span<'t> {
 /// An iterator over the spans of a text, from its start to its end.
 /// [`spans`](crate::frozen::FrozenCodePointSet::spans) returns it.
 ///
+/// # Contract
 /// In contracts, it is the text that is left and the boundaries of the set.
 #[derive(Debug, Drop)]
 pub struct Spans<'s, 't> {

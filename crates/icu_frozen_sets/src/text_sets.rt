@@ -15,12 +15,13 @@ use std::marker::Model;
 /// A set of code points and strings for many look-ups (ICU: a frozen UnicodeSet with strings). It
 /// stores the set and a frozen set of its code points.
 ///
-/// In contracts, a frozen set is the boundaries and the strings of the set.
-///
 /// ```
 /// let words = FrozenCodePointSetAndStrings::freeze(alloc, &set)?;
 /// // words.contains_str("abc") is set.contains_str("abc"), and so of every other text
 /// ```
+///
+/// # Contract
+/// In contracts, a frozen set is the boundaries and the strings of the set.
 #[derive(Debug, Drop)]
 pub struct FrozenCodePointSetAndStrings {
     set: CodePointInversionListAndStringList<'static>,

@@ -32,8 +32,10 @@ use thiserror::Error;
 /// }
 /// ```
 ///
-/// The tries of a user-defined type must all have the type [`TRIE_TYPE`](Self::TRIE_TYPE):
-/// contracts name it `trie_type`, since they cannot name a constant of a type that borrows.
+/// The tries of a user-defined type must all have the type [`TRIE_TYPE`](Self::TRIE_TYPE).
+///
+/// # Contract
+/// Contracts name it `trie_type`, since they cannot name a constant of a type that borrows.
 pub trait TypedCodePointTrie<'trie, T: TrieValue> {
     /// The type of the trie.
     const TRIE_TYPE: TrieType;

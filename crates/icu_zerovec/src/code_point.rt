@@ -14,12 +14,13 @@ pub const CODE_POINT_LIMIT: u32 = 0x11_0000;
 /// A 24-bit number that may be a code point, such as one read from a file. It is stored in three
 /// bytes, and compared and hashed by its number.
 ///
-/// In contracts, it is its number.
-///
 /// ```
 /// let last = PotentialCodePoint::from_u24(0x10ffff);
 /// // PotentialCodePoint::try_from(0x1000000) is Err(0x1000000)
 /// ```
+///
+/// # Contract
+/// In contracts, it is its number.
 #[derive(Clone, Copy, Debug, PartialEq, Eq, PartialOrd, Ord, Hash)]
 pub struct PotentialCodePoint {
     number: u32,

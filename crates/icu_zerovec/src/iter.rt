@@ -12,6 +12,7 @@ use std::marker::{Model, PhantomData};
 ///
 /// It knows how many values are left.
 ///
+/// # Contract
 /// In contracts, it is the list of the values that are left.
 #[derive(Drop)]
 pub struct Iter<'a, T: AsULE> {

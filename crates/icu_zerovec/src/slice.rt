@@ -19,8 +19,6 @@ use std::marker::PhantomData;
 
 /// A view of a packed vector, with the queries of [`ZeroVec`]. It is `Copy`, like `&[T]`.
 ///
-/// In contracts, `slice_values` is the list of its values.
-///
 /// ```
 /// let numbers = ZeroVec::<u16>::parse_bytes(&[1, 0, 2, 0])?;
 /// let view = numbers.as_slice();
@@ -29,6 +27,9 @@ use std::marker::PhantomData;
 ///
 /// Two views are equal if and only if their lists of values are equal. Equal views have equal
 /// hashes.
+///
+/// # Contract
+/// In contracts, `slice_values` is the list of its values.
 pub struct ZeroSlice<'a, T: AsULE> {
     bytes: &'a [u8],
     of: PhantomData<T>,

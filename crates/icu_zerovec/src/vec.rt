@@ -37,8 +37,6 @@ impl<'a> Store<'a> {
 
 /// A vector of values that are stored as bytes, which it borrows or owns.
 ///
-/// In contracts, a vector is the list of its values.
-///
 /// ```
 /// let points = ZeroVec::<char>::parse_bytes(&[0x41, 0, 0, 0, 0xf6, 1])?;
 /// // points.first() is Some('A') and points.get(1) is Some('\u{1f600}')
@@ -47,6 +45,9 @@ impl<'a> Store<'a> {
 ///
 /// Two vectors are equal if and only if their lists of values are equal. Equal vectors have equal
 /// hashes. Whether a vector borrows or owns its bytes makes no difference.
+///
+/// # Contract
+/// In contracts, a vector is the list of its values.
 #[derive(Drop)]
 pub struct ZeroVec<'a, T: AsULE> {
     store: Store<'a>,
@@ -321,12 +322,13 @@ impl<'a, T: AsULE> ZeroVec<'a, T> {
     /// Converting `char` to `PotentialCodePoint` always succeeds; the other direction depends on
     /// the cells.
     ///
-    /// In contracts, the bytes of the result are determined by the values only if each value has
-    /// one encoding, and it is not stated that nothing is copied.
-    ///
     /// # Errors
     /// Returns `UleError::Cell` with the index of the first cell that is not a value of the other
     /// type. The vector is then dropped.
+    ///
+    /// # Contract
+    /// In contracts, the bytes of the result are determined by the values only if each value has
+    /// one encoding, and it is not stated that nothing is copied.
     pub fn try_into_converted<P: AsULE>(self) -> Result<ZeroVec<'a, P>, UleError>
         requires { T.WIDTH ≡ P.WIDTH }
         ensures bytes { IsConverted T.unpack T.WIDTH P.unpack P.WIDTH self.entry result }

@@ -21,8 +21,6 @@ use std::marker::Model;
 ///
 /// If an allocation fails, the method returns `MemoryError` and leaves the set unchanged.
 ///
-/// In contracts, a builder is the list of the set's boundaries.
-///
 /// ```
 /// let mut builder = CodePointInversionListBuilder::new(alloc);
 /// builder.add_range('A'..='Z')?;
@@ -30,6 +28,9 @@ use std::marker::Model;
 /// let set = builder.build()?;
 /// // set.contains('P') is true, set.contains('Q') is false, and set.size() is 25
 /// ```
+///
+/// # Contract
+/// In contracts, a builder is the list of the set's boundaries.
 #[derive(Debug, Drop)]
 pub struct CodePointInversionListBuilder {
     alloc: Global,

@@ -32,12 +32,13 @@ use stretches::Stretch;
 /// An immutable set of code points, which may include surrogates. It borrows or owns the list of
 /// its boundaries.
 ///
-/// In contracts, a set is the list of its boundaries.
-///
 /// ```
 /// let letters = CodePointInversionList::try_from_u32_inversion_list_slice(alloc, &[0x41, 0x5B, 0x61, 0x7B])?;
 /// // letters.contains32(0x5A) is true, and letters.contains32(0x5B) is false
 /// ```
+///
+/// # Contract
+/// In contracts, a set is the list of its boundaries.
 #[derive(Debug, Drop)]
 pub struct CodePointInversionList<'data> {
     ends: ZeroVec<'data, PotentialCodePoint>,

@@ -22,6 +22,7 @@ use std::ops::RangeInclusive;
 ///
 /// It knows how many ranges are left.
 ///
+/// # Contract
 /// In contracts, it is the list of the boundaries of the ranges that are left.
 #[derive(Drop)]
 pub struct IterRanges<'a> {
@@ -100,6 +101,7 @@ impl<'a> ExactSizeIterator for IterRanges<'a> {
 /// [`iter_ranges_complemented`](crate::codepointinvlist::CodePointInversionList::iter_ranges_complemented)
 /// returns it.
 ///
+/// # Contract
 /// In contracts, it is the list of the boundaries of the ranges that are left.
 #[derive(Debug, Drop)]
 pub struct IterRangesComplemented<'a> {
@@ -168,6 +170,7 @@ impl<'a> Iterator for IterRangesComplemented<'a> {
 /// An iterator over the characters in a set, in ascending order.
 /// [`iter_chars`](crate::codepointinvlist::CodePointInversionList::iter_chars) returns it.
 ///
+/// # Contract
 /// In contracts, it is the list of the characters that are left.
 #[derive(Debug, Drop)]
 pub struct IterChars<'a> {

@@ -19,12 +19,13 @@ use std::marker::Model;
 /// It borrows or owns its code points, and owns its strings. The strings are sorted by their bytes,
 /// without duplicates.
 ///
-/// In contracts, a set is the boundaries of its code points and the bytes of its strings.
-///
 /// ```
 /// let set = CodePointInversionListAndStringList::from_iter(alloc, ["a", "abc", "xyz", "abc"].into_iter())?;
 /// // set.contains('a') and set.contains_str("abc") are true, and set.size() is 3
 /// ```
+///
+/// # Contract
+/// In contracts, a set is the boundaries of its code points and the bytes of its strings.
 #[derive(Debug, Drop)]
 pub struct CodePointInversionListAndStringList<'data> {
     pub(super) cp_inv_list: CodePointInversionList<'data>,
