@@ -22,16 +22,16 @@ SHOWN = {
     "icu_zerovec": "zerovec",
     "icu_invlist::codepointinvlist": "codepointinvlist",
     "icu_frozen_sets::frozen": "codepointinvlist",
-    "icu_trie::(?:cptrie|header|typed|value)": "codepointtrie",
+    **{f"icu_trie::{it}": "codepointtrie" for it in ("cptrie", "header", "typed", "value")},
     "icu_trie_binary::binary": "codepointtrie::binary",
     "icu_trie_text::text": "codepointtrie::text",
-    "icu_trie_builder(?:::writes)?": "codepointtrie",
+    "icu_trie_builder::writes": "codepointtrie",
+    "icu_trie_builder": "codepointtrie",
     "icu_char16trie::char16trie": "char16trie",
     "icu_char16trie_builder::builder": "char16trie",
 }
-RULES = [(rf"(?<=use ){path}(?=::)", f"bekstaudi::{name}") for path, name in SHOWN.items()] + [
-    (r"\bstd::str::from_utf8", "core::str::from_utf8"),
-    (r"\ball\.push_str\(key\)\.ok\(\)\?;", "all.push_str(key);"),
+RULES = [(f"use {path}::", f"use bekstaudi::{name}::") for path, name in SHOWN.items()] + [
+    ("std::str::from_utf8", "core::str::from_utf8"),
 ]
 CALL = re.compile(r'(pub extern "C" fn \w+)\(([^)]*)\)( -> \w+ \{\n)')
 SLICE = re.compile(r"(\w+): &(mut )?\[(\w+)\]")
@@ -81,7 +81,6 @@ def write_calls(made, calls):
 
 def main(folder, *options):
     made, calls = maker(), f"{folder}/calls"
-    made.erase.ATTRIBUTES.add("repr")
     made.edition(f"{folder}/edition")
     write_calls(made, calls)
     emitted, ending = ("metadata", "rmeta") if "--check" in options else ("link", "rlib")

@@ -1,4 +1,5 @@
-"""The examples of the docs, from rust/examples, and the docs of the functions in rust/face.
+"""The comments of the Rust edition: docs without what they say to a prover, with the names of the
+edition, and with the examples of rust/examples.
 
 A file of rust/examples has the examples of one crate. Each starts with a line `//# MODULE ITEM`, and
 replaces the example of that item, which is in Rattle, or comes before the item's headings. ITEM is
@@ -8,14 +9,14 @@ import glob
 import os
 import re
 
-from erase import owner_of
-from files import Stop, read, write
-from rules import TRIED
+from files import HERE, Stop, read, write
+from rules import DOC_RULES, TRIED
+from tokens import after_gap, functions, owner_of, past_group, tokens_of
 
-HERE = os.path.dirname(os.path.realpath(__file__))
-FENCE = r"(?m)^( *//[/!] )```(?:ignore|text)?\n((?: *//[/!].*\n)*?) *//[/!] ```\n"
+FENCES = (" ```", " ```text", " ```ignore")
 # What the last line of an example with `?` says: the type of its errors.
-ERRORS = "# Ok::<(), Box<dyn std::error::Error>>(())\n"
+ERRORS = "# Ok::<(), Box<dyn std::error::Error>>(())"
+MODIFIERS = ("pub", "const", "unsafe", "extern", '"C"')
 
 
 def examples():
@@ -32,65 +33,135 @@ def examples():
 EXAMPLES = examples()
 
 
-def fenced(head, example):
-    """Returns an example as lines of docs, each of which starts with `head`."""
-    if not example:
-        return ""
-    if re.search(r"\?[;,).]|\?$", example, re.M):
-        example += ERRORS
-    return "".join(f"{head}{it}".rstrip() + "\n" for it in ["```rust", *example.splitlines(), "```"])
+def fenced(example):
+    """Returns an example as lines of docs."""
+    errors = [ERRORS] * bool(re.search(r"\?[;,).]|\?$", example, re.M))
+    return [f" {it}".rstrip() for it in ["```", *example.splitlines(), *errors, "```"]] if example else []
 
 
-def with_example(module, code, item, example):
-    """Puts one example into the docs of its item."""
-    docs = r"(?m)^((?: *//[/!].*\n)+)"
-    if item != "mod":
-        docs += rf"(?= *(?:#\[.*\n *)*(?:pub(?:\(crate\))? )?(?:fn|struct|enum|trait) {item}\b)"
-    places = [it for it in re.finditer(docs, code) if item != "mod" or it.start() == 0]
-    places = [it for it in places if re.search(FENCE, it[1])] or places
-    if len(places) != 1:
-        raise Stop(f"rust/examples: expected one {item} with docs in {module}, found {len(places)}")
-    old, place = places[0][1], places[0]
-    head = re.match(r" *//[/!]", old)[0]
-    if (fence := re.search(FENCE, old)) and fence.start() > old.find(f"{head} # ") >= 0:
-        # The example comes before the headings.
-        old = re.sub(rf"(?:{head}\n)*\Z", "", old[: fence.start()] + old[fence.end() :])
-    if re.search(FENCE, old):
-        new = re.sub(FENCE, lambda it: fenced(it[1], example), old, count=1)
-    else:
-        texts, heading, rest = old.partition(f"{head} # ")
-        texts = re.sub(rf"(?:{head}\n)*\Z", "", texts)
-        gap = f"{head}\n" if heading else ""
-        new = f"{texts}{head}\n{fenced(head + ' ', example)}{gap}{heading}{rest}"
-    return code[: place.start(1)] + new + code[place.end(1) :]
+class Block:
+    """Lines of comments of one kind, one after another: where they are, and the item behind them."""
+
+    def __init__(self, tokens, start):
+        self.start, self.end, self.mark = start, start + 1, re.match("//[/!]?", tokens[start])[0]
+        while self.is_next(tokens):
+            self.end += 2
+        self.lines = [it[len(self.mark) :] for it in tokens[self.start : self.end : 2]]
+        self.gap = tokens[start + 1] if self.end > start + 1 else "\n"
+        at = after_gap(tokens, self.end)
+        while at < len(tokens) and (tokens[at] == "#" or tokens[at] in MODIFIERS or tokens[at] == "("):
+            at = after_gap(tokens, past_group(tokens, at + (tokens[at] == "#")))
+        name = after_gap(tokens, at + 1)
+        self.item = tokens[name] if tokens[at : at + 1] and tokens[at] in ("fn", "struct", "enum", "trait") else ""
+        self.item = "mod" if self.mark == "//!" else self.item
+
+    def is_next(self, tokens):
+        """Whether the next line is of the block."""
+        gap, line = [*tokens[self.end : self.end + 2], "", ""][:2]
+        return gap.count("\n") == 1 and line.startswith(self.mark) and re.match("//[/!]?", line)[0] == self.mark
+
+    def tokens(self):
+        """Returns the lines as tokens."""
+        lines = [f"{self.mark}{it}".rstrip() for it in self.lines]
+        return [token for it in lines for token in (self.gap, it)][1:]
 
 
-def with_examples(module, code):
-    """Puts the examples of a module into its docs. Stops at an example in Rattle that is left."""
-    for item, example in EXAMPLES.get(module, []):
-        code = with_example(module, code, item, example)
-    if found := re.search(FENCE, code):
-        raise Stop(f"rust/examples has no example for {module}: {found[0]!r}")
-    return code.replace("```rust\n", "```\n")
+def without_contract(lines):
+    """Removes the section `# Contract`, which says what a contract means."""
+    if " # Contract" not in lines:
+        return lines
+    start = lines.index(" # Contract")
+    end = next((i for i in range(start + 1, len(lines)) if lines[i].startswith(" # ")), len(lines))
+    return trimmed(lines[:start]) + lines[end:]
 
 
-def functions(folder):
-    """Returns the docs of all public functions, by their owner and name."""
-    found = {}
-    for path in glob.glob(f"{folder}/src/icu_*/**/*.rs", recursive=True):
-        owner, docs = "", []
-        for line in read(path).splitlines():
-            if line.startswith("impl"):
-                owner = owner_of(line)
-            elif line == "}":
-                owner = ""
-            if function := re.match(r" *pub (?:const )?fn (\w+)", line):
-                found[owner, function[1]] = docs
-            if re.match(r" *///", line):
-                docs = [*docs, line.strip()]
-            elif not re.match(r" *#\[", line):
-                docs = []
-    return found
+def trimmed(lines):
+    """Returns the lines without empty ones at their end."""
+    while lines and not lines[-1].strip():
+        lines = lines[:-1]
+    return lines
+
+
+def renamed(crate, lines):
+    """Returns lines of comments with the names of this edition."""
+    text = "\n".join(lines)
+    for pattern, put in DOC_RULES:
+        text = re.sub(pattern, put, text, flags=re.M)
+    text = re.sub(r"(?<=\()crate::", f"crate::{crate}::", text)
+    text = re.sub(r"(?<=\]\()(?=icu_\w+::)", "crate::", text)
+    return re.sub(rf"(\.|::|`)({'|'.join(TRIED[:-4])})(?=\()", r"\1try_\2", text).split("\n")
+
+
+def with_example(lines, example):
+    """Puts an example in place of that in Rattle, or else before the headings."""
+    fence = next((i for i, it in enumerate(lines) if it in FENCES), None)
+    heading = next((i for i, it in enumerate(lines) if it.startswith(" # ")), len(lines))
+    if fence is not None:
+        end = lines.index(" ```", fence + 1) + 1
+        if fence < heading:
+            return lines[:fence] + fenced(example) + lines[end:]
+        lines = trimmed(lines[:fence] + lines[end:])
+    gap = [""] if lines[heading:] else []
+    return trimmed(lines[:heading]) + [""] + fenced(example) + gap + lines[heading:]
+
+
+def ignored(lines):
+    """Marks the examples of the proved crates `ignore`: rustdoc runs only those of rust/face."""
+    fences = [i for i, it in enumerate(lines) if it in FENCES][::2]
+    mark = lambda i: " ```text" if lines[i + 1].startswith(" //") else " ```ignore"
+    return [mark(i) if i in fences else it for i, it in enumerate(lines)]
+
+
+def documented(crate, module, tokens, is_library):
+    """Returns the tokens of a module with its comments as they are in the edition."""
+    blocks, at = [], 0
+    while at < len(tokens):
+        if tokens[at].startswith("//"):
+            blocks.append(Block(tokens, at))
+            at = blocks[-1].end
+        at += 1
+    for it in blocks:
+        it.lines = without_contract(renamed(crate, it.lines))
+        it.lines = it.lines if is_library else ignored(it.lines)
+    for item, example in EXAMPLES.get(module, []) if is_library else []:
+        places = [it for it in blocks if it.item == item and it.mark != "//"]
+        places = [it for it in places if set(FENCES) & set(it.lines)] or places
+        if len(places) != 1:
+            raise Stop(f"rust/examples: expected one {item} with docs in {module}, found {len(places)}")
+        places[0].lines = with_example(places[0].lines, example)
+        places[0].item = ""
+    tokens = list(tokens)
+    for it in reversed(blocks):
+        if is_library and it.item and set(FENCES) & set(it.lines):
+            raise Stop(f"rust/examples has no example for {module}: {it.item}")
+        tokens[it.start : it.end] = it.tokens()
+    return tokens
+
+
+# The docs of all public functions, by their owner and name.
+DOCS = {}
+
+
+def note_docs(tokens):
+    """Notes the docs of the public functions of a module."""
+    for line_owner, name, docs in docs_in("".join(tokens)):
+        DOCS[line_owner, name] = docs
+
+
+def docs_in(text):
+    """Yields the owner, the name and the docs of each public function."""
+    owner, docs = "", []
+    for line in text.splitlines():
+        if line.startswith("impl"):
+            owner = owner_of([line])
+        elif line == "}":
+            owner = ""
+        if function := re.match(r" *pub (?:const )?fn (\w+)", line):
+            yield owner, function[1], docs
+        if re.match(r" *///", line):
+            docs = [*docs, line.strip()]
+        elif not re.match(r" *#\[", line):
+            docs = []
 
 
 def plain(lines):
@@ -103,21 +174,20 @@ def plain(lines):
     text = re.sub(call, r"\1\2", text)
     text = re.sub(r"\btry_build_from_writes(?=[,}])", "build_from_writes", text)
     if not re.search(r"\?[;,).]|\?$", re.sub("(?m)^/// #.*", "", text), re.M):
-        text = text.replace(f"/// {ERRORS}", "")
+        text = text.replace(f"/// {ERRORS}\n", "")
     return text.splitlines()
 
 
 def face_docs(folder):
     """Replaces lines `/// {NAME}` of rust/face by the docs of the function that is called."""
-    known = functions(folder)
     for path in glob.glob(f"{folder}/src/*.rs"):
         owner, out = "", []
         for line in read(path).splitlines():
-            owner = owner_of(line) if line.startswith("impl") else "" if line == "}" else owner
+            owner = owner_of([line]) if line.startswith("impl") else "" if line == "}" else owner
             if name := re.fullmatch(r"( *)/// \{(\w+)\}", line):
-                if (owner, name[2]) not in known:
+                if (owner, name[2]) not in DOCS:
                     raise Stop(f"{path}: no docs of {owner}::{name[2]}")
-                out += [name[1] + it for it in plain(known[owner, name[2]])]
+                out += [name[1] + it for it in plain(DOCS[owner, name[2]])]
             else:
                 out.append(line)
         write(path, "\n".join(out) + "\n")

@@ -7,7 +7,28 @@ outside ASCII are errors, reported with their line. So a new form of clause cann
 """
 import re
 
-from forms import ATTRIBUTES, BEFORE_NAMES, BY, HELD, KEYWORDS, MACROS, PROOFS, TOKEN
+from tokens import TOKEN, before_gap, is_gap
+
+KEYWORDS = set(
+    "as break const continue crate dyn else enum extern fn for if impl in let loop match mod move"
+    " mut pub ref return self Self static struct super trait type unsafe use where while true false".split()
+)
+BEFORE_NAMES = KEYWORDS - set("break continue crate loop self Self super true false".split())
+ATTRIBUTES = set("derive error from inline cold test cfg tactic repr".split())
+MACROS = set("anyhow assert assert_eq eprintln format json matches panic println unreachable vec write writeln".split())
+# The proofs: the word that each starts with, whether its docs are removed too, and its form. If the
+# form ends with `(?={)`, braces of the proof language follow.
+PROOFS = [
+    (r"requires|ensures", False, r"(?:requires|ensures)(?:\s+[a-z_]\w*)?\s*(?={)"),
+    (r"ghost(?=\s+use\b)", False, r"ghost\s+use\b[^;{]*(?:\{[^{}]*\})?\s*;"),
+    (r"ghost", True, r"ghost\s+\w+\s*[:=]\s*(?={)"),
+    (r"prove!", False, r"prove!\([^{]*?\);(?=\n)"),
+    (r"impl(?=(?:<[^{};]*>)?\s+Model\b)", True, r"impl(?:<[^{};]*>)?\s+Model\s+for\b[^{};]*(?={)"),
+    (r"#!?\[tactic\b", False, r"#!?\[tactic\((?:[^()]|\((?:[^()]|\([^()]*\))*\))*\)\]"),
+]
+BY = re.compile(r"\s*(?:by|=)\s*(?={)")
+# What is left in place of a `requires`, until rust/make has noted whose it is.
+ASKED = "//requires"
 
 
 class Refused(Exception):
@@ -15,17 +36,12 @@ class Refused(Exception):
 
 
 class Eraser:
-    """Splits one file into tokens, drops the proofs, and notes which functions have a `requires`."""
+    """Splits one file into tokens, and drops the proofs."""
 
     def __init__(self, text):
         self.text = text
         self.place = 0
         self.kept = []
-        self.owner = ""
-        self.function = ("", False)
-        self.depth = 0
-        self.asked = set()
-        self.item = 0
 
     def refuse(self, why):
         line = self.text.count("\n", 0, self.place) + 1
@@ -42,11 +58,6 @@ class Eraser:
                 return found.end()
         return self.refuse("a brace without its partner")
 
-    def drop(self, docs):
-        """Removes the space before a proof, and its docs if `docs` is set."""
-        while self.kept and (self.kept[-1][0] == "space" or docs and self.kept[-1][1].startswith("///")):
-            self.kept.pop()
-
     def proof(self):
         """Skips a proof, if one starts here, and returns whether one did."""
         for word, docs, form in PROOFS:
@@ -61,10 +72,9 @@ class Eraser:
                 end = (self.past_braces(by.end()) if by else end) + 1
                 if self.text[end - 1] not in ",;":
                     self.refuse("a ghost item that does not end with `,` or `;`")
-            name, open_to_all = self.function
-            if found[0].startswith("requires") and open_to_all:
-                self.asked.add(f"{self.owner}::{name}".lstrip(":"))
-            self.drop(docs)
+            while self.kept and (self.kept[-1].isspace() or docs and self.kept[-1].startswith("///")):
+                self.kept.pop()
+            self.kept += [ASKED] * found[0].startswith("requires")
             self.place = end
             return True
         return False
@@ -77,59 +87,32 @@ class Eraser:
             found = TOKEN.match(self.text, self.place)
             if not found:
                 self.refuse("an unknown character")
-            self.take(found.lastgroup, found[0])
+            if not is_gap(found[0]):
+                self.admit(found[0])
+            self.kept.append(found[0])
             self.place = found.end()
         return self.kept
 
-    def take(self, kind, text):
-        """Keeps a token of Rust if it may follow those before it, and notes which item it is in."""
-        if kind not in ("space", "comment"):
-            self.admit(kind, text)
-            if text == "{" and self.depth == 0:
-                self.owner = owner_of("".join(it[1] for it in self.kept[self.item :]))
-            self.depth += {"{": 1, "}": -1}.get(text, 0)
-        self.kept.append((kind, text))
-        if self.depth == 0 and text in ("}", ";"):
-            self.item = len(self.kept)
-            self.owner = ""
-
-    def admit(self, kind, text):
+    def admit(self, token):
         """Stops at a token that may not follow those before it."""
-        before = [it for it in self.kept[-12:] if it[0] not in ("space", "comment")]
-        last_kind, last = before[-1] if before else ("mark", ";")
-        name = kind == "word" and text not in KEYWORDS
-        seen_to = "".join(it[1] for it in before[-4:]).endswith(("pub(crate)", "pub(super)"))
-        if name and (last_kind in ("number", "literal") or last == ")" and not seen_to):
+        before = [it for it in self.kept[-12:] if not is_gap(it)] or [";"]
+        last, name = before[-1], token.isidentifier() and token not in KEYWORDS
+        seen_to = "".join(before[-4:]).endswith(("pub(crate)", "pub(super)"))
+        if name and (last[0].isdigit() or last[-1] in "\"'" or last == ")" and not seen_to):
             self.refuse("a word after the end of an expression")
-        if name and last_kind == "word" and last not in BEFORE_NAMES:
+        if name and last.isidentifier() and last not in BEFORE_NAMES:
             self.refuse("two names side by side")
-        attribute = last == "[" and [it[1] for it in before[-3:-1]][-1:] in (["#"], ["!"])
-        if name and attribute and text not in ATTRIBUTES:
+        if name and before[-2:] in (["#", "["], ["!", "["]) and token not in ATTRIBUTES:
             self.refuse("an unknown attribute")
         after = self.text[self.place + 1 : self.place + 2]
-        if text == "!" and last_kind == "word" and last not in KEYWORDS | MACROS and after in "[({":
+        if token == "!" and last.isidentifier() and last not in KEYWORDS | MACROS and after in "[({":
             self.refuse("an unknown macro")
-        if kind == "word" and last == "fn":
-            modifiers = [it[1] for it in before[:-1] if it[1] not in ("const", "unsafe")]
-            self.function = (text, modifiers[-1:] == ["pub"] or self.owner.startswith("trait "))
+        if token == "{":
+            self.join_body()
 
-
-def owner_of(head):
-    """Returns what the functions of an item belong to: the type of an `impl`, or `trait` and its name."""
-    head = re.sub(r"(//|#)[^\n]*\n", "", head)
-    if trait := re.search(r"\bpub trait (\w+)", head):
-        return f"trait {trait[1]}"
-    found = re.search(r"\bimpl(?:<.*?>)?\s+(?:.*\bfor\s+)?&?(\w+)", head, re.S)
-    return found[1] if found else ""
-
-
-def masked(tokens):
-    """Returns the code as one text with marks for comments and literals, and a list of these."""
-    held, code = [], ""
-    for kind, text in tokens:
-        if kind in ("comment", "literal"):
-            code += f"{chr(1 if kind == 'comment' else 2)}{len(held)}\x03"
-            held.append(text)
-        else:
-            code += text
-    return code, held
+    def join_body(self):
+        """Drops the lines between a head and its body: clauses were there, with comments."""
+        last = before_gap(self.kept, len(self.kept))
+        gap = self.kept[last + 1 :]
+        if last >= 0 and self.kept[last] not in (",", ";", "{", "}") and any("\n" in it for it in gap):
+            self.kept[last + 1 :] = [it for it in gap if it == ASKED] + [" "]

@@ -1,4 +1,10 @@
-"""Reads and writes files for rust/make."""
+"""Reads and writes files for rust/make, and applies what rust/edits.py lists."""
+import os
+import re
+
+from tokens import TOKEN, tokens_of
+
+HERE = os.path.dirname(os.path.realpath(__file__))
 
 
 class Stop(Exception):
@@ -13,3 +19,17 @@ def read(path):
 def write(path, text):
     with open(path, "w", encoding="utf-8") as file:
         file.write(text)
+
+
+def edited(module, tokens, edits):
+    """Applies what rust/edits.py lists for a module, to its text with marks for comments and literals."""
+    held, text = [], ""
+    for it in tokens:
+        kind = 1 if it.startswith("//") else 2 if it[-1] in "\"'" else 0
+        text += f"{chr(kind)}{len(held)}\x03" if kind else it
+        held += [it] * (kind > 0)
+    for pattern, put, times in edits.get(module, []):
+        text, count = re.subn(pattern, put, text)
+        if count != times:
+            raise Stop(f" expected {pattern!r} {times} times, found it {count} times")
+    return tokens_of(re.sub("[\x01\x02](\\d+)\x03", lambda it: held[int(it[1])], text))

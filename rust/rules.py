@@ -27,20 +27,6 @@ TRIED = (
 # Functions of the Rust crate that start with `try_` and allocate here. In rust/face they have the
 # errors of the Rust crate, and those that report failed allocations get this ending.
 FALLIBLE = "try_from_inversion_list try_from_u32_inversion_list_slice try_alloc_map_value".split()
-RENAMED = {
-    rf"\b({'|'.join(FALLIBLE)})\b": r"\1_fallible",
-    # rust/face has one that returns a list of `&str`.
-    r"\bstrings(?=\((?:&self)?\))": "string_slice",
-    r"\.reserve\(": ".try_room(",
-    r"\.reserve_exact\(": ".try_exact_room(",
-    r"\b(Vec|String)::with_capacity\(": r"\1::with_room(",
-    r"\bVec::push\b": "Vec::try_push",
-    r"\.push_reserved\(": ".push(",
-    r"\bvec!\[in alloc; ": "try_vec![",
-    r"\bCodePointInversionList::try_from\(": "CodePointInversionList::try_from_range(",
-    r"\bjson!\(in alloc; ": "crate::support::try_json!(",
-    r"\buse toml::": "use toml::value::",
-}
 # Functions with a `requires` that only a proof can check. They are private.
 INSIDE = (
     "PotentialCodePoint::from_u24 ZeroSlice::at ZeroSlice::get_below ZeroVec::try_into_converted cell_at cell_below"
@@ -99,86 +85,149 @@ DERIVED = {
     "ApplyRefused": "Hash",
     "InvalidStringList": "Clone Eq Hash",
 }
-# Public functions that are `const`.
-GETTERS = {
-    "icu_zerovec/vec": "as_slice",
-    "icu_invlist/codepointinvlist/builder": "new is_empty",
-    "icu_text_sets/codepointinvliststringlist/set": "has_strings code_points string_slice",
-    "icu_frozen_sets/frozen": "as_set",
-    "icu_frozen_sets/spans": "spans",
-    "icu_frozen_sets/text_sets": "as_set",
-    "icu_char16trie/trie": "new",
-    "icu_char16trie/listing": "value",
-    "icu_trie_core/header": "fast_limit fast_index_len",
-    "icu_trie/ranges": "iter_ranges",
-    "icu_trie/ranges_of_value": "iter_ranges_for_value",
-    "icu_trie/typed": "as_untyped_ref to_typed",
-    "icu_trie_formats/trie_toml": "index_slice data_slice",
-    "icu_trie_text/utf16": "values_of_utf16",
-}
 # Traits that modules import for a method, and a word that such a module has.
 METHODS = {
     "AsULE": "from_unaligned", "Cells": "cells", "PartValues": "ascii", "RangeOf": "deconstruct",
     "RangePoint": "number", "TrieValue": "to_u32", "Write": "write",
 }
 # The modules of Rattle's std that Rust's core has under the same names.
-OWN = "cmp error fmt hash iter marker ops"
+OWN = "cmp error fmt hash iter marker ops".split()
+# The closed list of rules, applied one after another: a pattern (tokens.py says how it is written), what
+# takes its place, and an example, before and after.
 RULES = [
-    (r"use thiserror::Error;\n", ""),
-    (r"use std::marker::Model;\n", ""),
-    (r"use std::marker::\{Model, (\w+)\};", r"use std::marker::\1;"),
-    (r"use std::marker::\{Brand, (\w+)\};", r"use std::marker::\1;\nuse crate::ledger::Brand;"),
-    (r"use std::alloc::Global;\n", ""),
-    (r"(use std::alloc::\{[^}]*), Global\}", r"\1}"),
-    (r"\bstd::(alloc|collections)::", "crate::support::"),
-    (r"\bstd::sync::ledger::|\bstd::marker::(?=Brand\b)", "crate::ledger::"),
-    (rf"\bstd::({'|'.join(OWN.split())})\b", r"core::\1"),
+    # Names that Rust has in another place, or not at all.
+    ("use thiserror::Error;", "", "use thiserror::Error; fn f() {}", "fn f() {}"),
+    ("use std::marker::Model;", "", "use std::marker::Model; fn f() {}", "fn f() {}"),
+    ("use std::marker::{Model, $x};", "use std::marker::$x;", "use std::marker::{Model, Copy};", "use std::marker::Copy;"),
+    (
+        "use std::marker::{Brand, $x};", "use std::marker::$x;\nuse crate::ledger::Brand;",
+        "use std::marker::{Brand, Copy};", "use std::marker::Copy;\nuse crate::ledger::Brand;",
+    ),
+    ("use std::alloc::Global;", "", "use std::alloc::Global; fn f() {}", "fn f() {}"),
+    ("use std::alloc::{$$x, Global}", "use std::alloc::{$$x}", "use std::alloc::{A, Global};", "use std::alloc::{A};"),
+    ("std::alloc::", "crate::support::", "std::alloc::AllocError", "crate::support::AllocError"),
+    ("std::collections::", "crate::support::", "std::collections::BTreeMap", "crate::support::BTreeMap"),
+    ("std::sync::ledger::", "crate::ledger::", "std::sync::ledger::Blank", "crate::ledger::Blank"),
+    ("std::marker::Brand", "crate::ledger::Brand", "use std::marker::Brand;", "use crate::ledger::Brand;"),
+    *((f"std::{it}", f"core::{it}", f"use std::{it}::A;", f"use core::{it}::A;") for it in OWN),
     # In Rattle, Drop is a marker: a value may be dropped.
-    (r"#\[derive\(Drop\)\]\n\s*", ""),
-    (r"(#\[derive\([^)]*), Drop\b", r"\1"),
-    (r" \+ Drop\b", ""),
-    (r": Drop \+ ", ": "),
-    (r": Drop\b", ""),
+    ("#[derive(Drop)]", "", "#[derive(Drop)] struct A;", "struct A;"),
+    ("#[derive($$x, Drop", "#[derive($$x", "#[derive(Debug, Eq, Drop)]", "#[derive(Debug, Eq)]"),
+    ("+ Drop", "", "T: Copy + Drop", "T: Copy"),
+    (": Drop +", ":", "T: Drop + Copy", "T: Copy"),
+    (": Drop", "", "<T: Drop>", "<T>"),
+    # rust/errors.py writes what this stands for.
+    ("#[derive($$x, Error)]", "#[derive($$x)]", "#[derive(Debug, Error)]", "#[derive(Debug)]"),
+    ("#[error($x)]", "", "#[error(transparent)] Memory,", "Memory,"),
+    ("#[from]", "", "Memory(#[from] MemoryError)", "Memory(MemoryError)"),
     # The clone of a view is no Result, and Rust has one type of formatter.
-    (r"(fn clone\(&self\) -> )Result<([^{]*), AllocError>( \{\s*)Ok\(\*self\)", r"\1\2\3*self"),
-    (r"fn fmt<W: fmt::Write>(\(&self, f: &mut fmt::Formatter)<W>", r"fn fmt\1<'_>"),
-    (r"\bfinal (?=fn\b)", ""),
-    (r"\bR: RangeOf<", "R: core::ops::RangeBounds<"),
-    # The allocator is removed: as a parameter, as an argument and as a field.
-    (r"\balloc: (?:self\.alloc|_),\s*", ""),
-    (r"(?:\n +\x01\d+\x03)*\n +(?:pub\(crate\) )?_?(?:\w+\.)*alloc(?:\(\)|: Global)?,(?=\n)", ""),
-    (r"\b(?:pub\(crate\) )?_?alloc: Global(,\s*|(?=\s*[)}]))", ""),
-    (r"([(,{]\s*)(?:\w+\.)*alloc(?:\(\))?,\s*", r"\1"),
-    (r"(\(|,)\s*(?:\w+\.)*alloc(?:\(\))?\s*(?=\))", lambda found: found[1].strip(",")),
-    (r"(\(&?self), \)", r"\1)"),
+    (
+        "fn clone(&self) -> Result<$$x, AllocError> { Ok(*self)", "fn clone(&self) -> $$x { *self",
+        "fn clone(&self) -> Result<A<'a>, AllocError> { Ok(*self) }", "fn clone(&self) -> A<'a> { *self }",
+    ),
+    (
+        "fn fmt<W: fmt::Write>(&self, f: &mut fmt::Formatter<W>", "fn fmt(&self, f: &mut fmt::Formatter<'_>",
+        "fn fmt<W: fmt::Write>(&self, f: &mut fmt::Formatter<W>)", "fn fmt(&self, f: &mut fmt::Formatter<'_>)",
+    ),
+    ("final fn", "fn", "final fn f();", "fn f();"),
+    ("R: RangeOf<", "R: core::ops::RangeBounds<", "R: RangeOf<u8>", "R: core::ops::RangeBounds<u8>"),
+    # Functions that allocate, of rust/support and rust/face.
+    (".reserve(", ".try_room(", "a.reserve(1)?", "a.try_room(1)?"),
+    (".reserve_exact(", ".try_exact_room(", "a.reserve_exact(1)?", "a.try_exact_room(1)?"),
+    (".push_reserved(", ".push(", "a.push_reserved(1)", "a.push(1)"),
+    ("Vec::with_capacity(", "Vec::with_room(", "Vec::with_capacity(1)", "Vec::with_room(1)"),
+    ("String::with_capacity(", "String::with_room(", "String::with_capacity(1)", "String::with_room(1)"),
+    ("Vec::push", "Vec::try_push", "f(Vec::push)", "f(Vec::try_push)"),
+    ("in alloc;", "", "vec![in alloc; 0; 8]", "vec![0; 8]"),
+    ("vec![", "try_vec![", "vec![0; 8]", "try_vec![0; 8]"),
+    ("json!(", "crate::support::try_json!(", "json!([])", "crate::support::try_json!([])"),
+    (
+        "CodePointInversionList::try_from(", "CodePointInversionList::try_from_range(",
+        "CodePointInversionList::try_from(0..1)", "CodePointInversionList::try_from_range(0..1)",
+    ),
+    *((it, f"{it}_fallible", f"{it}(x)", f"{it}_fallible(x)") for it in FALLIBLE),
+    ("strings()", "string_slice()", "set.strings()", "set.string_slice()"),
+    ("strings(&self)", "string_slice(&self)", "fn strings(&self)", "fn string_slice(&self)"),
+    ("use toml::", "use toml::value::", "use toml::Table;", "use toml::value::Table;"),
     # What only a proof uses: a method and its uses, and reads of a field that show its invariant.
-    (r"(?:\n +\x01\d+\x03)*(?:\n +#\[[^\n]*\])*\n +fn shown\(&?self\)(?:;| \{[^}]*\})", ""),
-    (r"\n +\w+\.shown\(\);", ""),
-    (r"(?:\n +\x01\d+\x03)*\n +let _ = &self\.\w+;", ""),
-    # The blank lines and comments that clauses leave before the body.
-    (r"(?<=[^,;{}\s\x03])(?:\n *\x01\d+\x03|\n)*\n *\{\n", " {\n"),
+    ("$docs fn shown(&self);", "", "trait A { /// Shows.\n fn shown(&self); }", "trait A { }"),
+    ("$docs fn shown(&self) { $$x }", "", "#[inline] fn shown(&self) { f() } fn g() {}", "fn g() {}"),
+    ("$docs fn shown(self);", "", "trait A { /// Shows.\n fn shown(self); }", "trait A { }"),
+    ("$docs fn shown(self) { $$x }", "", "#[inline] fn shown(self) {} fn g() {}", "fn g() {}"),
+    ("$x.shown();", "", "f(); a.shown();", "f();"),
+    ("$docs let _ = &self.$x;", "", "f(); // Why.\n let _ = &self.header;", "f();"),
 ]
 # Ledgers, which count reads in proofs. Programs and tests have those of rust/programs/ledger.rs.
 LEDGERS = [
-    (r"use crate::ledger::(?:\{[^}]*\}|\w+);\n", ""),
-    (r"(cells::)\{Cells, Steps\}", r"\1Cells"),
-    (r"use [\w:]*cells::Steps;\n", ""),
-    (r"(?s)(?:\x01\d+\x03\n)+pub struct Steps.*", ""),
-    (r"\n +(?:pub\(crate\) )?reads: Steps(?:<L>|::<L>::new\(blank\)|::new\(blank\)),", ""),
-    (r"\n +self\.reads\.tick\(\);", ""),
-    (r", L: Ledger\b|\n +blank: Blank,|, Blank::new\(1\)|(?<=<T), (?:L|Brand)(?=>)|(?<='a, T), L(?=>)", ""),
+    ("use crate::ledger::{$$x};", "", "use crate::ledger::{Blank, Ledger}; fn f() {}", "fn f() {}"),
+    ("use crate::ledger::$x;", "", "use crate::ledger::Brand; fn f() {}", "fn f() {}"),
+    ("cells::{Cells, Steps}", "cells::Cells", "use a::cells::{Cells, Steps};", "use a::cells::Cells;"),
+    ("use $x::cells::Steps;", "", "use a::cells::Steps; fn f() {}", "fn f() {}"),
+    ("$docs pub struct Steps<L: Ledger> { $$x }", "", "/// A counter.\n pub struct Steps<L: Ledger> { a: u8 }", ""),
+    ("impl<L: Ledger> Steps<L> { $$x }", "", "impl<L: Ledger> Steps<L> { fn tick(&self) {} }", ""),
+    ("pub(crate) reads: Steps<L>,", "", "{ a: u8, pub(crate) reads: Steps<L>, }", "{ a: u8, }"),
+    ("reads: Steps<L>,", "", "{ a: u8, reads: Steps<L>, }", "{ a: u8, }"),
+    ("reads: Steps::<L>::new(blank),", "", "{ a, reads: Steps::<L>::new(blank), }", "{ a, }"),
+    ("reads: Steps::new(blank),", "", "{ a, reads: Steps::new(blank), }", "{ a, }"),
+    ("self.reads.tick();", "", "f(); self.reads.tick(); g();", "f(); g();"),
+    (", L: Ledger", "", "fn f<T, L: Ledger>()", "fn f<T>()"),
+    ("blank: Blank,", "", "(a: u8, blank: Blank, )", "(a: u8, )"),
+    (", Blank::new(1)", "", "f(a, Blank::new(1))", "f(a)"),
+    ("<T, Brand>", "<T>", "f::<T, Brand>(a)", "f::<T>(a)"),
+    ("<T, L>", "<T>", "f::<T, L>(a)", "f::<T>(a)"),
+    ("<'a, T, L>", "<'a, T>", "A<'a, T, L>", "A<'a, T>"),
 ]
-# What no rule may leave: Rust does not have it, or it means something else there.
-NOT_IN_RUST = (
-    r"\bGlobal\b", r"\b(?<!crate::)alloc\b", r"\bstd::\w+", r"\bthiserror\b", r"\bModel\b",
-    r"\bcore::[^;(]*\b(?:Brand|Drop)\b", r"\bstd::\{"
-)
-# Functions that constants can call.
+# Functions that are `const` in the edition, by their modules.
 CONST = {
-    "icu_zerovec/vec": "from_packed bytes as_bytes",
+    "icu_zerovec/vec": "from_packed bytes as_bytes as_slice",
     "icu_zerovec/slice": "from_packed as_bytes as_zerovec",
     "icu_trie_core/header": "fast_limit fast_index_len",
     "icu_char16trie/trie": "new",
-    "icu_invlist/codepointinvlist/builder": "new",
+    "icu_invlist/codepointinvlist/builder": "new is_empty",
     "icu_invlist/codepointinvlist/cpinvlist": "all bmp",
+    "icu_text_sets/codepointinvliststringlist/set": "has_strings code_points string_slice",
+    "icu_frozen_sets/frozen": "as_set",
+    "icu_frozen_sets/spans": "spans",
+    "icu_frozen_sets/text_sets": "as_set",
+    "icu_char16trie/listing": "value",
+    "icu_trie/ranges": "iter_ranges",
+    "icu_trie/ranges_of_value": "iter_ranges_for_value",
+    "icu_trie/typed": "as_untyped_ref to_typed",
+    "icu_trie_formats/trie_toml": "index_slice data_slice",
+    "icu_trie_text/utf16": "values_of_utf16",
 }
+# What docs say in other words, beside the names of functions.
+DOC_RULES = [
+    (r"\((?:alloc|Global)(?:, |(?=\)))", "("),
+    (r"\b(vec!\[)in alloc; ", r"\1"),
+    (r", whose changes take their memory from `alloc`", ""),
+    (r": `alloc` is kept for", "; that is left to"),
+    # The walk is private here.
+    (
+        r"Otherwise the range is the one that \[`walk`\]\(\S*\) returns\.",
+        "Otherwise the header decides: [`is_coherent`](Self::is_coherent) says how.",
+    ),
+    (r"if the walk reaches a cell that the trie lacks", "if the trie lacks a cell that is needed"),
+    (r"\[(`walk`)\]\(icu_trie_core::walk::walk\)", r"\1"),
+    # Methods of builders panic here, or start with `try_`.
+    (
+        r"If an allocation fails, the method returns `MemoryError` and leaves the set unchanged\.",
+        "If an allocation fails, a method panics. If its name starts with `try_`, it returns\n `MemoryError`"
+        " instead and leaves the set unchanged.",
+    ),
+    (
+        r"^ Returns the number of code points in the set, including surrogates\.$",
+        r"\g<0>\n\n Takes time linear in the number of ranges, as the number is not stored.",
+    ),
+    # Functions that return a `Result` here, and private ones.
+    (rf"\b({'|'.join(FALLIBLE)})\b", r"\1_fallible"),
+    (r"\bbuild_from_writes(?=\(.*\)\?)", "try_build_from_writes"),
+    (r"(?<=\[`CodePointTrieBuilder::)build(?=`\])", "try_build"),
+    (r"\btoml::table_from_str\(", "toml::from_str("),
+    (r"\bPotentialCodePoint::from_u24\((\w+)\);", r"PotentialCodePoint::try_from(\1); // Ok"),
+]
+# What rust/support/mod.rs has in its prelude: types, a macro, and methods of its traits.
+PRELUDE = set(
+    "Vec String try_vec with_room try_room try_exact_room try_push try_push_str try_insert"
+    " try_extend_from_slice try_resize".split()
+)

@@ -120,10 +120,12 @@ def cut(folder):
 def add_tests(made, folder):
     """Puts the files of rust/tests/src into a crate that was made, and our crates that they call, as
     modules of its own."""
-    made.make(folder, TESTED, TEST_RULES if HAS_FORMATS else TEST_RULES + FORM_RULES)
+    made.make(folder, TESTED, TEST_RULES)
     for crate in TESTED:
         for path in glob.glob(f"{folder}/src/{crate}/**/*.rs", recursive=True):
             text = read(path)
+            for pattern, put in FORM_RULES if not HAS_FORMATS else ():
+                text = re.sub(pattern, put, text)
             place = re.match(r"(?://!.*\n)*\n*", text).end()
             write(path, text[:place] + TEST_NAMES + text[place:])
     shutil.copytree(PARTS, f"{folder}/src", dirs_exist_ok=True)

@@ -5,14 +5,14 @@ Rust, what they need that the code doesn't, and forms that rust/make has to refu
 TESTED = "bzip2_reader ucptab_table uses".split()
 # What these have in another form, beside the rules of rust/rules.py.
 TEST_RULES = [
-    (r"\.collect(?:::<Vec<_>>)?\((rt\.alloc\(\)|alloc)\)", ".listed()"),
-    (r"\bstd::convert\b", "core::convert"),
-    (r"\btrie\.try_into_converted\b", r"\g<0>_explained"),
+    *((f".collect{of}({it})", ".listed()") for of in ("", "::<Vec<_>>") for it in ("alloc", "rt.alloc()")),
+    ("std::convert", "core::convert"),
+    ("trie.try_into_converted", "trie.try_into_converted_explained"),
 ]
-# Without JSON, the functions that need it go, and what is imported for them.
+# Without JSON, the functions that need it go from what was made, and what is imported for them.
 FORM_RULES = [
     (
-        r"(?ms)^(?:\x01\d+\x03\n)*(?:pub )?fn (?:(?!^\}).)*?"
+        r"(?ms)^(?://[^\n]*\n|#\[[^\n]*\n)*(?:pub )?fn (?:(?!^\}).)*?"
         r"(?:JsonError|\bjson::(?:to|from)_json\b)(?:(?!^\}).)*^\}\n",
         "",
     ),

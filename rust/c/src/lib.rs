@@ -12,6 +12,7 @@
     clippy::needless_range_loop,
     clippy::manual_find,
     clippy::manual_range_contains,
+    clippy::manual_is_multiple_of,
     clippy::while_let_on_iterator,
     clippy::collapsible_if,
     clippy::wrong_self_convention

@@ -145,7 +145,8 @@ macro_rules! generated_with_alloc {
     };
 }
 // What is allowed is what the proofs are about: loops over indices, also in searches, bounds that
-// are compared one by one, a `while` over an iterator that is used afterwards, and nested cases.
+// are compared one by one, remainders, a `while` over an iterator that is used afterwards, and
+// nested cases.
 macro_rules! modules {
     ($on:meta: $($name:ident)*) => {
         $(#[cfg($on)]
@@ -153,6 +154,7 @@ macro_rules! modules {
             clippy::needless_range_loop,
             clippy::manual_find,
             clippy::manual_range_contains,
+            clippy::manual_is_multiple_of,
             clippy::while_let_on_iterator,
             clippy::collapsible_if
         )]

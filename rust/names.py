@@ -1,0 +1,118 @@
+"""The names and paths of the Rust edition, and its lists of arguments without the allocator."""
+import re
+
+from rules import FEATURES, METHODS, TRIED
+from tokens import after_gap, before_gap, code_of, is_gap, match, replaced, start_of, tokens_of
+
+# Parameters, fields and arguments that are the allocator, before a comma or a bracket.
+ALLOCATORS = [
+    *("alloc: Global", "_alloc: Global", "pub(crate) alloc: Global", "alloc: self.alloc", "alloc: _"),
+    *("alloc", "alloc()", "$x.alloc", "$x.alloc()", "$x.$y.alloc", "$x.$y.alloc()"),
+]
+ALLOCATORS = [code_of(it) for it in ALLOCATORS]
+# Modules of the edition that are no crate.
+SHARED = "support ledger host context cold clap serde_json toml".split()
+
+
+def ruled(tokens, rules):
+    """Applies rules, one after another."""
+    for pattern, put, *_ in rules:
+        tokens, _ = replaced(tokens, code_of(pattern), tokens_of(put))
+    return tokens
+
+
+def without_allocator(tokens):
+    """Removes the allocator from lists of parameters, fields and arguments: `f(alloc, x)` becomes `f(x)`."""
+    kept, at, last = [], 0, ""
+    while at < len(tokens):
+        it = tokens[at]
+        ends = [match(tokens, at, form) for form in ALLOCATORS] if last and last in "(,{" and not is_gap(it) else []
+        ends = [after_gap(tokens, found[0]) for found in ends if found]
+        end = next((end for end in ends if tokens[end] in (",", ")", "}")), None)
+        if end is None:
+            kept.append(it)
+            last = last if is_gap(it) else it
+            at += 1
+            continue
+        has_comma, has_space = tokens[end] == ",", is_gap(kept[-1])
+        at = end + has_comma
+        while is_gap(kept[-1]):
+            kept.pop()
+        if not has_comma and last == ",":
+            kept.pop()
+            last = "("
+        if not has_space and tokens[at].isspace():
+            at += 1
+    return kept
+
+
+def tried(tokens):
+    """Renames methods that allocate: `a.build()` becomes `a.try_build()`."""
+    tokens, depth = list(tokens), 0
+    for at, it in enumerate(tokens):
+        depth += (it == "{") - (it == "}")
+        if it == "build_from_writes" or it in TRIED and is_method(tokens, at, depth):
+            tokens[at] = f"try_{it}"
+    return tokens
+
+
+def is_method(tokens, at, depth):
+    """Whether the name at `at` is that of a method that is called or declared."""
+    after = tokens[at + 1 : at + 4]
+    if after[:1] not in (["("], ["<"]) and after != [":", ":", "<"]:
+        return False
+    before = before_gap(tokens, at)
+    if tokens[before] == ":":
+        return tokens[before - 2][0].isupper() or tokens[before - 2] == ">"
+    return tokens[before] == "." or tokens[before] == "fn" and depth > 0
+
+
+def with_paths(crate, tokens):
+    """Changes paths to those of one crate, in which each Rattle crate is a module."""
+    made = []
+    for at, it in enumerate(tokens):
+        is_path = tokens[at + 1 : at + 3] == [":", ":"] and (at == 0 or tokens[at - 1] != ":")
+        if is_path and it.startswith(("bzip2", "icu", "ucp", "ucd")):
+            made += ["crate", ":", ":"]
+        made.append(it)
+        if is_path and it == "crate" and tokens[at + 3] not in SHARED:
+            made += [":", ":", crate]
+    return made
+
+
+def featured(module, tokens):
+    """Puts modules that need a feature, and imports from them, behind it."""
+    made, folder = list(tokens), re.sub("/(mod|lib)$", "", module)
+    for at in reversed([i for i, it in enumerate(made) if it in ("mod", "use")]):
+        start, said = start_of(made, at), "".join(made[at : made.index(";", at)])
+        for needing, feature in FEATURES.items():
+            home, name = needing.rsplit("/", 1)
+            is_import = made[start] == "pub" and needing.startswith(module.split("/")[0]) and f"{name}::" in said
+            if is_import or home == folder and said == f"mod {name}":
+                found = ", ".join(f'feature = "{it}"' for it in feature.split())
+                made[start:start] = tokens_of(f"#[cfg({f'any({found})' if ' ' in feature else found})]\n")
+    return made
+
+
+def used(tokens):
+    """Removes imported names that only proofs use: the code has them nowhere else."""
+    words, found, at = set(), [], 0
+    while at < len(tokens):
+        end = tokens.index(";", at) + 1 if tokens[at] == "use" and start_of(tokens, at) == at else at
+        if end == at:
+            words.add(tokens[at])
+            at += 1
+        else:
+            found.append((at, end))
+            at = end
+    for at, end in reversed(found):
+        place = tokens.index("{", at) + 1 if "{" in tokens[at:end] else end - 2
+        names = [it for it in tokens[place : end - 1] if it.isidentifier()]
+        left = [it for it in names if {it, METHODS.get(it, it)} & words]
+        if "*" in tokens[at:end]:
+            continue
+        if not left:
+            del tokens[at : end + 1]
+        elif left != names:
+            tokens[place : end - 1] = tokens_of(", ".join(left) + "}")
+    return tokens

@@ -1,0 +1,171 @@
+"""Source text as a list of tokens, and patterns of tokens.
+
+A pattern is written as code. In it `$x` stands for one word or literal, `$$x` for any tokens up to what
+follows, with all brackets closed, and `$docs` in front for the comments and attributes before it. Space
+and comments may be between the tokens that a pattern matches.
+"""
+import re
+from typing import NamedTuple
+
+TOKEN = re.compile(
+    r'//[^\n]*|b?r#".*?"#|b?"(?:\\.|[^"\\])*"'
+    r"|b?'(?:\\(?:u\{[0-9a-fA-F]+\}|x[0-9a-fA-F]{2}|.)|[^'\\\n])'"
+    r"|\$*'?[A-Za-z_]\w*|\d\w*|\s+|[!-~]",
+    re.S,
+)
+CLOSING = {"(": ")", "[": "]", "{": "}"}
+
+
+def tokens_of(text):
+    return TOKEN.findall(text)
+
+
+def code_of(text):
+    """Returns the tokens of a text that are no space."""
+    return [it for it in tokens_of(text) if not it.isspace()]
+
+
+def is_gap(token):
+    """Whether a token is space or a comment."""
+    return token.isspace() or token.startswith("//")
+
+
+def after_gap(tokens, at):
+    """Returns the position of the first token from `at` on that is no space and no comment."""
+    while at < len(tokens) and is_gap(tokens[at]):
+        at += 1
+    return at
+
+
+def before_gap(tokens, at):
+    """Returns the position of the last token before `at` that is no space and no comment, or -1."""
+    at -= 1
+    while at >= 0 and is_gap(tokens[at]):
+        at -= 1
+    return at
+
+
+def past_group(tokens, at):
+    """Returns the position after the token at `at`, or after the bracket that closes it."""
+    depth = 0
+    for end in range(at, len(tokens)):
+        depth += (tokens[end] in CLOSING) - (tokens[end] in CLOSING.values())
+        if depth <= 0:
+            return end + 1
+    return len(tokens)
+
+
+def runs(tokens, at):
+    """The positions at which tokens from `at` on may end that have both brackets of each pair."""
+    while at < len(tokens):
+        yield at
+        if tokens[at] in CLOSING.values():
+            return
+        at = past_group(tokens, at)
+
+
+def match(tokens, at, pattern):
+    """Returns the position after what a pattern matches, and what its variables stand for, or None."""
+    if not pattern:
+        return at, {}
+    part, at = pattern[0], after_gap(tokens, at)
+    if part.startswith("$$"):
+        ends = runs(tokens, at)
+    else:
+        it = tokens[at] if at < len(tokens) else " "
+        ends = [at + 1] if it == part or part[0] == "$" and (it[0] in "_\"'" or it[0].isalnum()) else []
+    for end in ends:
+        if found := match(tokens, end, pattern[1:]):
+            return found[0], {part: tokens[at:end], **found[1]}
+    return None
+
+
+def drop_docs(kept):
+    """Drops the comments and attributes at the end of these tokens, and the space before them."""
+    while kept and (is_gap(kept[-1]) or kept[-1] == "]"):
+        if kept[-1] == "]":
+            while kept[-1] != "#":
+                kept.pop()
+        kept.pop()
+
+
+def replaced(tokens, pattern, put):
+    """Returns the tokens with `put` in place of each match of a pattern, and how many there were."""
+    has_docs = pattern[0] == "$docs"
+    pattern = pattern[has_docs:]
+    kept, at, count = [], 0, 0
+    while at < len(tokens):
+        found = not is_gap(tokens[at]) and pattern[0] in (tokens[at], "$x") and match(tokens, at, pattern)
+        if not found:
+            kept.append(tokens[at])
+            at += 1
+            continue
+        count += 1
+        at = found[0]
+        new = [token for it in put for token in found[1].get(it, [it])]
+        if has_docs:
+            drop_docs(kept)
+        elif not new and kept[-1:] and kept[-1].isspace():
+            kept.pop()
+        elif not new and tokens[at : at + 1] and tokens[at].isspace():
+            at += 1
+        kept += new
+    return kept, count
+
+
+class Function(NamedTuple):
+    """A function: the positions of its first token after its docs, of `fn`, of what ends its head, and
+    after it. `owner` is the type of its `impl`, or `trait` and its name."""
+
+    name: str
+    owner: str
+    home: list
+    start: int
+    place: int
+    head_end: int
+    end: int
+
+
+def owner_of(head):
+    """Returns what the functions of an item belong to: the type of an `impl`, or `trait` and its name."""
+    text = "".join(it for it in head if not it.startswith("//"))
+    if trait := re.search(r"\bpub trait (\w+)", text):
+        return f"trait {trait[1]}"
+    found = re.search(r"\bimpl(?:<.*?>)?\s+(?:.*\bfor\s+)?&?(\w+)", text, re.S)
+    return found[1] if found else ""
+
+
+def functions(tokens):
+    """Returns the functions of a module."""
+    found, depth, item, home = [], 0, 0, []
+    for at, token in enumerate(tokens):
+        if token == "{" and depth == 0:
+            home = tokens[item:at]
+        depth += (token == "{") - (token == "}")
+        if depth == 0 and token in ("}", ";"):
+            item, home = at + 1, []
+        name = after_gap(tokens, at + 1)
+        if token == "fn" and tokens[name : name + 1] and tokens[name].isidentifier():
+            head_end = name
+            while tokens[head_end] not in ("{", ";"):
+                head_end = past_group(tokens, head_end)
+            found.append(Function(tokens[name], owner_of(home), home, start_of(tokens, at), at, head_end, past_group(tokens, head_end)))
+    return found
+
+
+def start_of(tokens, at):
+    """Returns the position of the first modifier of the item whose keyword is at `at`."""
+    while True:
+        before = before_gap(tokens, at)
+        if before >= 0 and tokens[before] == ")" and tokens[before - 1] in ("crate", "super"):
+            before = before_gap(tokens, before - 2)
+        if before < 0 or tokens[before] not in ("pub", "const", "unsafe", "extern") and tokens[before][0] != '"':
+            return at
+        at = before
+
+
+def attributes_of(tokens, start):
+    """Returns the position of the first attribute of the item that starts at `start`, or `start`."""
+    while (before := before_gap(tokens, start)) >= 0 and tokens[before] == "]":
+        start = max(i for i in range(before) if tokens[i] == "#")
+    return start
