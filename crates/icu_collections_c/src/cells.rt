@@ -145,7 +145,10 @@ impl<'a, T: UnsignedValue, L: Ledger> Cells<T> for ByteCells<'a, T, L> {
     }
 }
 
-/// `look_up` in bytes, with its reads counted in the ledger of `blank`.
+/// `look_up` in bytes.
+///
+/// # Contract
+/// It counts in the ledger of `blank`.
 #[inline(always)]
 fn look_up_counted<T: UnsignedValue, L: Ledger>(
     header: &CodePointTrieHeader,
@@ -185,7 +188,10 @@ pub(crate) fn look_up_in<T: UnsignedValue>(
     look_up_counted::<T, Brand>(header, index, values, c, Blank::new(1))
 }
 
-/// `walk` in bytes, with its reads counted in the ledger of `blank`.
+/// `walk` in bytes.
+///
+/// # Contract
+/// It counts in the ledger of `blank`.
 #[inline(always)]
 fn walk_counted<T: UnsignedValue, L: Ledger>(
     header: &CodePointTrieHeader,
@@ -237,7 +243,10 @@ pub(crate) fn walk_in<T: UnsignedValue>(
     walk_counted::<T, Brand>(header, index, values, c, Blank::new(1))
 }
 
-/// `is_coherent` in bytes, with its reads counted in the ledger of `blank`.
+/// `is_coherent` in bytes.
+///
+/// # Contract
+/// It counts in the ledger of `blank`.
 fn is_coherent_counted<T: UnsignedValue, L: Ledger>(
     header: &CodePointTrieHeader,
     index: &[u8],

@@ -55,8 +55,10 @@ fn range_in<T: UnsignedValue>(trie: &Trie<'_>, c: u32) -> Range
     }
 }
 
-/// `write_ranges`, with its reads counted in the ledger of `blank`. Header and cells are made once
-/// for all ranges.
+/// `write_ranges`. Header and cells are made once for all ranges.
+///
+/// # Contract
+/// It counts its reads in the ledger of `blank`.
 #[inline(always)]
 fn write_ranges_counted<T: UnsignedValue, L: Ledger>(
     trie: &Trie<'_>,

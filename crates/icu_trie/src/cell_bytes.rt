@@ -15,7 +15,10 @@ use icu_zerovec::{ZeroSlice, ZeroVec};
 use std::marker::Brand;
 use std::sync::ledger::{Blank, Ledger};
 
-/// `cell_of` over packed vectors, counting in the ledger of `blank`.
+/// `cell_of` over packed vectors.
+///
+/// # Contract
+/// It counts in the ledger of `blank`.
 #[inline]
 fn cell_counted<T: TrieValue, L: Ledger>(
     header: &CodePointTrieHeader,
@@ -38,7 +41,10 @@ fn cell_counted<T: TrieValue, L: Ledger>(
     cell_of(header, &mut cells, c)
 }
 
-/// `cell_of` over packed vectors. It counts in its own ledger, which it then drops.
+/// `cell_of` over packed vectors.
+///
+/// # Contract
+/// It counts in its own ledger, which it then drops.
 #[inline]
 fn cell_in<T: TrieValue>(
     header: &CodePointTrieHeader,

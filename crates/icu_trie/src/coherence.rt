@@ -13,7 +13,10 @@ use icu_zerovec::ZeroSlice;
 use std::marker::Brand;
 use std::sync::ledger::{Blank, Ledger};
 
-/// `is_coherent` over packed vectors, counting in the ledger of `blank`.
+/// `is_coherent` over packed vectors.
+///
+/// # Contract
+/// It counts in the ledger of `blank`.
 fn is_coherent_counted<T: TrieValue, L: Ledger>(
     header: &CodePointTrieHeader,
     index: ZeroSlice<'_, u16>,
@@ -34,7 +37,10 @@ fn is_coherent_counted<T: TrieValue, L: Ledger>(
     is_coherent(header, &mut cells)
 }
 
-/// `is_coherent` over packed vectors. It counts in its own ledger, which it then drops.
+/// `is_coherent` over packed vectors.
+///
+/// # Contract
+/// It counts in its own ledger, which it then drops.
 fn is_coherent_in<T: TrieValue>(
     header: &CodePointTrieHeader,
     index: ZeroSlice<'_, u16>,

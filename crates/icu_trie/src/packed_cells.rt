@@ -67,7 +67,10 @@ impl<'a, T: TrieValue, L: Ledger> Cells<T> for PackedCells<'a, T, L> {
     }
 }
 
-/// `fast_place_of` over packed vectors, counting in the ledger of `blank`.
+/// `fast_place_of` over packed vectors.
+///
+/// # Contract
+/// It counts in the ledger of `blank`.
 #[inline(always)]
 fn fast_place_counted<T: TrieValue, L: Ledger>(
     header: &CodePointTrieHeader,
@@ -93,7 +96,10 @@ fn fast_place_counted<T: TrieValue, L: Ledger>(
     fast_place_of(header, &mut cells, c)
 }
 
-/// `fast_place_of` over packed vectors. It counts in its own ledger, which it then drops.
+/// `fast_place_of` over packed vectors.
+///
+/// # Contract
+/// It counts in its own ledger, which it then drops.
 #[inline(always)]
 pub(crate) fn fast_place_in<T: TrieValue>(
     header: &CodePointTrieHeader,
@@ -110,7 +116,10 @@ pub(crate) fn fast_place_in<T: TrieValue>(
     fast_place_counted::<T, Brand>(header, index, values, c, Blank::new(1))
 }
 
-/// `high_place_of` over packed vectors, with the ledger of `blank`.
+/// `high_place_of` over packed vectors.
+///
+/// # Contract
+/// It counts in the ledger of `blank`.
 #[inline(always)]
 fn high_place_counted<T: TrieValue, L: Ledger>(
     header: &CodePointTrieHeader,
@@ -138,7 +147,10 @@ fn high_place_counted<T: TrieValue, L: Ledger>(
     high_place_of(header, &cells, c)
 }
 
-/// `high_place_of` over packed vectors. It counts in its own ledger, which it then drops.
+/// `high_place_of` over packed vectors.
+///
+/// # Contract
+/// It counts in its own ledger, which it then drops.
 #[inline(always)]
 pub(crate) fn high_place_in<T: TrieValue>(
     header: &CodePointTrieHeader,
@@ -157,7 +169,10 @@ pub(crate) fn high_place_in<T: TrieValue>(
     high_place_counted::<T, Brand>(header, index, values, c, Blank::new(1))
 }
 
-/// `small_place_of` over packed vectors, counting in the ledger of `blank`.
+/// `small_place_of` over packed vectors.
+///
+/// # Contract
+/// It counts in the ledger of `blank`.
 #[inline(always)]
 fn small_place_counted<T: TrieValue, L: Ledger>(
     trie_type: TrieType,
@@ -181,7 +196,10 @@ fn small_place_counted<T: TrieValue, L: Ledger>(
     small_place_of(trie_type, &mut cells, c)
 }
 
-/// `small_place_of` over packed vectors. It counts in its own ledger, which it then drops.
+/// `small_place_of` over packed vectors.
+///
+/// # Contract
+/// It counts in its own ledger, which it then drops.
 #[inline(always)]
 pub(crate) fn small_place_in<T: TrieValue>(
     trie_type: TrieType,
@@ -196,7 +214,10 @@ pub(crate) fn small_place_in<T: TrieValue>(
     small_place_counted::<T, Brand>(trie_type, index, values, c, Blank::new(1))
 }
 
-/// `walk` over packed vectors, counting in the ledger of `blank`.
+/// `walk` over packed vectors.
+///
+/// # Contract
+/// It counts in the ledger of `blank`.
 #[inline(always)]
 fn walk_counted<T: TrieValue, L: Ledger>(
     header: &CodePointTrieHeader,
@@ -222,7 +243,10 @@ fn walk_counted<T: TrieValue, L: Ledger>(
     walk(header, &mut cells, c)
 }
 
-/// `walk` over packed vectors. It counts in its own ledger, which it then drops.
+/// `walk` over packed vectors.
+///
+/// # Contract
+/// It counts in its own ledger, which it then drops.
 #[inline(always)]
 pub(crate) fn walk_in<T: TrieValue>(
     header: &CodePointTrieHeader,
