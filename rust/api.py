@@ -5,7 +5,6 @@ import os
 import re
 
 from files import HERE, Stop, read
-from names import used
 from rules import CONST, DERIVED, INSIDE, ITERATORS, PANICS
 from tokens import after_gap, attributes_of, before_gap, code_of, functions, match, past_group, start_of, tokens_of
 
@@ -22,7 +21,7 @@ def derived(tokens):
     for at in reversed([i for i, it in enumerate(tokens) if it in ("struct", "enum")]):
         start, name = start_of(tokens, at), tokens[after_gap(tokens, at + 1)]
         is_error = name.endswith("Error")
-        more = DERIVED.get(name, "").split() + ["Clone", "Eq", "Hash"] * is_error
+        more = [it for it, types in DERIVED.items() if name in types or is_error and it != "PartialEq"]
         line = LAZY * (name in ITERATORS and tokens[at] == "struct")
         line += "#[non_exhaustive]\n" * (is_error and tokens[at] == "enum")
         tokens[start:start] = tokens_of(line)
@@ -118,4 +117,4 @@ def guided(module, tokens, is_library):
     """Returns the tokens of a module with all of these, or, if it is not of the library, with `inline`."""
     if not is_library:
         return with_attributes(tokens, is_library)
-    return used(with_added(module, with_attributes(derived(tokens), is_library)))
+    return with_added(module, with_attributes(derived(tokens), is_library))

@@ -9,10 +9,11 @@ import glob
 import os
 import re
 
-from files import HERE, Stop, read, write
-from rules import DOC_RULES, TRIED
+from files import HERE, Stop, read, rules_of, write
+from rules import TRIED
 from tokens import after_gap, functions, owner_of, past_group, tokens_of
 
+RULES = rules_of("docs")
 FENCES = (" ```", " ```text", " ```ignore")
 # What the last line of an example with `?` says: the type of its errors.
 ERRORS = "# Ok::<(), Box<dyn std::error::Error>>(())"
@@ -85,8 +86,8 @@ def trimmed(lines):
 def renamed(crate, lines):
     """Returns lines of comments with the names of this edition."""
     text = "\n".join(lines)
-    for pattern, put in DOC_RULES:
-        text = re.sub(pattern, put, text, flags=re.M)
+    for said, put, *_ in RULES:
+        text = text.replace(said, put)
     text = re.sub(r"(?<=\()crate::", f"crate::{crate}::", text)
     text = re.sub(r"(?<=\]\()(?=icu_\w+::)", "crate::", text)
     return re.sub(rf"(\.|::|`)({'|'.join(TRIED[:-4])})(?=\()", r"\1try_\2", text).split("\n")

@@ -21,6 +21,21 @@ def write(path, text):
         file.write(text)
 
 
+def rules_of(section):
+    """Returns the rules of a section of rust/rules.txt: pattern, replacement, example and result."""
+    forms, examples, words = [], [], [""]
+    for line in read(f"{HERE}/rules.txt").split(f"== {section}\n")[1].split("\n== ")[0].splitlines():
+        if line.startswith("each "):
+            words = line.split()[1:]
+        elif "==>" in line and not line.startswith("//"):
+            is_example = line.startswith(" ")
+            for key, _, value in (it.partition("=") for it in words):
+                sides = line.replace("@", key).replace("%", value).replace("\\n", "\n").split("==>")
+                (examples if is_example else forms).append([it.strip() for it in sides])
+            words = [""] if is_example else words
+    return [(*form, *example) for form, example in zip(forms, examples, strict=True)]
+
+
 def edited(module, tokens, edits):
     """Applies what rust/edits.py lists for a module, to its text with marks for comments and literals."""
     held, text = [], ""

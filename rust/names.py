@@ -1,7 +1,8 @@
 """The names and paths of the Rust edition, and its lists of arguments without the allocator."""
 import re
 
-from rules import FEATURES, METHODS, TRIED
+from files import Stop, rules_of
+from rules import FEATURES, TRIED
 from tokens import after_gap, before_gap, code_of, is_gap, match, replaced, start_of, tokens_of
 
 # Parameters, fields and arguments that are the allocator, before a comma or a bracket.
@@ -14,10 +15,23 @@ ALLOCATORS = [code_of(it) for it in ALLOCATORS]
 SHARED = "support ledger host context cold clap serde_json toml".split()
 
 
+def compiled(rules):
+    """Returns rules as tokens. Stops at one that does not turn its example into what it says."""
+    made = []
+    for pattern, put, *example in rules:
+        made.append((code_of(pattern), tokens_of(put)))
+        if example and "".join(replaced(tokens_of(example[0]), *made[-1])).strip() != example[1]:
+            raise Stop(f"rust/rules.txt: the example of the rule for {pattern!r} does not hold")
+    return made
+
+
+SOURCE, LEDGERS = compiled(rules_of("source")), compiled(rules_of("ledgers"))
+
+
 def ruled(tokens, rules):
     """Applies rules, one after another."""
-    for pattern, put, *_ in rules:
-        tokens, _ = replaced(tokens, code_of(pattern), tokens_of(put))
+    for pattern, put in rules:
+        tokens = replaced(tokens, pattern, put)
     return tokens
 
 
@@ -92,27 +106,3 @@ def featured(module, tokens):
                 found = ", ".join(f'feature = "{it}"' for it in feature.split())
                 made[start:start] = tokens_of(f"#[cfg({f'any({found})' if ' ' in feature else found})]\n")
     return made
-
-
-def used(tokens):
-    """Removes imported names that only proofs use: the code has them nowhere else."""
-    words, found, at = set(), [], 0
-    while at < len(tokens):
-        end = tokens.index(";", at) + 1 if tokens[at] == "use" and start_of(tokens, at) == at else at
-        if end == at:
-            words.add(tokens[at])
-            at += 1
-        else:
-            found.append((at, end))
-            at = end
-    for at, end in reversed(found):
-        place = tokens.index("{", at) + 1 if "{" in tokens[at:end] else end - 2
-        names = [it for it in tokens[place : end - 1] if it.isidentifier()]
-        left = [it for it in names if {it, METHODS.get(it, it)} & words]
-        if "*" in tokens[at:end]:
-            continue
-        if not left:
-            del tokens[at : end + 1]
-        elif left != names:
-            tokens[place : end - 1] = tokens_of(", ".join(left) + "}")
-    return tokens

@@ -90,17 +90,16 @@ def drop_docs(kept):
 
 
 def replaced(tokens, pattern, put):
-    """Returns the tokens with `put` in place of each match of a pattern, and how many there were."""
+    """Returns the tokens with `put` in place of each match of a pattern."""
     has_docs = pattern[0] == "$docs"
     pattern = pattern[has_docs:]
-    kept, at, count = [], 0, 0
+    kept, at = [], 0
     while at < len(tokens):
         found = not is_gap(tokens[at]) and pattern[0] in (tokens[at], "$x") and match(tokens, at, pattern)
         if not found:
             kept.append(tokens[at])
             at += 1
             continue
-        count += 1
         at = found[0]
         new = [token for it in put for token in found[1].get(it, [it])]
         if has_docs:
@@ -110,7 +109,7 @@ def replaced(tokens, pattern, put):
         elif not new and tokens[at : at + 1] and tokens[at].isspace():
             at += 1
         kept += new
-    return kept, count
+    return kept
 
 
 class Function(NamedTuple):

@@ -60,7 +60,7 @@ KNOWN = {
     "use std::marker::{Brand, PhantomData};\nstruct S(PhantomData<u8>);\n":
         "use core::marker::PhantomData;\nstruct S(PhantomData<u8>);\n",
     "use std::cmp::{self, Ordering};\nuse std::fmt::Debug;\nstruct S(Ordering);\n":
-        "use core::cmp::{Ordering};\nstruct S(Ordering);\n",
+        "use core::cmp::{self, Ordering};\nuse core::fmt::Debug;\nstruct S(Ordering);\n",
 }
 # Changes of c/bekstaudi.h after which it no longer declares what icu_collections_c has.
 OTHER_HEADERS = [

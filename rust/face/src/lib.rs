@@ -146,11 +146,12 @@ macro_rules! generated_with_alloc {
 }
 // What is allowed is what the proofs are about: loops over indices, also in searches, bounds that
 // are compared one by one, remainders, a `while` over an iterator that is used afterwards, and
-// nested cases.
+// nested cases. A module imports what its proved source does, also what only clauses name.
 macro_rules! modules {
     ($on:meta: $($name:ident)*) => {
         $(#[cfg($on)]
         #[allow(
+            unused_imports,
             clippy::needless_range_loop,
             clippy::manual_find,
             clippy::manual_range_contains,
@@ -161,7 +162,7 @@ macro_rules! modules {
         // Without these features nothing uses what they need.
         #[cfg_attr(
             not(all(feature = "alloc", feature = "json")),
-            allow(dead_code, unused_imports)
+            allow(dead_code)
         )]
         mod $name;)*
     };
