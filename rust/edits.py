@@ -41,29 +41,8 @@ EDITS = {
     "icu_zerovec/raw/proved": [
         (r"&bytes\[start\.\.start \+ width\]", "crate::support::cells::unchecked(bytes, start, width)", 1),
     ],
-    # All boundaries are packed by rust/support/boundaries.
-    "icu_invlist/codepointinvlist/cpinvlist/packing": [
-        (r"(?s)(?:\x01\d+\x03\n)+pub\(super\) fn with_ends\(.*?(?=(?:\x01\d+\x03\n)+pub\(super\) fn pack\()", "", 1),
-        (r"(?s)(?:\x01\d+\x03\n)+#\[inline\(always\)\]\npub\(super\) fn word_of.*?\n\}\n\n", "", 1),
-        (r"(?s)let size = ends\.len\(\) \* 3;.*?Ok\(bytes\)", "Ok(packed(ends)?)", 1),
-        (r"(?m)^(?=pub\(super\) fn pack\()", "#[inline(always)]\n", 1),
-        (r"(?=use icu_zerovec)", "use crate::support::boundaries::packed;\n", 1),
-    ],
-    # In a set of a few ranges, calls of these functions take a tenth of the time of a change.
-    "icu_invlist/fill": [(r"(?m)^(?=fn (?:count_below_from|overwrite)\()", "#[inline(always)]\n", 2)],
-    # The words of three steps with four tests in place of six.
-    "icu_invlist/codepointinvlist/cpinvlist/places": [
-        (r"(?s)(?: +\x01\d+\x03\n)+ +#\[inline\(always\)\]\n +fn is_up_to.*?\n    \}\n\n", "", 1),
-        (
-            r"(?s)let first = self\.is_up_to\(low \+ step - 1, c\);.*?first as usize \+ second as usize \+ third as usize",
-            "let [first, second, third] = match last_words(self.ends.as_bytes(), low, step) {\n"
-            "            Some(words) => words,\n            None => unreachable!(),\n        };\n"
-            "        let limit = (c + 1) << 8;\n"
-            "        usize::from(first < limit) + usize::from(second < limit) + usize::from(third < limit)",
-            1,
-        ),
-        (r"use super::packing::word_of;", "use crate::support::boundaries::last_words;", 1),
-    ],
+    # Of two bodies with one contract, the one with fewer tests.
+    "icu_invlist/codepointinvlist/cpinvlist/words": [(r"use proved::", "use tested::", 1), (r"mod proved;\n", "", 1)],
     # A step of a listing of a unit trie, and an entry with its text. rustc makes calls of them, which
     # take longer than the step.
     "icu_char16trie/pending": [(r"(?m)^(?= +fn enter_part)", "    #[inline(always)]\n", 1)],
@@ -301,32 +280,14 @@ EDITS = {
         (r"(\n +)(?=value_width: u8,\n)", r"\1#[allow(dead_code)] // The array that is there says the width.\1", 1),
         (r"(?m)^    (?=(?:index|data_8|data_16|data_32|\w+_width|\w+_start|\w+_offset|trie_type|null_value|fields): [\w<>]+,$)", "    pub(crate) ", 12),
     ],
-    # So is that the number of boundaries is even, for types with their own `Eq`. In a constant there
-    # is no call of a trait.
+    # In a constant there is no call of a trait.
     "icu_invlist/codepointinvlist/cpinvlist": [
-        (r"(\n +)(?=let bytes = pack)", r"\1assert_eq!(ends.len() % 2, 0);\1", 1),
         (
             r"(?s)match ZeroVec::parse_bytes\((&\[[^]]*\])\) \{.*?( +size: \w+),?(?: \}|\n +\}),.*?\n        \}",
             r"CodePointInversionList {\n            ends: ZeroVec::from_packed(\1),\n           \2,\n        }",
             3,
         ),
         (r"(?m)^    (?=ends: ZeroVec<'data|size: u32,)", "    pub(crate) ", 2),
-        # The sizes of the ranges before one are added four boundaries at a time.
-        (
-            r"(?s)let mut before = 0;\n +let mut i = 0;\n +while i \+ 1 < place \{.*?\n        \}\n        Some\(before \+ \(c - self\.end_at\(i\)\) as usize\)",
-            "let start = place - 1;\n        let before = sum_of_sizes(&self.ends.as_bytes()[..3 * start]);\n"
-            "        Some(before + (c - self.end_at(start)) as usize)",
-            1,
-        ),
-        # All boundaries by rust/support/boundaries.
-        (
-            r"(?s)let packed = self\.ends\.as_slice\(\);\n +ends\.\w+\(packed.*?Ok\(\(\)\)",
-            "Ok(unpack(&self.ends.as_bytes()[3 * from..], ends)?)",
-            1,
-        ),
-        (r"(?m)^(?=use icu_zerovec::ule)", "use crate::support::boundaries::{sum_of_sizes, unpack};\n", 1),
-        (r", with_ends\b", "", 1),
-        (r"(?m)^use (?:std|core)::mem;\n", "", 1),
     ],
     # A constant cannot read a value of any type, so the error value is not stored beside the data.
     "icu_trie/cptrie": [
@@ -514,7 +475,6 @@ EDITS = {
             1,
         ),
         (r"(\n +)end: 0,", r"\1end: 0,\1last: (0, 0),", 1),
-        (r"(\n +)(?=fn next\(&mut self\) -> Option<char>)", r"\1#[inline]\1", 1),
         (
             r"(found;\n +\}\n +)let start = self\.ends\.next\(\)\?;",
             r"\1let Some(start) = self.ends.next() else {\n                if self.last.0 >= self.last.1 {"

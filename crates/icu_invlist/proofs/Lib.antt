@@ -8,6 +8,7 @@ mod EqualSets
 pub mod PlaceLemmas
 pub mod StretchLemmas
 pub mod PackedEnds
+pub mod PackedWords
 pub mod CheckedLists
 pub mod Toggles
 pub mod Searches

@@ -1,5 +1,5 @@
 -- The ranges and the members of a set.
-use Rattle.std.proofs.Common.{◌≡◌, ℕ, ◌+◌, ◌-◌, ◌*◌, ◌/◌, ◌%◌, ◌<◌, ◌≤◌, List, [], ◌∷◌, length, get_or, drop, Some, slice_get, refl, ap, sym, ◌∙◌, arith, zero, suc, min, Bool, true, false, cond, inl, inr}
+use Rattle.std.proofs.Common.{◌≡◌, ℕ, ◌+◌, ◌-◌, ◌*◌, ◌/◌, ◌%◌, ◌<◌, ◌≤◌, List, [], ◌∷◌, length, get_or, take, drop, Some, slice_get, refl, ap, sym, ◌∙◌, arith, zero, suc, min, Bool, true, false, cond, inl, inr}
 use Rattle.std.proofs.lemmas.Bool.{cases_lt, cases_eq, eq-eqb, ne_eqb}
 use Rattle.std.specs.declared.ops.RangeInclusive.{RangeInclusive}
 use Rattle.std.proofs.lemmas.List.{drop_more}
@@ -7,6 +7,7 @@ use Rattle.std.proofs.lemmas.List.Elements.{All-cons, All-nil}
 use Rattle.std.specs.List.{All}
 use Rattle.icu_zerovec.specs.CodePoints.{code_point_limit}
 use Rattle.icu_invlist.specs.InversionList.{holds, is_odd, IsOfCodePoints, IsValid, ranges_of, members_below}
+use Rattle.icu_invlist.specs.Inside.PackedSets.{sum_of_sizes}
 use Rattle.icu_invlist.specs.Inside.Places.{Run, ends_below}
 use Rattle.icu_invlist.proofs.RunLemmas.{ends_below-before, ends_below-yes, ends_below-no, run-wider}
 use Rattle.icu_invlist.proofs.Parity.{holds-ends_below, odd_same}
@@ -69,27 +70,21 @@ unfolding members_below
 members-none zero = refl
 members-none (suc m) = let a = members-none m in let b = held [] m in omega arith
 
--- The sum of the lengths of the ranges.
-abbrev pub total : List ℕ → ℕ
-total [] = 0
-total (s ∷ []) = 0
-total (s ∷ e ∷ xs) = (e - s) + total xs
-
-pub size_is : (lo hi m : ℕ) (xs : List ℕ) → Run lo hi xs → hi ≤ suc m → length xs % 2 ≡ 0 → members_below xs m ≡ total xs
+pub size_is : (lo hi m : ℕ) (xs : List ℕ) → Run lo hi xs → hi ≤ suc m → length xs % 2 ≡ 0 → members_below xs m ≡ sum_of_sizes xs
 size_is lo hi m [] r h e = members-none m
 size_is lo hi m (s ∷ []) r h e = absurd (omega arith)
 size_is lo hi m (s ∷ y ∷ xs) r h e = let i = size_is (suc y) hi m xs r.2.2 h (omega arith) in
     let p = members-pair lo hi s y m xs r in omega (arith, r.2.0, r.2.1)
 
-pub size-valid : (xs : List ℕ) → IsValid xs → members_below xs code_point_limit ≡ total xs
+pub size-valid : (xs : List ℕ) → IsValid xs → members_below xs code_point_limit ≡ sum_of_sizes xs
 size-valid xs v = size_is 0 (suc code_point_limit) code_point_limit xs (run_from_valid xs v) (omega arith) v.even
 
 pub total-more : (xs : List ℕ) (i : ℕ) → i % 2 ≡ 0 → i + 1 < length xs
-    → total (drop i xs) ≡ (get_or xs (i + 1) 0 - get_or xs i 0) + total (drop (i + 2) xs)
+    → sum_of_sizes (drop i xs) ≡ (get_or xs (i + 1) 0 - get_or xs i 0) + sum_of_sizes (drop (i + 2) xs)
 total-more xs i e h = rw (drop_more xs i 0 (omega arith), drop_more xs (i + 1) 0 h)
-    (ap (λ (n : ℕ). (get_or xs (i + 1) 0 - get_or xs i 0) + total (drop n xs)) (omega arith))
+    (ap (λ (n : ℕ). (get_or xs (i + 1) 0 - get_or xs i 0) + sum_of_sizes (drop n xs)) (omega arith))
 
-pub total-le : (lo hi : ℕ) (xs : List ℕ) → lo ≤ hi → Run lo hi xs → total xs + lo ≤ hi
+pub total-le : (lo hi : ℕ) (xs : List ℕ) → lo ≤ hi → Run lo hi xs → sum_of_sizes xs + lo ≤ hi
 total-le lo hi [] h r = omega arith
 total-le lo hi (s ∷ []) h r = omega arith
 total-le lo hi (s ∷ e ∷ xs) h r = let i = total-le (suc e) hi xs (omega (arith, r.2.1)) r.2.2 in omega (arith, r.0, r.2.0, r.2.1)
@@ -135,7 +130,7 @@ pub record Walked (xs : List ℕ) (i c before : ℕ) : Type 0 where
   pub even : i % 2 ≡ 0
   pub held : holds xs c ≡ holds (drop i xs) c
   pub so_far : members_below xs c ≡ before + members_below (drop i xs) c
-  pub small : before + total (drop i xs) ≡ total xs
+  pub small : before + sum_of_sizes (drop i xs) ≡ sum_of_sizes xs
 
 module _ (xs : List ℕ) (i c before s e : ℕ) (v : IsValid xs) (w : Walked xs i c before) (h : i + 1 < length xs) (a : s ≡ get_or xs i 0)
     (b : e ≡ get_or xs (i + 1) 0) where
@@ -146,7 +141,7 @@ module _ (xs : List ℕ) (i c before s e : ℕ) (v : IsValid xs) (w : Walked xs 
   rises = rw parts at (run-drop 0 (suc code_point_limit) i xs (run_from_valid xs v))
 
   pub walked_room : before + (e - s) ≤ suc code_point_limit
-  walked_room = let t = ap total parts in let q = total-le 0 (suc code_point_limit) xs (omega arith) (run_from_valid xs v) in
+  walked_room = let t = ap sum_of_sizes parts in let q = total-le 0 (suc code_point_limit) xs (omega arith) (run_from_valid xs v) in
       let u = w.small in omega arith
 
   pub walked_in : s ≤ c → c < e → (holds xs c ≡ true) × (members_below xs c ≡ before + (c - s))
@@ -158,8 +153,25 @@ module _ (xs : List ℕ) (i c before s e : ℕ) (v : IsValid xs) (w : Walked xs 
     even = (let x = w.even in omega arith);
     held = w.held ∙ rw parts p.0;
     so_far = (let t = ap (λ (ys : List ℕ). members_below ys c) parts in let q = p.1 in let u = w.so_far in omega arith);
-    small = (let t = ap total parts in let u = w.small in omega arith);
+    small = (let t = ap sum_of_sizes parts in let u = w.small in omega arith);
   }
+
+-- A loop over the ranges before index i, whose boundaries are at most c.
+pub walked_to : (xs : List ℕ) (i c : ℕ) → IsValid xs → i % 2 ≡ 0 → i ≤ length xs → ((k : ℕ) → k < i → get_or xs k 0 ≤ c)
+    → Walked xs i c (sum_of_sizes (take i xs))
+walked_to xs zero c v e l h = record { even = refl; held = refl; so_far = omega arith; small = omega arith }
+walked_to [] (suc i) c v e l h = absurd (omega arith)
+walked_to (s ∷ xs) (suc zero) c v e l h = absurd (omega arith)
+walked_to (s ∷ []) (suc (suc i)) c v e l h = absurd (omega arith)
+walked_to (s ∷ t ∷ xs) (suc (suc i)) c v e l h =
+    let w = walked_to xs i c (rest_valid s t xs v) (omega arith) (omega arith) (λ k q. h (suc (suc k)) (omega arith)) in
+    let p = pair_past 0 (suc code_point_limit) s t c xs (run_from_valid (s ∷ t ∷ xs) v) (h 1 (omega arith)) in
+    record {
+      even = e;
+      held = p.0 ∙ w.held;
+      so_far = (let a = p.1 in let b = w.so_far in omega arith);
+      small = (let a = w.small in omega arith);
+    }
 
 -- ---- the range at an index
 pub nth : (xs : List ℕ) (k : ℕ) → k * 2 + 1 < length xs

@@ -1,6 +1,7 @@
 -- The set contains c if the number of boundaries below c + 1 is odd.
-use Rattle.std.proofs.Common.{◌≡◌, ℕ, ◌%◌, List, [], refl, ap, arith, suc, Bool, true, false, cond}
-use Rattle.std.proofs.lemmas.Bool.{eq-eqb, ne_eqb}
+use Rattle.std.proofs.Common.{◌≡◌, ℕ, ◌%◌, List, [], refl, ap, arith, suc, Bool, true, false, cond, inl, inr}
+use Rattle.std.specs.Prelude.{IsTrue, ◌↔◌}
+use Rattle.std.proofs.lemmas.Bool.{both_ways, cases_eq, eq-eqb, false≢true, ne_eqb}
 use Rattle.icu_invlist.specs.InversionList.{holds, is_odd}
 use Rattle.icu_invlist.specs.Inside.Places.{ends_below}
 use Rattle.icu_invlist.proofs.RunLemmas.{up_to-ends_below}
@@ -17,3 +18,8 @@ holds-ends_below xs c = ap is_odd (up_to-ends_below xs c)
 
 pub holds-nil : (c : ℕ) → holds [] c ≡ false
 holds-nil c = holds-ends_below [] c
+
+-- A number that a test found not to be even.
+pub not_even_is_odd : (even : Bool) (n : ℕ) → (IsTrue even ↔ (n % 2 ≡ 0)) → even ≡ false → n % 2 ≡ 1
+not_even_is_odd true n h e = absurd (both_ways true e refl)
+not_even_is_odd false n h e = elim (cases_eq (n % 2) 0) [ inl k ↦ absurd (false≢true (h.1 k)) | inr k ↦ omega arith ]

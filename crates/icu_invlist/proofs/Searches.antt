@@ -1,6 +1,7 @@
 -- How a search narrows the index of a number among boundaries.
-use Rattle.std.proofs.Common.{◌≡◌, ℕ, ◌+◌, ◌-◌, ◌*◌, ◌<◌, ◌≤◌, List, length, get_or, arith, refl, Bool, true, false, inl, inr}
+use Rattle.std.proofs.Common.{◌≡◌, ℕ, ◌+◌, ◌-◌, ◌*◌, ◌<◌, ◌≤◌, List, length, get_or, arith, refl, ◌∙◌, Bool, true, false, inl, inr}
 use Rattle.std.specs.Prelude.{IsTrue, ◌↔◌}
+use Rattle.std.specs.Int.{from_bool}
 use mir.Val.{bool_byte}
 use Rattle.std.proofs.lemmas.Bool.{cases_lt, false≢true}
 use Rattle.icu_invlist.specs.Inside.Places.{AreStepsBelow, Run, ends_below}
@@ -34,6 +35,17 @@ pub steps_counted : (p low step : ℕ) (x y z : Bool) → 0 < step → low ≤ p
     → (IsTrue y ↔ (low + 2 * step - 1 < p)) → (IsTrue z ↔ (low + 3 * step - 1 < p))
     → AreStepsBelow p low step (bool_byte x + bool_byte y + bool_byte z)
 steps_counted p low step x y z s f a b c = counted p low step x y z s f (told x _ p a) (told y _ p b) (told z _ p c)
+
+is_byte : (x : Bool) → from_bool x ≡ bool_byte x
+is_byte true = refl
+is_byte false = refl
+
+-- The same of results that are 1 or 0.
+pub words_counted : (p low step a b d : ℕ) (x y z : Bool) → 0 < step → low ≤ p → a ≡ from_bool x → b ≡ from_bool y → d ≡ from_bool z
+    → (IsTrue x ↔ (low + step - 1 < p)) → (IsTrue y ↔ (low + 2 * step - 1 < p)) → (IsTrue z ↔ (low + 3 * step - 1 < p))
+    → AreStepsBelow p low step (a + b + d)
+words_counted p low step a b d x y z s f k l m u v w = rw (k ∙ is_byte x, l ∙ is_byte y, m ∙ is_byte z)
+    (steps_counted p low step x y z s f u v w)
 
 -- One boundary that was compared.
 pub one_counted : (p low size : ℕ) (x : Bool) → 0 < size → low ≤ p → p ≤ low + size → (IsTrue x ↔ (low < p))

@@ -5,7 +5,8 @@ use Rattle.icu_zerovec.specs.CodePoints.{code_point_limit}
 use Rattle.icu_invlist.specs.InversionList.{holds, IsSubset, IsValid, members_below}
 use Rattle.icu_invlist.specs.Inside.Places.{Run}
 use Rattle.icu_invlist.proofs.EqualSets.{same_parts}
-use Rattle.icu_invlist.proofs.MemberLemmas.{no_single, size-valid, total}
+use Rattle.icu_invlist.specs.Inside.PackedSets.{sum_of_sizes}
+use Rattle.icu_invlist.proofs.MemberLemmas.{no_single, size-valid}
 use Rattle.icu_invlist.proofs.ValidLists.{run_from_valid}
 
 -- ---- a sum over all boundaries
@@ -19,7 +20,7 @@ pub counted_more : (s e : ℕ) (xs : List ℕ) → counted s (xs ++ e ∷ []) �
 counted_more s e [] = refl
 counted_more s e (x ∷ xs) = counted_more (x - s) e xs
 
-counted_is : (lo hi s : ℕ) (xs : List ℕ) → Run lo hi xs → s ≤ lo → length xs % 2 ≡ 0 → counted s xs ≡ s + total xs
+counted_is : (lo hi s : ℕ) (xs : List ℕ) → Run lo hi xs → s ≤ lo → length xs % 2 ≡ 0 → counted s xs ≡ s + sum_of_sizes xs
 counted_is lo hi s [] r h e = omega arith
 counted_is lo hi s (x ∷ []) r h e = absurd (omega arith)
 counted_is lo hi s (x ∷ y ∷ xs) r h e = let i = counted_is (suc y) hi (y - (x - s)) xs r.2.2 (omega arith) (omega arith) in
@@ -30,7 +31,7 @@ counted_members xs v = let c = counted_is 0 (suc code_point_limit) 0 xs (run_fro
     let t = size-valid xs v in omega arith
 
 -- The invariant of a set with the boundaries ys, which are equal to xs.
-pub sized : (xs ys : List ℕ) (n : ℕ) → ys ≡ xs → IsValid xs → total xs ≡ n → IsValid ys × (n ≡ members_below ys code_point_limit)
+pub sized : (xs ys : List ℕ) (n : ℕ) → ys ≡ xs → IsValid xs → sum_of_sizes xs ≡ n → IsValid ys × (n ≡ members_below ys code_point_limit)
 sized xs ys n e v t = rw e (v, sym (size-valid xs v ∙ t))
 
 -- What the invariant of a set with the boundaries xs says of ys, which are equal to xs.

@@ -4,3 +4,4 @@ pub mod Merging
 pub mod StillGiven
 pub mod GivenEnds
 pub mod Stretches
+pub mod PackedSets

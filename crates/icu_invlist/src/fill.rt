@@ -80,6 +80,7 @@ fn count_below(ends: &[u32], c: u32) -> usize
 
 /// Returns how many boundaries are below `c`, given that at least `from` are. It is fast if there
 /// are exactly `from`, as when a range is added after all others.
+#[inline(always)]
 fn count_below_from(ends: &[u32], from: usize, c: u32) -> usize
     requires rises { Run 0 (suc code_point_limit) ends.now }
     requires from { from ≤ ends_below ends.now c }
@@ -94,6 +95,7 @@ fn count_below_from(ends: &[u32], from: usize, c: u32) -> usize
 
 /// Replaces the boundaries at indices `lower..upper` by `start` if `first` is true and `end` if
 /// `second` is true.
+#[inline(always)]
 fn overwrite(
     ends: &mut Vec<u32>,
     lower: usize,

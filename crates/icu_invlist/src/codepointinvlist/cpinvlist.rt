@@ -15,6 +15,7 @@ mod packing;
 mod places;
 mod stretches;
 mod subsets;
+mod words;
 
 use crate::codepointinvlist::error::{InvalidSetError, SetError};
 use crate::codepointinvlist::iter::{IterChars, IterRanges, IterRangesComplemented, start_of_gap};
@@ -22,10 +23,9 @@ use crate::codepointinvlist::sizes::{size_of, valid_size};
 use crate::codepointinvlist::utils::{RangeOf, is_valid_slice};
 use icu_zerovec::ule::AsULE;
 use icu_zerovec::{CODE_POINT_LIMIT, MemoryError, PotentialCodePoint, ZeroSlice, ZeroVec};
-use packing::{cut_to_points, pack, unpacked, with_ends};
+use packing::{cut_to_points, pack, sum_of_sizes, unpack, unpacked};
 use std::alloc::Global;
 use std::marker::Model;
-use std::mem;
 use std::ops::RangeInclusive;
 use stretches::Stretch;
 
@@ -115,6 +115,9 @@ impl<'data> CodePointInversionList<'data> {
         ensures { IfOk result (λ s. s ≡ ends.now) }
     {
         let size = size_of(ends);
+        if !ends.len().is_multiple_of(2) {
+            unreachable!();
+        }
         let bytes = pack(alloc, ends)?;
         match ZeroVec::parse_owned(bytes) {
             Ok(ends) => Ok(CodePointInversionList { ends, size }),
@@ -254,11 +257,7 @@ impl<'data> CodePointInversionList<'data> {
         ensures ok { OnOk result (ends.new.items ≡ ends.old.items ++ drop from self.now) }
         ensures err { OnErr result (ends.new.items ≡ ends.old.items) }
     {
-        let packed = self.ends.as_slice();
-        ends.reserve(packed.len() - from)?;
-        let taken = mem::try_take(ends)?;
-        *ends = with_ends(taken, packed, from);
-        Ok(())
+        unpack(&self.ends.as_bytes()[3 * from..], ends)
     }
 
     /// Returns true if the set contains the code point `c`. Returns false for any number above
@@ -336,16 +335,12 @@ impl<'data> CodePointInversionList<'data> {
         ensures valid { IsValid self.now }
     {
         let place = self.place_of(c);
-        if place % 2 == 0 {
+        if place.is_multiple_of(2) {
             return None;
         }
-        let mut before = 0;
-        let mut i = 0;
-        while i + 1 < place {
-            before += (self.end_at(i + 1) - self.end_at(i)) as usize;
-            i += 2;
-        }
-        Some(before + (c - self.end_at(i)) as usize)
+        let start = place - 1;
+        let before = sum_of_sizes(&self.ends.as_bytes()[..3 * start]);
+        Some(before + (c - self.end_at(start)) as usize)
     }
 
     /// Returns the number of code points in the set, including surrogates. The number is stored, so

@@ -252,6 +252,7 @@ impl<'a> Iterator for IterChars<'a> {
 
     ghost remaining = { item_count (λ s. s) };
 
+    #[inline]
     fn next(&mut self) -> Option<char> {
         loop {
             let found = take_char(&mut self.next, self.end);

@@ -15,7 +15,7 @@ pub(crate) fn valid_size(ends: &ZeroVec<'_, PotentialCodePoint>) -> Option<u32>
     ensures { MatchOption result (¬ (IsValid ends.now))
         (λ size. IsValid ends.now × (size ≡ members_below ends.now code_point_limit)) }
 {
-    if ends.len() % 2 != 0 {
+    if !ends.len().is_multiple_of(2) {
         return None;
     }
     let mut next = 0;

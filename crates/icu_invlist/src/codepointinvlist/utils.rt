@@ -175,7 +175,7 @@ pub fn is_valid_zv(ends: &ZeroVec<'_, PotentialCodePoint>) -> bool
 pub(crate) fn is_valid_slice(ends: &[u32]) -> bool
     ensures { IsTrue result ↔ IsValid ends.now }
 {
-    if ends.len() % 2 != 0 {
+    if !ends.len().is_multiple_of(2) {
         return false;
     }
     let mut next = 0;

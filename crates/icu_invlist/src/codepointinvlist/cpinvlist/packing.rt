@@ -1,13 +1,14 @@
-//! Packing and unpacking of boundaries.
-ghost use Rattle.std.specs.Prelude.{◌≡◌, ◌+◌, ◌-◌, ◌*◌, ◌/◌, ◌^◌, ◌<◌, ◌≤◌, ◌++◌, length, take, drop, map, min, vec_len, IfOk};
-ghost use Rattle.std.specs.List.{flat_map};
-ghost use Rattle.std.specs.Vec.{vec_capacity};
-ghost use Rattle.icu_zerovec.specs.Cells.{cell};
+//! Packing and unpacking of boundaries: three bytes each, lowest byte first. Four of them are three
+//! words of 32 bits.
+ghost use Rattle.std.specs.Prelude.{◌≡◌, ◌+◌, ◌-◌, ◌*◌, ◌/◌, ◌^◌, ◌<◌, ◌≤◌, ◌++◌, [], ◌∷◌, length, take, drop, map, min, IfOk, OnOk, OnErr};
+ghost use Rattle.std.specs.Int.{w32, from_le_bytes};
+ghost use Rattle.std.specs.List.{All, flat_map};
 ghost use Rattle.icu_zerovec.specs.PackedBytes.{low_bytes, number_of};
-ghost use Rattle.icu_zerovec.specs.Slice.{slice_values};
 ghost use Rattle.icu_invlist.specs.InversionList.{IsValid};
+ghost use Rattle.icu_invlist.specs.Inside.PackedSets.{sum_of_sizes};
+ghost use Rattle.icu_invlist.specs.Inside.StillGiven.{ends_in, ArePackedEnds};
 
-use icu_zerovec::{MemoryError, PotentialCodePoint, ZeroSlice, ZeroVec};
+use icu_zerovec::{MemoryError, PotentialCodePoint, ZeroVec};
 use std::alloc::Global;
 
 /// Copies packed boundaries into a vector.
@@ -24,23 +25,85 @@ pub(super) fn unpacked(
     Ok(points)
 }
 
-/// Returns `ends` with the boundaries of `packed` from index `from` on appended. There is room for
-/// them.
-///
-/// The vector is passed by value, so the loop keeps its fields in registers.
-pub(super) fn with_ends(
-    mut ends: Vec<u32>,
-    packed: ZeroSlice<'_, PotentialCodePoint>,
-    from: usize,
-) -> Vec<u32>
-    requires from { from ≤ length (slice_values packed) }
-    requires room { vec_len ends + (length (slice_values packed) - from) ≤ vec_capacity ends }
-    ensures { result.items ≡ ends.items ++ drop from (slice_values packed.entry) }
+/// Returns the number in the four bytes from index `at` on. It is a single read.
+#[inline(always)]
+fn word_at(bytes: &[u8; 12], at: usize) -> u32
+    requires { at + 4 ≤ 12 }
+    ensures { result ≡ from_le_bytes w32 (take 4 (drop at bytes.now)) }
 {
-    for i in from..packed.len() {
-        ends.push_reserved(u32::from(packed.at(i)));
+    match bytes[at..].first_chunk::<4>() {
+        Some(four) => u32::from_le_bytes(*four),
+        None => unreachable!(),
     }
-    ends
+}
+
+/// Returns the four boundaries in these bytes, each by one read.
+#[inline(always)]
+fn four_of(bytes: &[u8; 12]) -> [u32; 4]
+    ensures { result
+        ≡ number_of 3 bytes.now ∷ number_of 3 (drop 3 bytes.now) ∷ number_of 3 (drop 6 bytes.now)
+        ∷ number_of 3 (drop 9 bytes.now) ∷ [] }
+{
+    [
+        word_at(bytes, 0) % 0x100_0000,
+        word_at(bytes, 3) % 0x100_0000,
+        word_at(bytes, 6) % 0x100_0000,
+        word_at(bytes, 8) >> 8,
+    ]
+}
+
+/// Appends the boundaries in these bytes to `ends`, which is unchanged if an allocation fails.
+#[inline]
+pub(super) fn unpack(bytes: &[u8], ends: &mut Vec<u32>) -> Result<(), MemoryError>
+    ensures ok { OnOk result (ends.new.items ≡ ends.old.items ++ ends_in bytes.now) }
+    ensures err { OnErr result (ends.new.items ≡ ends.old.items) }
+{
+    ends.reserve(bytes.len() / 3)?;
+    let mut rest = bytes;
+    while let Some((four, next)) = rest.split_first_chunk::<12>() {
+        ends.extend_from_slice(&four_of(four))?;
+        rest = next;
+    }
+    while let Some((three, next)) = rest.split_first_chunk::<3>() {
+        ends.push_reserved(u32::from_le_bytes([three[0], three[1], three[2], 0]));
+        rest = next;
+    }
+    Ok(())
+}
+
+/// Returns the sum of the sizes of the ranges between these boundaries.
+#[inline(always)]
+pub(super) fn sum_of_sizes(bytes: &[u8]) -> usize
+    requires { ArePackedEnds bytes.now }
+    ensures { result ≡ sum_of_sizes (ends_in bytes.now) }
+{
+    let mut rest = bytes;
+    let mut sum = 0;
+    while let Some((four, next)) = rest.split_first_chunk::<12>() {
+        let [a, b, c, d] = four_of(four);
+        sum += (b - a) as usize + (d - c) as usize;
+        rest = next;
+    }
+    if let Some(range) = rest.first_chunk::<6>() {
+        let start = u32::from_le_bytes([range[0], range[1], range[2], 0]);
+        let end = u32::from_le_bytes([range[3], range[4], range[5], 0]);
+        sum += (end - start) as usize;
+    }
+    sum
+}
+
+/// Returns the bytes of four boundaries, which are below 2^24, as three words.
+#[inline(always)]
+fn words_of(four: &[u32; 4]) -> [[u8; 4]; 3]
+    requires { All (λ x. x < 2 ^ 24) four.now }
+    ensures { flat_map (λ b. b) result ≡ flat_map (low_bytes 3) four.now }
+{
+    let [a, b, c, d] = *four;
+    [
+        (a + (b << 24)).to_le_bytes(),
+        ((b >> 8) + (c << 16)).to_le_bytes(),
+        ((c >> 16) + (d << 8)).to_le_bytes(),
+    ]
 }
 
 /// Writes the bytes to `out` from index `at` on.
@@ -53,23 +116,29 @@ fn write(out: &mut [u8], at: usize, bytes: &[u8])
     out[at..at + bytes.len()].copy_from_slice(bytes);
 }
 
-/// Writes the boundaries to `out`, packed in three bytes each, and one byte more.
-///
-/// Each write has four bytes, of which the next one overwrites the last: this takes one store per
-/// boundary.
+/// Writes the boundaries, which are below 2^24, to `out`, packed in three bytes each. It writes the
+/// bytes of four at once.
 fn pack_into(out: &mut [u8], ends: &[u32])
-    requires { length out.old ≡ length ends.now * 3 + 1 }
-    ensures { take (length ends.now * 3) out.new ≡ flat_map (low_bytes 3) ends.now }
+    requires small { All (λ x. x < 2 ^ 24) ends.now }
+    requires len { length out.old ≡ length ends.now * 3 }
+    ensures { out.new ≡ flat_map (low_bytes 3) ends.now }
 {
     let mut at = 0;
-    for end in ends {
-        write(out, at, &end.to_le_bytes());
+    let mut rest = ends;
+    while let Some((four, next)) = rest.split_first_chunk::<4>() {
+        write(out, at, words_of(four).as_flattened());
+        at += 12;
+        rest = next;
+    }
+    for end in rest {
+        write(out, at, &end.to_le_bytes()[..3]);
         at += 3;
     }
 }
 
 /// Returns the boundaries packed in three bytes each, lowest byte first. For no boundaries it
 /// allocates nothing.
+#[inline(always)]
 pub(super) fn pack(alloc: Global, ends: &[u32]) -> Result<Vec<u8>, MemoryError>
     requires { IsValid ends.now }
     ensures { IfOk result (λ v. v.items ≡ flat_map (low_bytes 3) ends.now) }
@@ -77,28 +146,9 @@ pub(super) fn pack(alloc: Global, ends: &[u32]) -> Result<Vec<u8>, MemoryError>
     if ends.is_empty() {
         return Ok(Vec::new(alloc));
     }
-    let size = ends.len() * 3;
-    let mut bytes = Vec::from_elem(alloc, 0, size + 1)?;
+    let mut bytes = Vec::from_elem(alloc, 0, ends.len() * 3)?;
     pack_into(&mut bytes, ends);
-    bytes.truncate(size);
     Ok(bytes)
-}
-
-/// Returns the byte before cell `i` and the three bytes of the cell as a number, lowest byte first.
-/// It is a single read.
-#[inline(always)]
-pub(super) fn word_of(bytes: &[u8], i: usize) -> u32
-    requires first { 0 < i }
-    requires within { i * 3 + 3 ≤ length bytes.now }
-    ensures { result / 2 ^ 8 ≡ number_of 3 (cell 3 bytes.now i) }
-{
-    let start = i * 3 - 1;
-    u32::from_le_bytes([
-        bytes[start],
-        bytes[start + 1],
-        bytes[start + 2],
-        bytes[start + 3],
-    ])
 }
 
 /// Copies the numbers, with 0xFFFFFF in place of any number that needs more than 24 bits. That is

@@ -5,23 +5,9 @@ ghost use Rattle.icu_invlist.specs.InversionList.{IsValid, HoldsAll};
 ghost use Rattle.icu_invlist.specs.Inside.Places.{AreStepsBelow, ends_below};
 
 use super::CodePointInversionList;
-use super::packing::word_of;
+use super::words::last_words;
 
 impl<'data> CodePointInversionList<'data> {
-    /// Returns true if the boundary at index `i`, which is not the first, is at most `c`.
-    ///
-    /// A boundary and the byte before it are one number of four bytes, which takes one comparison
-    /// in memory. That byte is the lowest, so any value of it gives the same result.
-    #[inline(always)]
-    fn is_up_to(&self, i: usize, c: u32) -> bool
-        requires first { 0 < i }
-        requires within { i < length self.now }
-        requires small { c ≤ code_point_limit }
-        ensures { IsTrue result ↔ (i < ends_below self.now (suc c)) }
-    {
-        word_of(self.ends.as_bytes(), i) < (c + 1) << 8
-    }
-
     /// Returns how many of the next three steps from `low` end at a boundary that is at most `c`.
     /// All boundaries before `low` must be at most `c`.
     #[inline(always)]
@@ -35,10 +21,9 @@ impl<'data> CodePointInversionList<'data> {
     {
         // Reading the field gives the proof the invariant: the set is valid.
         let _ = &self.ends;
-        let first = self.is_up_to(low + step - 1, c);
-        let second = self.is_up_to(low + 2 * step - 1, c);
-        let third = self.is_up_to(low + 3 * step - 1, c);
-        first as usize + second as usize + third as usize
+        let [first, second, third] = last_words(self.ends.as_bytes(), low, step);
+        let limit = (c + 1) << 8;
+        usize::from(first < limit) + usize::from(second < limit) + usize::from(third < limit)
     }
 
     /// Returns how many boundaries are at most `c`, given that the result is in `low..=low + size`

@@ -1,7 +1,8 @@
 use Rattle.std.proofs.Common.{◌≡◌, ◌∙◌, ℕ, ◌+◌, ◌*◌, suc, [], ap, arith, sym, drop}
 use Rattle.std.proofs.lemmas.List.{drop_all}
 use Rattle.icu_zerovec.specs.CodePoints.{code_point_limit}
-use Rattle.icu_invlist.proofs.MemberLemmas.{total, total-more, total-le, size-valid}
+use Rattle.icu_invlist.specs.Inside.PackedSets.{sum_of_sizes}
+use Rattle.icu_invlist.proofs.MemberLemmas.{total-more, total-le, size-valid}
 use Rattle.icu_invlist.proofs.ValidLists.{run_from_valid}
 use Rattle.icu_invlist.proofs.codepointinvlist.sizes.size_of.Goals as goal
 
@@ -17,12 +18,12 @@ loop-i-preserved c =
     let i : ℕ = 2 * c.loop-i.i in
     let t = total-more xs i (omega arith) (omega (arith, c.loop-i-test.true)) in
     let n : 2 * (c.loop-i.i + 1) ≡ i + 2 = omega arith in
-    let k = ap (λ (n : ℕ). total (drop n xs)) n in
+    let k = ap (λ (n : ℕ). sum_of_sizes (drop n xs)) n in
     record { so_far = omega (arith, c.loop-i.invariant.so_far, t, k) }
 
 pub returns : goal.returns
 returns c =
     let e : drop (2 * c.loop-i.i) c.args.ends.now ≡ [] =
     drop_all (2 * c.loop-i.i) c.args.ends.now (omega (arith, c.loop-i-test.false, c.requires.even)) in
-    let s : c.loop-i.size + total [] ≡ total c.args.ends.now = rw e at c.loop-i.invariant.so_far in
-    (let z : c.loop-i.size ≡ total c.args.ends.now = omega arith in z) ∙ sym (size-valid c.args.ends.now c.requires)
+    let s : c.loop-i.size + sum_of_sizes [] ≡ sum_of_sizes c.args.ends.now = rw e at c.loop-i.invariant.so_far in
+    (let z : c.loop-i.size ≡ sum_of_sizes c.args.ends.now = omega arith in z) ∙ sym (size-valid c.args.ends.now c.requires)

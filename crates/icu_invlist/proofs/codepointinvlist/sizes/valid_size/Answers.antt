@@ -25,7 +25,7 @@ loop-end-preserved c = let e = c.from-end.ensures in record {
 pub returns : goal.returns
 returns c =
     let v = checked_all c.args.ends.now c.loop-end.yielded c.loop-end.end-iterator c.loop-end.next c.loop-end.invariant.checked
-    c.in-None.ensures.steps.0 (let e = c.len.ensures in let f = c.if-len-ne0.false in omega arith) in (
+    c.in-None.ensures.steps.0 (let e = c.len.ensures in let f = c.is_multiple_of.ensures.0 c.if-not-is_multiple_of.false in omega arith) in (
       v,
       c.loop-end.invariant.counted
           ∙ (ap (λ (xs : List ℕ). counted 0 xs) (checked_whole _ _ _ _ c.loop-end.invariant.checked c.in-None.ensures.steps.0)

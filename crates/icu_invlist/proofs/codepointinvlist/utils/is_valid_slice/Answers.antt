@@ -16,6 +16,7 @@ pub returns : goal.returns
 returns c = (
   λ t. checked_all c.args.ends.now (take c.loop-end.end-index c.args.ends.now)
       (drop c.loop-end.end-index c.args.ends.now) c.loop-end.next c.loop-end.invariant
-      (drop_all c.loop-end.end-index c.args.ends.now (omega arith)) (omega arith),
+      (drop_all c.loop-end.end-index c.args.ends.now (omega arith))
+      (c.is_multiple_of.ensures.0 c.if-not-is_multiple_of.false),
   λ v. refl,
 )

@@ -1,21 +1,33 @@
-use Rattle.std.proofs.Common.{[], take, get_or, arith, ap, sym, ◌∙◌}
+-- Three words are the bytes of the next four boundaries.
+use Rattle.std.proofs.Common.{◌≡◌, ◌++◌, ◌+◌, List, ℕ, take, ap, sym, ◌∙◌, append_assoc, take-append-drop, length, arith}
 use Rattle.std.specs.List.{flat_map}
-use Rattle.std.proofs.lemmas.List.{flat_map_more, take_more}
+use Rattle.std.proofs.lemmas.Grind.{flat_map-append}
+use Rattle.std.proofs.lemmas.List.{length-take-le}
 use Rattle.icu_zerovec.specs.PackedBytes.{low_bytes}
-use Rattle.icu_invlist.proofs.PackedEnds.{three_of_four}
+use Rattle.icu_invlist.proofs.PackedWords.{packed-length, small-drop}
 use Rattle.icu_invlist.proofs.codepointinvlist.cpinvlist.packing.pack_into.Goals as goal
 
-pub loop-end-preserved : goal.loop-end-preserved
-loop-end-preserved c =
-    let i = c.loop-end.invariant in
-    let k = c.loop-end.end-index in
-    let x = get_or c.args.ends.now k 0 in
-    let t = c.loop-end-test.true in
+pub loop-four-preserved : goal.loop-four-preserved
+loop-four-preserved c =
+    let i = c.loop-four.invariant in
+    let k = c.in-Some.ensures.cases in
+    let rest = c.loop-four.rest.now in
+    let four = c.in-Some.four.now in
+    let next = c.in-Some.next.now in
+    let front = take c.loop-four.at c.loop-four.out in
+    let whole : four ++ next ≡ rest =
+    ap (λ xs. xs ++ next) k.0 ∙ (ap (λ xs. take 4 rest ++ xs) k.1 ∙ take-append-drop 4 rest) in
+    let joined : flat_map (low_bytes 3) four ++ flat_map (low_bytes 3) next ≡ flat_map (low_bytes 3) rest =
+    sym (flat_map-append (low_bytes 3) four next) ∙ ap (flat_map (low_bytes 3)) whole in
+    let bytes : c.as_flattened.result.now ≡ flat_map (low_bytes 3) four = c.as_flattened.ensures.value ∙ c.words_of.ensures in
+    let twelve : length c.as_flattened.result.now ≡ 12 =
+    ap length bytes ∙ packed-length four ∙ (let l = ap length k.0 ∙ length-take-le 4 rest (omega (arith, k.2)) in omega arith) in
+    let written : take (c.loop-four.at + 12) c.write.new.out ≡ front ++ flat_map (low_bytes 3) four =
+    ap (λ n. take (c.loop-four.at + n) c.write.new.out) (sym twelve) ∙ c.write.ensures.written ∙ ap (λ ys. front ++ ys) bytes in
     record {
-      at = (let a = i.at in omega arith);
+      small = small-drop 4 rest next k.1 i.small;
       len = c.write.ensures.len ∙ i.len;
-      packed = three_of_four c.loop-end.out c.write.new.out (flat_map (low_bytes 3) (take k c.args.ends.now)) c.loop-end.at x
-          (let a = i.at in let l = i.len in omega arith) i.packed (rw c.to_le_bytes.ensures at c.write.ensures.written)
-          ∙ (flat_map_more (low_bytes 3) [] (take k c.args.ends.now) x
-          ∙ ap (flat_map (low_bytes 3)) (sym (take_more c.args.ends.now k 0 t)));
+      at = (let a = i.at in omega (arith, k.2));
+      items = rw written
+          (append_assoc front (flat_map (low_bytes 3) four) (flat_map (low_bytes 3) next) ∙ ap (λ ys. front ++ ys) joined ∙ i.items);
     }

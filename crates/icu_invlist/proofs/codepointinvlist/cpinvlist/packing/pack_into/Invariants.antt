@@ -1,11 +1,23 @@
-use Rattle.std.proofs.Common.{◌≡◌, ◌+◌, ◌*◌, take, length}
-use Rattle.std.specs.List.{flat_map}
+-- What is packed and what is left are all boundaries.
+use Rattle.std.proofs.Common.{◌≡◌, ◌+◌, ◌*◌, ◌^◌, ◌<◌, ◌++◌, take, drop, length}
+use Rattle.std.specs.List.{All, flat_map}
 use Rattle.icu_zerovec.specs.PackedBytes.{low_bytes}
 use Rattle.icu_invlist.proofs.codepointinvlist.cpinvlist.packing.pack_into.Given as goal
 
+abbrev pub invariant-loop-four : goal.invariant-loop-four
+invariant-loop-four l = record {
+  small : All (λ x. x < 2 ^ 24) l.rest;
+  len : length l.out ≡ length l.ends * 3;
+  at : l.at + length l.rest * 3 ≡ length l.ends * 3;
+  items : take l.at l.out ++ flat_map (low_bytes 3) l.rest ≡ flat_map (low_bytes 3) l.ends;
+}
+
+abbrev pub decreases-loop-four : goal.decreases-loop-four
+decreases-loop-four l = length l.rest
+
 abbrev pub invariant-loop-end : goal.invariant-loop-end
 invariant-loop-end l = record {
-  at : l.at ≡ l.end-index * 3;
-  len : length l.out ≡ length l.ends * 3 + 1;
-  packed : take l.at l.out ≡ flat_map (low_bytes 3) (take l.end-index l.ends);
+  len : length l.out ≡ length l.ends * 3;
+  at : l.at + (length l.end-items * 3) ≡ length l.ends * 3 + l.end-index * 3;
+  items : take l.at l.out ++ flat_map (low_bytes 3) (drop l.end-index l.end-items) ≡ flat_map (low_bytes 3) l.ends;
 }
