@@ -4,7 +4,7 @@ use Rattle.std.specs.Prelude.{map}
 use Rattle.std.proofs.Math.ListN.{set}
 use Rattle.std.proofs.lemmas.Bool.{cases_lt}
 use Rattle.std.proofs.lemmas.List.{drop_all, length-map, take_all, take-map}
-use Rattle.icu_collections_c.specs.Buffers.{written}
+use Rattle.icu_zerovec.specs.Buffers.{written}
 
 module _ {A B : Type 0} (f : A → B) where
   fill_suc : (xs : List A) (ys : List B) (i : ℕ) (d : A) → i < length xs → i < length ys

@@ -12,7 +12,7 @@ use Rattle.icu_trie_core.specs.declared.header.TrieType.TheVariants.{Fast, Small
 use Rattle.icu_trie_text.specs.CopiedParts.{AreFirstParts, HasCopiedParts, HaveFirstValues}
 use Rattle.icu_trie_text.specs.declared.copy_parts.Copied.{Copied}
 use Rattle.icu_trie_text.proofs.CallerLemmas.{text_next}
-use Rattle.icu_collections_c.specs.Buffers.{written}
+use Rattle.icu_zerovec.specs.Buffers.{written}
 use Rattle.icu_collections_c.specs.CopiedText.{IsCopiedText, number_of_part}
 
 -- A code point in a block of the fast index is below the fast limit.

@@ -14,7 +14,7 @@ use Rattle.std.proofs.lemmas.List.Sorted.{length_permutation, list_any-IsPermuta
 use Rattle.icu_zerovec.specs.CodePoints.{code_point_limit}
 use Rattle.icu_invlist.specs.InversionList.{Acts, IsValid, complement_of, either, holds, toggle_back, toggle_front}
 use Rattle.icu_invlist.proofs.CallerLemmas.{complement-holds, complement_valid}
-use Rattle.icu_collections_c.specs.Buffers.{written}
+use Rattle.icu_zerovec.specs.Buffers.{written}
 use Rattle.icu_collections_c.specs.Inside.Joined.{IsJoined, StartsUpTo}
 use Rattle.icu_collections_c.specs.SetBuilding.{HoldsExactly, in_range, is_one_of}
 use Rattle.icu_collections_c.specs.declared.set_building.Interval.{Interval}

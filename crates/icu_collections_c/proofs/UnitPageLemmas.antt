@@ -5,7 +5,7 @@ use Rattle.std.proofs.lemmas.Bool.Decides.{nat_tests}
 use Rattle.std.proofs.lemmas.List.{take_all}
 use Rattle.icu_char16trie.specs.LossyText.{key_text}
 use Rattle.icu_char16trie.specs.UnitMap.{UnitMap}
-use Rattle.icu_collections_c.specs.Buffers.{written}
+use Rattle.icu_zerovec.specs.Buffers.{written}
 use Rattle.icu_collections_c.specs.Listing.{fitting, texts_of, words_from}
 use Rattle.icu_collections_c.specs.UnitPages.{HasPage, shown_below}
 use Rattle.icu_collections_c.specs.Inside.Pages.{Holds, IsPage, IsPushed}

@@ -11,7 +11,7 @@ use Rattle.icu_char16trie.specs.UnitMap.{UnitMap, goes_on, value_of}
 use Rattle.icu_char16trie.specs.UnitPlaces.{At, HasPassed, is_empty_at, value_at}
 use Rattle.icu_char16trie.specs.declared.place.Place.TheVariants.{Node}
 use Rattle.icu_char16trie.proofs.CallerLemmas.{none_along, none_beyond}
-use Rattle.icu_collections_c.specs.Buffers.{written}
+use Rattle.icu_zerovec.specs.Buffers.{written}
 use Rattle.icu_collections_c.specs.UnitPrefixes.{AreValued, HasFound, prefix_of}
 use Rattle.icu_collections_c.specs.declared.unit_prefixes.Prefix.{Prefix}
 

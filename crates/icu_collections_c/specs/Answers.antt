@@ -2,7 +2,7 @@
 -- error that says why there is none.
 use Rattle.std.specs.Prelude.{◌≡◌, ◌⊎◌, ℕ, ℤ, pos, List, length}
 use Rattle.icu_invlist.specs.InversionList.{IsValid}
-use Rattle.icu_collections_c.specs.Buffers.{written}
+use Rattle.icu_zerovec.specs.Buffers.{written}
 use Rattle.icu_collections_c.specs.Status.{refused}
 use Rattle.icu_collections_c.specs.declared.status.Refusal.{Refusal}
 use Rattle.icu_collections_c.specs.declared.status.Refusal.TheVariants.{NoMemory, NoSet, NoText}
@@ -27,6 +27,17 @@ abbrev pub AnswersEnds : Type 0 → Refusal → (List ℕ → Type 0) → List �
 AnswersEnds sound fault P old new returned =
     (sound × GivesEnds P old new returned)
     ⊎ (¬ sound × (returned ≡ refused fault) × (new ≡ old))
+
+-- The number of boundaries of a set with property P if the input is `sound`. If it is not: the error
+-- `fault`, and the buffer is unchanged.
+abbrev pub CountsEnds : Type 0 → Refusal → (List ℕ → Type 0) → List ℕ → List ℕ → ℤ → Type 0
+CountsEnds sound fault P old new returned =
+    (sound × ((n : ℕ) × (returned ≡ pos n) × HasEnds P old new n))
+    ⊎ (¬ sound × (returned ≡ refused fault) × (new ≡ old))
+
+-- If the boundaries are those of a set: the number n. If they are not: `NoSet`.
+abbrev pub CountsMembers : Type 0 → ℕ → ℤ → Type 0
+CountsMembers is_set n returned = (is_set × (returned ≡ pos n)) ⊎ (¬ is_set × (returned ≡ refused NoSet))
 
 -- If the boundaries are those of a set: the number n, or `NoMemory` if an allocation failed. If
 -- they are not: `NoSet`.

@@ -1,7 +1,7 @@
 -- The values of the parts of a text that may be ill-formed UTF-8, in the caller's buffer.
 use Rattle.std.specs.Prelude.{◌≡◌, ℕ, ◌≤◌, ◌⊎◌, List, length, map, Option, unwrap_or}
 use Rattle.icu_trie_text.specs.CopiedParts.{AreFirstParts}
-use Rattle.icu_collections_c.specs.Buffers.{written}
+use Rattle.icu_zerovec.specs.Buffers.{written}
 
 -- The number whose value a part has: its character. An ill-formed part has 0x110000, which is above
 -- all code points, and so the error value.

@@ -1,5 +1,4 @@
 pub mod Answers
-pub mod Buffers
 pub mod Building
 pub mod BytesTrie
 pub mod CopiedText

@@ -5,7 +5,7 @@ use Rattle.std.specs.Str.{IsUtf8}
 use Rattle.icu_char16trie.specs.Grammar.{IsTrieOf}
 use Rattle.icu_char16trie.specs.LossyText.{key_text}
 use Rattle.icu_char16trie.specs.UnitMap.{UnitMap}
-use Rattle.icu_collections_c.specs.Buffers.{written}
+use Rattle.icu_zerovec.specs.Buffers.{written}
 use Rattle.icu_collections_c.specs.Status.{refused}
 use Rattle.icu_collections_c.specs.declared.listing.Word.{Word}
 use Rattle.icu_collections_c.specs.declared.status.Refusal.TheVariants.{NoMemory, NoTrie, TooLarge}

@@ -7,7 +7,7 @@ use Rattle.icu_trie_core.specs.Range.{GivesWalk, first_of, last_of}
 use Rattle.icu_trie_core.specs.Runs.{LongestRun}
 use Rattle.icu_trie.specs.Parts.{Parts}
 use Rattle.icu_trie.specs.Ranges.{AreRangesFrom, IsCoherentTrie, IsInRangeOf, answers}
-use Rattle.icu_collections_c.specs.Buffers.{written}
+use Rattle.icu_zerovec.specs.Buffers.{written}
 use Rattle.icu_collections_c.specs.declared.ranges.Range.{Range}
 
 -- The range of a walk, with its value as a number. If there is none, all fields are 0 and `found`

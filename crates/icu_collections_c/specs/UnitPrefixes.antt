@@ -3,7 +3,7 @@ use Rattle.std.specs.Prelude.{◌≡◌, ◌⊎◌, ◌-◌, ◌^◌, min, ℕ, 
 use Rattle.std.specs.Str.{chars}
 use Rattle.icu_char16trie.specs.Matches.{match_at}
 use Rattle.icu_frozen_sets.specs.TextFronts.{IsTextUpTo}
-use Rattle.icu_collections_c.specs.Buffers.{written}
+use Rattle.icu_zerovec.specs.Buffers.{written}
 use Rattle.icu_collections_c.specs.Status.{refused}
 use Rattle.icu_collections_c.specs.UnitTries.{StartsIllFormed}
 use Rattle.icu_collections_c.specs.declared.status.Refusal.TheVariants.{NoText}

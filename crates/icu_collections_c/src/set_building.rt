@@ -3,7 +3,7 @@ ghost use Rattle.std.specs.Prelude.{◌≡◌, ◌≢◌, ◌⊎◌, ◌+◌, �
 ghost use Rattle.icu_zerovec.specs.CodePoints.{code_point_limit};
 ghost use Rattle.icu_invlist.specs.InversionList.{IsValid, holds, toggle_back, toggle_front};
 ghost use Rattle.icu_collections_c.specs.Answers.{AnswersEnds, GivesEnds};
-ghost use Rattle.icu_collections_c.specs.Buffers.{written};
+ghost use Rattle.icu_zerovec.specs.Buffers.{written};
 ghost use Rattle.icu_collections_c.specs.Inside.Joined.{IsJoined, StartsUpTo};
 ghost use Rattle.icu_collections_c.specs.SetBuilding.{HoldsExactly, in_some, is_one_of};
 ghost use Rattle.icu_collections_c.specs.Status.{refused};

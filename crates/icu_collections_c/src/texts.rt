@@ -7,7 +7,7 @@ ghost use Rattle.icu_trie.specs.Parts.{trie_value};
 ghost use Rattle.icu_trie_text.specs.InPlace.{HasAsciiInPlace};
 ghost use Rattle.icu_trie_text.specs.Utf16.{code_points_of};
 ghost use Rattle.icu_collections_c.specs.Answers.{AnswersText};
-ghost use Rattle.icu_collections_c.specs.Buffers.{written};
+ghost use Rattle.icu_zerovec.specs.Buffers.{written};
 ghost use Rattle.icu_collections_c.specs.BytesTrie.{cells_of, header_of, parts_in, value_at};
 ghost use Rattle.icu_collections_c.specs.CopiedText.{IsCopiedText, number_of_part};
 ghost use Rattle.icu_collections_c.specs.Inside.TextCells.{parts_from};

@@ -5,7 +5,7 @@ ghost use Rattle.icu_zerovec.specs.Cells.{values_of};
 ghost use Rattle.icu_trie_core.specs.Contents.{contents_of};
 ghost use Rattle.icu_trie_core.specs.Format.{answer};
 ghost use Rattle.icu_trie.specs.Parts.{last_cell, trie_value};
-ghost use Rattle.icu_collections_c.specs.Buffers.{written};
+ghost use Rattle.icu_zerovec.specs.Buffers.{written};
 ghost use Rattle.icu_collections_c.specs.BytesTrie.{cells_of, header_of, parts_in, value_at};
 
 use crate::cells::{UnsignedValue, cold, last_value, look_up_in};

@@ -10,9 +10,11 @@ pub mod StretchLemmas
 pub mod PackedEnds
 pub mod PackedWords
 pub mod CheckedLists
+pub mod AscendLemmas
 pub mod Toggles
 pub mod Searches
 pub mod Merging
+pub mod MergeLemmas
 pub mod Complements
 pub mod MemberLemmas
 pub mod SpanLemmas

@@ -6,7 +6,7 @@ use Rattle.std.proofs.lemmas.Bool.{cases_lt, cases_Bool, cond-true, cond-false, 
 use Rattle.std.proofs.lemmas.List.{append-nil, drop_all, length-append, length-drop, length-take-le, length_push, take-append-drop, take_all, take-set, take_more_set, length-set}
 use Rattle.icu_zerovec.specs.CodePoints.{code_point_limit}
 use Rattle.icu_invlist.specs.InversionList.{holds, is_odd, IsValid, Acts}
-use Rattle.icu_invlist.specs.Inside.Merging.{Merging, Merged, MovesOver, Walks, StandBefore}
+use Rattle.icu_invlist.specs.Inside.Merging.{Merging, Merged, MovesOver, StandBefore}
 use Rattle.icu_invlist.specs.Inside.Places.{Run, ends_below}
 use mathlib.Core.Bool.{beq}
 use mir.Val.{bool_byte}
@@ -90,81 +90,12 @@ merged_step f a b out r passed i j n p q m v w hi hj s t on inside odd =
     merged_more f a b out r passed i j n p q m after within x.0 y.0 x.1 y.1 inside odd
 
 -- The parity after one more boundary.
-odd_more : (n : ℕ) (v : Bool) → is_odd n ≡ not v → is_odd (n + 1) ≡ v
+pub odd_more : (n : ℕ) (v : Bool) → is_odd n ≡ not v → is_odd (n + 1) ≡ v
 odd_more n true h = eq-eqb _ _ (let k = eqb-false _ _ h in omega arith)
 odd_more n false h = ne_eqb _ _ (λ u. let k = eqb-true _ _ h in omega arith)
 
--- One step that writes to index k of a longer list.
-written_step : (f : Bool → Bool → Bool) (a b out : List ℕ) (k i j n p q : ℕ) (held now : Bool) → Merged f a b (take k out) i j
-    → held ≡ f (is_odd i) (is_odd j)
-    → now ≡ f (is_odd p) (is_odd q) → k < length out → IsValid a → IsValid b → i < length a → j < length b → MovesOver n a i p
-    → MovesOver n b j q → i + j < p + q
-    → Merged f a b (take (k + bool_byte (not (beq now held))) (set out k n)) p q
-written_step f a b out k i j n p q held now m e o h v w hi hj s t on =
-    let x = merged_step f a b (take k out) [] m.passed i j n p q m.so_far v w hi hj s t on tt in
-    let y = merged_step f a b (take k out) (n ∷ []) m.passed i j n p q m.so_far v w hi hj s t on (omega arith, omega arith, tt) in
-    both held now (m.so_far.parity ∙ sym e) x y o
-  where
-    stays : (v : Bool) → is_odd (length (take k out)) ≡ v → v ≡ f (is_odd p) (is_odd q)
-        → (is_odd (length (take k out ++ [])) ≡ f (is_odd p) (is_odd q) → Merging f a b (take k out ++ []) (suc n) p q)
-        → Merged f a b (take (k + 0) (set out k n)) p q
-    stays v z c x = record {
-      passed = suc n;
-      so_far =
-          rw (add-zero k, take-set out k n, ← append-nil (take k out)) (x (rw (append-nil (take k out)) (z ∙ c)));
-    }
-
-    grows : (v : Bool) → is_odd (length (take k out)) ≡ not v → v ≡ f (is_odd p) (is_odd q)
-        → (is_odd (length (take k out ++ n ∷ [])) ≡ f (is_odd p) (is_odd q) → Merging f a b (take k out ++ n ∷ []) (suc n) p q)
-        → Merged f a b (take (k + 1) (set out k n)) p q
-    grows v z c y = record {
-      passed = suc n;
-      so_far =
-          rw (take_more_set out k n h) (y (ap is_odd (length_push (take k out) n) ∙ (odd_more _ v z ∙ c)));
-    }
-
-    both : (held now : Bool) → is_odd (length (take k out)) ≡ held
-        → (is_odd (length (take k out ++ [])) ≡ f (is_odd p) (is_odd q) → Merging f a b (take k out ++ []) (suc n) p q)
-        → (is_odd (length (take k out ++ n ∷ [])) ≡ f (is_odd p) (is_odd q) → Merging f a b (take k out ++ n ∷ []) (suc n) p q)
-        → now ≡ f (is_odd p) (is_odd q)
-        → Merged f a b (take (k + bool_byte (not (beq now held))) (set out k n)) p q
-    both true true z x y c = stays true z c x
-    both false false z x y c = stays false z c x
-    both true false z x y c = grows false z c y
-    both false true z x y c = grows true z c y
-
-byte_small : (v : Bool) → bool_byte v ≤ 1
-byte_small true = omega arith
-byte_small false = omega arith
-
-moves_within : (n : ℕ) (xs : List ℕ) (i p : ℕ) → MovesOver n xs i p → i < length xs → p ≤ length xs
+pub moves_within : (n : ℕ) (xs : List ℕ) (i p : ℕ) → MovesOver n xs i p → i < length xs → p ≤ length xs
 moves_within n xs i p o h = elim o.place [ inl k ↦ omega (arith, k.1) | inr k ↦ omega (arith, k.1) ]
-
--- ---- the merge, with what it has written
-pub walks_none : (f : Bool → Bool → Bool) (a b out : List ℕ) → f false false ≡ false → IsValid a → IsValid b
-    → length a + length b ≤ length out → Walks f a b out 0 0 0
-walks_none f a b out e v w r = record {
-  valid = (v, w);
-  room = r;
-  first = omega arith;
-  second = omega arith;
-  written = omega arith;
-  merged = record { passed = 0; so_far = none_yet f a b e };
-}
-
--- One step, which writes the boundary if membership in the result changes there.
-walks_step : (f : Bool → Bool → Bool) (a b out : List ℕ) (w i j n p q : ℕ) → Walks f a b out i j w → i < length a → j < length b
-    → MovesOver n a i p → MovesOver n b j q → i + j < p + q
-    → Walks f a b (set out w n) p q (w + bool_byte (not (beq (f (is_odd p) (is_odd q)) (f (is_odd i) (is_odd j)))))
-walks_step f a b out w i j n p q s hi hj x y on = record {
-  valid = s.valid;
-  room = (let r = s.room in omega (arith, length-set out w n));
-  first = moves_within n a i p x hi;
-  second = moves_within n b j q y hj;
-  written = (let k = s.written in omega (arith, byte_small));
-  merged = written_step f a b out w i j n p q _ _ s.merged refl refl (let k = s.written in let r = s.room in
-      omega arith) s.valid.0 s.valid.1 hi hj x y on;
-}
 
 exchanged_differ : (x y : Bool) → not (beq x y) ≡ not (beq y x)
 exchanged_differ true true = refl
@@ -174,7 +105,7 @@ exchanged_differ false false = refl
 
 -- Membership in the result changes at a boundary of one set if and only if it depends on that set
 -- there.
-turned : (f : Bool → Bool) (i : ℕ) → not (beq (f (is_odd (i + 1))) (f (is_odd i))) ≡ not (beq (f true) (f false))
+pub turned : (f : Bool → Bool) (i : ℕ) → not (beq (f (is_odd (i + 1))) (f (is_odd i))) ≡ not (beq (f true) (f false))
 turned f i = elim (cases_Bool (is_odd i)) [
   | inl h ↦ rw (h, odd_more i false h) (exchanged_differ (f false) (f true))
   | inr h ↦ rw (h, odd_more i true h) refl
@@ -185,34 +116,13 @@ turned f i = elim (cases_Bool (is_odd i)) [
 abbrev pub TurnsAtBoth : (Bool → Bool → Bool) → Bool → Bool → Bool
 TurnsAtBoth f x y = not (beq (f x y) (f (not x) (not y)))
 
-turned_both : (f : Bool → Bool → Bool) (i j : ℕ)
+pub turned_both : (f : Bool → Bool → Bool) (i j : ℕ)
     → not (beq (f (is_odd (i + 1)) (is_odd (j + 1))) (f (is_odd i) (is_odd j))) ≡ TurnsAtBoth f (is_odd i) (is_odd j)
 turned_both f i j = rw (odd_next i, odd_next j) (exchanged_differ (f (not (is_odd i)) (not (is_odd j))) (f (is_odd i) (is_odd j)))
 
 pub turned_next : (f : Bool → Bool → Bool) (i j : ℕ) → TurnsAtBoth f (is_odd i) (is_odd j) ≡ TurnsAtBoth f (is_odd (i + 1)) (is_odd (j + 1))
 turned_next f i j = rw (odd_next i, odd_next j, not-not (is_odd i), not-not (is_odd j))
     (exchanged_differ (f (is_odd i) (is_odd j)) (f (not (is_odd i)) (not (is_odd j))))
-
-pub walks_first : (f : Bool → Bool → Bool) (a b out : List ℕ) (w i j : ℕ) → Walks f a b out i j w → i < length a → j < length b
-    → get_or a i 0 < get_or b j 0
-    → Walks f a b (set out w (get_or a i 0)) (i + 1) j (w + bool_byte (not (beq (f true (is_odd j)) (f false (is_odd j)))))
-walks_first f a b out w i j s hi hj h = rw (← turned (λ x. f x (is_odd j)) i)
-    (walks_step f a b out w i j (get_or a i 0) (i + 1) j s hi hj
-    (record { least = omega arith; place = inl (refl, refl) }) (record { least = omega arith; place = inr (h, refl) }) (omega arith))
-
-pub walks_second : (f : Bool → Bool → Bool) (a b out : List ℕ) (w i j : ℕ) → Walks f a b out i j w → i < length a → j < length b
-    → get_or b j 0 < get_or a i 0
-    → Walks f a b (set out w (get_or b j 0)) i (j + 1) (w + bool_byte (not (beq (f (is_odd i) true) (f (is_odd i) false))))
-walks_second f a b out w i j s hi hj h = rw (← turned (λ y. f (is_odd i) y) j)
-    (walks_step f a b out w i j (get_or b j 0) i (j + 1) s hi hj
-    (record { least = omega arith; place = inr (h, refl) }) (record { least = omega arith; place = inl (refl, refl) }) (omega arith))
-
-pub walks_both : (f : Bool → Bool → Bool) (a b out : List ℕ) (w i j : ℕ) → Walks f a b out i j w → i < length a → j < length b
-    → get_or a i 0 ≡ get_or b j 0
-    → Walks f a b (set out w (get_or a i 0)) (i + 1) (j + 1) (w + bool_byte (TurnsAtBoth f (is_odd i) (is_odd j)))
-walks_both f a b out w i j s hi hj e = rw (← turned_both f i j)
-    (walks_step f a b out w i j (get_or a i 0) (i + 1) (j + 1) s hi hj
-    (record { least = omega arith; place = inl (refl, refl) }) (record { least = omega arith; place = inl (sym e, refl) }) (omega arith))
 
 -- The boundaries of the first list up to the next of the second, then the common ones, then those
 -- of the second up to the next of the first: at least one is passed.
@@ -327,7 +237,7 @@ same_cond true x y e = e
 same_cond false x y e = refl
 
 -- One of the lists is used up, and the rest of either is appended if it is wanted.
-rests : (f : Bool → Bool → Bool) (a b out : List ℕ) (i j p q : ℕ) → f false false ≡ false → Merged f a b out i j → IsValid a → IsValid b
+pub rests : (f : Bool → Bool → Bool) (a b out : List ℕ) (i j p q : ℕ) → f false false ≡ false → Merged f a b out i j → IsValid a → IsValid b
     → i ≤ length a → j ≤ length b
     → (i ≡ length a) ⊎ (j ≡ length b)
     → p ≡ (if f true false then i else length a) → q ≡ (if f false true then j else length b)
@@ -341,20 +251,6 @@ rests f a b out i j p q none m v w x y (inr h) k l =
     let z : q ≡ length b = l ∙ same_cond (f false true) j (length b) h in
     rw (z, drop_all (length b) b (omega arith), append-nil (out ++ drop p a))
     (after_second f a b out i j p none m v w x h k)
-
-pub merged_all : (f : Bool → Bool → Bool) (a b out : List ℕ) (n i j p q : ℕ) → f false false ≡ false → Walks f a b out i j n
-    → (i ≡ length a) ⊎ (j ≡ length b)
-    → p ≡ (if f true false then i else length a) → q ≡ (if f false true then j else length b)
-    → IsValid ((take n out ++ drop p a) ++ drop q b) × Acts f a (holds b) ((take n out ++ drop p a) ++ drop q b)
-merged_all f a b out n i j p q none s passed k l =
-    rests f a b (take n out) i j p q none s.merged s.valid.0 s.valid.1 s.first s.second passed k l
-
--- The list after the rests are appended.
-pub joined : (a b out cut more whole : List ℕ) (p q : ℕ) → cut ≡ out → more ≡ cut ++ take (length a - p) (drop p a)
-    → whole ≡ more ++ drop q b → whole ≡ (out ++ drop p a) ++ drop q b
-joined a b out cut more whole p q x y z =
-    z ∙ ap (λ (ys : List ℕ). ys ++ drop q b) (y ∙ (ap (λ (ys : List ℕ). ys ++ take (length a - p) (drop p a)) x
-    ∙ ap (λ (ys : List ℕ). out ++ ys) (take_all (length a - p) (drop p a) (omega (arith, length-drop p a)))))
 
 -- ---- sets whose boundaries do not interleave
 -- Before its first boundary, the second list contains nothing.

@@ -4,3 +4,4 @@ pub mod NamedCodePoints
 pub mod Refusals
 pub mod SetJson
 pub mod Inside
+pub mod Merge

@@ -7,18 +7,20 @@
 //!
 //! Up to the next boundary of the other list, the boundaries of one list are either all written or
 //! all skipped. When one list is used up, the rest of the other is either copied or dropped.
-ghost use Rattle.std.specs.Prelude.{◌≡◌, ◌≢◌, ℕ, ◌+◌, ◌<◌, ◌≤◌, if◌then◌else◌, Bool, true, false, refl, List, [], length, slice_index, ◌⊎◌, IfOk, OnOk, OnErr, IsTrue};
-ghost use Rattle.icu_zerovec.specs.Slice.{slice_values};
+ghost use Rattle.std.specs.Prelude.{◌≡◌, ◌≢◌, ℕ, ◌+◌, ◌-◌, ◌^◌, ◌<◌, ◌≤◌, if◌then◌else◌, Bool, true, false, refl, List, [], length, slice_index, set, drop, ◌⊎◌, IfOk, OnOk, OnErr, IsTrue};
 ghost use Rattle.icu_invlist.specs.InversionList.{IsValid, holds, Acts, between, either, without, both, one_of};
-ghost use Rattle.icu_invlist.specs.Inside.Merging.{Walks, StandBefore};
+ghost use Rattle.icu_invlist.specs.Merge.{HasMerged};
+ghost use Rattle.icu_invlist.specs.Inside.Merging.{StandBefore};
+ghost use Rattle.icu_invlist.specs.Inside.MergeSteps.{MergeSteps, filled_from};
 
+use crate::boundaries::Boundaries;
 use crate::codepointinvlist::CodePointInversionList;
 use crate::fill;
 use icu_zerovec::{MemoryError, PotentialCodePoint, ZeroSlice};
 use std::alloc::Global;
 
 /// An operation on two sets, code point by code point.
-pub(crate) trait SetOperation {
+pub trait SetOperation {
     /// Whether a code point is in the result, from its membership in the two sets.
     ghost gives: { Bool → Bool → Bool };
 
@@ -42,7 +44,7 @@ pub(crate) trait SetOperation {
 }
 
 /// Code points in at least one of the sets.
-pub(crate) struct Union;
+pub struct Union;
 
 impl SetOperation for Union {
     ghost gives = { either };
@@ -61,7 +63,7 @@ impl SetOperation for Union {
 }
 
 /// Code points in the first set but not in the second.
-pub(crate) struct Difference;
+pub struct Difference;
 
 impl SetOperation for Difference {
     ghost gives = { without };
@@ -80,7 +82,7 @@ impl SetOperation for Difference {
 }
 
 /// Code points in both sets.
-pub(crate) struct Intersection;
+pub struct Intersection;
 
 impl SetOperation for Intersection {
     ghost gives = { both };
@@ -100,7 +102,7 @@ impl SetOperation for Intersection {
 }
 
 /// Code points in exactly one of the sets.
-pub(crate) struct SymmetricDifference;
+pub struct SymmetricDifference;
 
 impl SetOperation for SymmetricDifference {
     ghost gives = { one_of };
@@ -127,34 +129,56 @@ struct Walk {
     written: usize,
 }
 
+/// Puts a boundary at index `written` of the buffer if it is wanted and there is room. Returns the
+/// next index.
+#[inline(always)]
+fn put(out: &mut [u32], written: usize, end: u32, wanted: bool) -> usize
+    requires { written + 1 < 2 ^ 64 }
+    ensures next { result ≡ (if wanted then written + 1 else written) }
+    ensures out { out.new ≡ (if wanted then set out.old written end else out.old) }
+{
+    if !wanted {
+        return written;
+    }
+    if written < out.len() {
+        out[written] = end;
+    }
+    written + 1
+}
+
 /// Passes the boundaries of the first list that are below the next one of the second. The result
 /// changes at all of them or at none.
 #[inline(always)]
-fn pass_first<O: SetOperation>(
+fn pass_first<O: SetOperation, A: Boundaries, B: Boundaries>(
+    a: A,
+    b: B,
     out: &mut [u32],
-    a: &[u32],
-    b: ZeroSlice<'_, PotentialCodePoint>,
     walk: Walk,
 ) -> Walk
-    requires left { walk.second < length (slice_values b) }
-    requires walks { Walks O.gives a.now (slice_values b) out.old
+    ghost base: { List ℕ }
+    requires left { walk.second < length (B.list b) }
+    requires walks { MergeSteps O.gives (A.list a) (B.list b) base out.old
         walk.first walk.second walk.written }
-    ensures walks { Walks O.gives a.now (slice_values b.entry) out.new
+    ensures walks { MergeSteps O.gives (A.list a) (B.list b) base out.new
         result.first result.second result.written }
-    ensures second { result.second ≡ walk.second }
+    ensures kept { result.second ≡ walk.second }
     ensures forward { walk.first ≤ result.first }
-    ensures ahead { result.first < length a.now
-        → slice_index (slice_values b.entry) walk.second ≤ slice_index a.now result.first }
+    ensures ahead { result.first < length (A.list a)
+        → slice_index (B.list b) walk.second ≤ slice_index (A.list a) result.first }
 {
-    let end = u32::from(b.at(walk.second));
+    let end = b.at(walk.second);
     let second = walk.second % 2 == 1;
     let changes = O::of(true, second) != O::of(false, second);
+    let count = a.count();
     let mut first = walk.first;
     let mut written = walk.written;
-    while first < a.len() && a[first] < end {
-        out[written] = a[first];
+    while first < count {
+        let next = a.at(first);
+        if end <= next {
+            break;
+        }
+        written = put(out, written, next, changes);
         first += 1;
-        written += changes as usize;
     }
     Walk {
         first,
@@ -166,36 +190,36 @@ fn pass_first<O: SetOperation>(
 /// Passes the boundaries of the second list that are below the next one of the first. The result
 /// changes at all of them or at none.
 #[inline(always)]
-fn pass_second<O: SetOperation>(
+fn pass_second<O: SetOperation, A: Boundaries, B: Boundaries>(
+    a: A,
+    b: B,
     out: &mut [u32],
-    a: &[u32],
-    b: ZeroSlice<'_, PotentialCodePoint>,
     walk: Walk,
 ) -> Walk
-    requires left { walk.first < length a.now }
-    requires walks { Walks O.gives a.now (slice_values b) out.old
+    ghost base: { List ℕ }
+    requires left { walk.first < length (A.list a) }
+    requires walks { MergeSteps O.gives (A.list a) (B.list b) base out.old
         walk.first walk.second walk.written }
-    ensures walks { Walks O.gives a.now (slice_values b.entry) out.new
+    ensures walks { MergeSteps O.gives (A.list a) (B.list b) base out.new
         result.first result.second result.written }
-    ensures first { result.first ≡ walk.first }
+    ensures kept { result.first ≡ walk.first }
     ensures forward { walk.second ≤ result.second }
-    ensures ahead { result.second < length (slice_values b.entry)
-        → slice_index a.now walk.first ≤ slice_index (slice_values b.entry) result.second }
+    ensures ahead { result.second < length (B.list b)
+        → slice_index (A.list a) walk.first ≤ slice_index (B.list b) result.second }
 {
-    let end = a[walk.first];
+    let end = a.at(walk.first);
     let first = walk.first % 2 == 1;
     let changes = O::of(first, true) != O::of(first, false);
-    let count = b.len();
+    let count = b.count();
     let mut second = walk.second;
     let mut written = walk.written;
     while second < count {
-        let next = u32::from(b.at(second));
+        let next = b.at(second);
         if end <= next {
             break;
         }
-        out[written] = next;
+        written = put(out, written, next, changes);
         second += 1;
-        written += changes as usize;
     }
     Walk {
         first: walk.first,
@@ -206,34 +230,36 @@ fn pass_second<O: SetOperation>(
 
 /// Passes the boundaries that are next in both lists. The result changes at all of them or at none.
 #[inline(always)]
-fn pass_both<O: SetOperation>(
+fn pass_both<O: SetOperation, A: Boundaries, B: Boundaries>(
+    a: A,
+    b: B,
     out: &mut [u32],
-    a: &[u32],
-    b: ZeroSlice<'_, PotentialCodePoint>,
     walk: Walk,
 ) -> Walk
-    requires { Walks O.gives a.now (slice_values b) out.old walk.first walk.second walk.written }
-    ensures walks { Walks O.gives a.now (slice_values b.entry) out.new
+    ghost base: { List ℕ }
+    requires { MergeSteps O.gives (A.list a) (B.list b) base out.old
+        walk.first walk.second walk.written }
+    ensures walks { MergeSteps O.gives (A.list a) (B.list b) base out.new
         result.first result.second result.written }
     ensures forward { (walk.first ≤ result.first) × (walk.second ≤ result.second) }
-    ensures apart { result.first < length a.now → result.second < length (slice_values b.entry)
-        → slice_index a.now result.first ≢ slice_index (slice_values b.entry) result.second }
+    ensures apart { result.first < length (A.list a) → result.second < length (B.list b)
+        → slice_index (A.list a) result.first ≢ slice_index (B.list b) result.second }
 {
     let first = walk.first % 2 == 1;
     let second = walk.second % 2 == 1;
     let changes = O::of(first, second) != O::of(!first, !second);
-    let count = b.len();
+    let first_count = a.count();
+    let second_count = b.count();
     let mut passed = walk;
-    while passed.first < a.len() && passed.second < count {
-        let end = a[passed.first];
-        if end != u32::from(b.at(passed.second)) {
+    while passed.first < first_count && passed.second < second_count {
+        let end = a.at(passed.first);
+        if end != b.at(passed.second) {
             break;
         }
-        out[passed.written] = end;
         passed = Walk {
+            written: put(out, passed.written, end, changes),
             first: passed.first + 1,
             second: passed.second + 1,
-            written: passed.written + changes as usize,
         };
     }
     passed
@@ -242,66 +268,97 @@ fn pass_both<O: SetOperation>(
 /// Passes boundaries of the first list only, then common ones, then boundaries of the second list
 /// only: at least one in total.
 #[inline(always)]
-fn pass_some<O: SetOperation>(
+fn pass_some<O: SetOperation, A: Boundaries, B: Boundaries>(
+    a: A,
+    b: B,
     out: &mut [u32],
-    a: &[u32],
-    b: ZeroSlice<'_, PotentialCodePoint>,
     walk: Walk,
 ) -> Walk
-    requires first { walk.first < length a.now }
-    requires second { walk.second < length (slice_values b) }
-    requires walks { Walks O.gives a.now (slice_values b) out.old
+    ghost base: { List ℕ }
+    requires first { walk.first < length (A.list a) }
+    requires second { walk.second < length (B.list b) }
+    requires walks { MergeSteps O.gives (A.list a) (B.list b) base out.old
         walk.first walk.second walk.written }
-    ensures walks { Walks O.gives a.now (slice_values b.entry) out.new
+    ensures walks { MergeSteps O.gives (A.list a) (B.list b) base out.new
         result.first result.second result.written }
     ensures forward { walk.first + walk.second < result.first + result.second }
 {
-    let before = pass_first::<O>(out, a, b, walk);
-    let passed = pass_both::<O>(out, a, b, before);
-    if passed.first < a.len() {
-        pass_second::<O>(out, a, b, passed)
+    let before = pass_first::<O, A, B>(a, b, out, walk);
+    let passed = pass_both::<O, A, B>(a, b, out, before);
+    if passed.first < a.count() {
+        pass_second::<O, A, B>(a, b, out, passed)
     } else {
         passed
     }
 }
 
-/// Merges until one of the lists is used up, and writes the boundaries of the result to the start
-/// of `out`.
-fn walk_both<O: SetOperation>(
-    out: &mut [u32],
-    a: &[u32],
-    b: ZeroSlice<'_, PotentialCodePoint>,
-) -> Walk
-    requires first { IsValid a.now }
-    requires second { IsValid (slice_values b) }
-    requires room { length a.now + length (slice_values b) ≤ length out.old }
-    ensures walks { Walks O.gives a.now (slice_values b.entry) out.new
+/// Merges until one of the lists is used up.
+fn pass_all<O: SetOperation, A: Boundaries, B: Boundaries>(a: A, b: B, out: &mut [u32]) -> Walk
+    ghost base: { List ℕ }
+    requires first { IsValid (A.list a) }
+    requires second { IsValid (B.list b) }
+    requires base { out.old ≡ base }
+    ensures walks { MergeSteps O.gives (A.list a) (B.list b) base out.new
         result.first result.second result.written }
-    ensures passed { (result.first ≡ length a.now)
-        ⊎ (result.second ≡ length (slice_values b.entry)) }
+    ensures passed { (result.first ≡ length (A.list a)) ⊎ (result.second ≡ length (B.list b)) }
 {
     let mut walk = Walk {
         first: 0,
         second: 0,
         written: 0,
     };
-    let count = b.len();
-    while walk.first < a.len() && walk.second < count {
-        walk = pass_some::<O>(out, a, b, walk);
+    let first_count = a.count();
+    let second_count = b.count();
+    while walk.first < first_count && walk.second < second_count {
+        walk = pass_some::<O, A, B>(a, b, out, walk);
     }
     walk
 }
 
-/// Returns the index from which the rest of a list is copied: `place` if the rest is wanted, and
-/// otherwise `len`, so that nothing is copied.
-fn rest_from(wanted: bool, place: usize, len: usize) -> usize
-    ensures { result ≡ (if wanted then place else len) }
+/// Returns the index from which the rest of a list is written: `index` if the rest is wanted, and
+/// otherwise `len`, so that nothing is written.
+fn rest_from(wanted: bool, index: usize, len: usize) -> usize
+    ensures { result ≡ (if wanted then index else len) }
 {
-    if wanted { place } else { len }
+    if wanted { index } else { len }
 }
 
-/// Returns the boundaries of the result of the operation. It allocates once, before the merge.
-fn merge<O: SetOperation>(
+/// Puts the boundaries from index `from` on into the buffer, and returns the next index.
+#[inline(always)]
+fn put_rest<A: Boundaries>(a: A, from: usize, out: &mut [u32], written: usize) -> usize
+    requires from { from ≤ length (A.list a) }
+    requires small { written + length (A.list a) < 2 ^ 64 }
+    ensures next { result ≡ written + (length (A.list a) - from) }
+    ensures out { out.new ≡ filled_from out.old written (drop from (A.list a)) }
+{
+    let count = a.count();
+    let mut i = from;
+    let mut next = written;
+    while i < count {
+        next = put(out, next, a.at(i), true);
+        i += 1;
+    }
+    next
+}
+
+/// Writes the boundaries of the result of an operation on two sets into a buffer, as many as fit,
+/// and returns how many there are.
+pub fn merge<O: SetOperation, A: Boundaries, B: Boundaries>(a: A, b: B, out: &mut [u32]) -> usize
+    requires a { IsValid (A.list a) }
+    requires b { IsValid (B.list b) }
+    ensures merged { HasMerged O.gives (A.list a) (B.list b) out.old out.new result }
+    ensures few { result ≤ length (A.list a) + length (B.list b) }
+{
+    let walk = pass_all::<O, A, B>(a, b, out);
+    let first = rest_from(O::of(true, false), walk.first, a.count());
+    let written = put_rest(a, first, out, walk.written);
+    let second = rest_from(O::of(false, true), walk.second, b.count());
+    put_rest(b, second, out, written)
+}
+
+/// Returns the boundaries of the result of an operation on the set with the boundaries `a` and another
+/// set. It allocates once, before the merge.
+fn merged<O: SetOperation>(
     alloc: Global,
     a: &[u32],
     b: &CodePointInversionList<'_>,
@@ -311,12 +368,12 @@ fn merge<O: SetOperation>(
     ensures set { IfOk result (λ v. Acts O.gives a.now (holds b.now) v.items) }
 {
     let mut ends = Vec::from_elem(alloc, 0, a.len() + b.count())?;
-    let walk = walk_both::<O>(&mut ends, a, b.packed().as_slice());
-    ends.truncate(walk.written);
-    let first = rest_from(O::of(true, false), walk.first, a.len());
-    ends.extend_from_slice(&a[first..])?;
-    let second = rest_from(O::of(false, true), walk.second, b.count());
-    b.push_ends(&mut ends, second)?;
+    let count = merge::<O, &[u32], ZeroSlice<'_, PotentialCodePoint>>(
+        a,
+        b.packed().as_slice(),
+        &mut ends,
+    );
+    ends.truncate(count);
     Ok(ends)
 }
 
@@ -387,6 +444,6 @@ pub(crate) fn change<O: SetOperation>(
     if set.count() == 2 {
         return O::of_range(ends, set.end_at(0), set.end_at(1));
     }
-    *ends = merge::<O>(alloc, ends, set)?;
+    *ends = merged::<O>(alloc, ends, set)?;
     Ok(())
 }

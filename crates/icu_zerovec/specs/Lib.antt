@@ -7,3 +7,4 @@ pub mod Canonical
 pub mod CodePoints
 pub mod FirstFault
 pub mod CellOrder
+pub mod Buffers

@@ -25,16 +25,6 @@ pub record MovesOver (n : ℕ) (xs : List ℕ) (i p : ℕ) : Type 0 where
   pub least : n ≤ slice_index xs i
   pub place : (slice_index xs i ≡ n) × (p ≡ i + 1) ⊎ (n < slice_index xs i) × (p ≡ i)
 
--- A merge of two valid lists has passed i boundaries of a and j of b, and has written w boundaries
--- to the start of `out`, which is long enough for all.
-pub record Walks (f : Bool → Bool → Bool) (a b out : List ℕ) (i j w : ℕ) : Type 0 where
-  pub valid : IsValid a × IsValid b
-  pub room : length a + length b ≤ length out
-  pub first : i ≤ length a
-  pub second : j ≤ length b
-  pub written : w ≤ i + j
-  pub merged : Merged f a b (take w out) i j
-
 -- All boundaries of a are below some number, and none of b is.
 pub record StandBefore (a b : List ℕ) : Type 0 where
   pub end : ℕ

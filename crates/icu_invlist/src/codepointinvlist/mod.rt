@@ -10,7 +10,7 @@ mod equality;
 mod error;
 mod iter;
 mod json;
-mod sizes;
+pub mod sizes;
 pub mod utils;
 
 pub use builder::CodePointInversionListBuilder;

@@ -32,7 +32,7 @@ pub(crate) fn valid_size(ends: &ZeroVec<'_, PotentialCodePoint>) -> Option<u32>
 }
 
 /// Returns the number of code points in the set with these boundaries. LLVM vectorises the sum.
-pub(crate) fn size_of(ends: &[u32]) -> u32
+pub fn size_of(ends: &[u32]) -> u32
     requires { IsValid ends.now }
     ensures { result ≡ members_below ends.now code_point_limit }
 {

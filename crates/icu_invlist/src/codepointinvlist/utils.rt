@@ -1,5 +1,6 @@
 //! The numbers in a range, and the validity of an inversion list.
 ghost use Rattle.std.specs.Prelude.{◌≡◌, ◌≤◌, ℕ, ◌-◌, ◌^◌, ◌↔◌, IsTrue};
+ghost use Rattle.std.specs.List.Sorted.{IsStrictlyIncreasing};
 ghost use Rattle.std.specs.Range.{range_inclusive_start};
 ghost use Rattle.std.proofs.Common.{lit≤};
 ghost use Rattle.icu_zerovec.specs.CodePoints.{code_point_limit};
@@ -170,20 +171,27 @@ pub fn is_valid_zv(ends: &ZeroVec<'_, PotentialCodePoint>) -> bool
     valid_size(ends).is_some()
 }
 
+/// Returns true if the numbers ascend strictly. The loop looks at all of them, so LLVM vectorises it.
+fn ascend(ends: &[u32]) -> bool
+    ensures { IsTrue result ↔ IsStrictlyIncreasing ends.now }
+{
+    let mut falls = false;
+    for i in 1..ends.len() {
+        falls |= ends[i] <= ends[i - 1];
+    }
+    !falls
+}
+
 /// Returns true if `ends` is an inversion list. The same test as `is_valid_zv`, for numbers that
 /// are not packed yet.
-pub(crate) fn is_valid_slice(ends: &[u32]) -> bool
+pub fn is_valid_slice(ends: &[u32]) -> bool
     ensures { IsTrue result ↔ IsValid ends.now }
 {
     if !ends.len().is_multiple_of(2) {
         return false;
     }
-    let mut next = 0;
-    for end in ends {
-        if *end < next || *end > CODE_POINT_LIMIT {
-            return false;
-        }
-        next = *end + 1;
+    match ends.last() {
+        Some(last) => *last <= CODE_POINT_LIMIT && ascend(ends),
+        None => true,
     }
-    true
 }

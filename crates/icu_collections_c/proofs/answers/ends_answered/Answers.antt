@@ -1,7 +1,7 @@
 -- The result is how many boundaries the set has, and they are written.
 use Rattle.std.proofs.Common.{◌≡◌, ◌<◌, ◌^◌, ◌∙◌, ap, refl, inl, arith, length, w64}
 use Rattle.std.proofs.lemmas.Int.{to_z_pos}
-use Rattle.icu_collections_c.specs.Buffers.{written}
+use Rattle.icu_zerovec.specs.Buffers.{written}
 use Rattle.icu_collections_c.proofs.answers.ends_answered.Goals as goal
 
 pub returns : goal.returns

@@ -3,7 +3,7 @@ use Rattle.std.proofs.Common.{◌≡◌, ◌∙◌, ◌<◌, ◌^◌, ℕ, ℤ, 
 use Rattle.std.specs.Str.{IsUtf8}
 use Rattle.std.proofs.lemmas.Int.{to_z_pos}
 use Rattle.std.proofs.lemmas.List.Elements.{All-nil}
-use Rattle.icu_collections_c.specs.Buffers.{written}
+use Rattle.icu_zerovec.specs.Buffers.{written}
 use Rattle.icu_collections_c.specs.Inside.Pages.{IsPage}
 use Rattle.icu_collections_c.specs.UnitPages.{AnswersPage, HasPage, below}
 use Rattle.icu_collections_c.proofs.UnitPageLemmas.{has_page}

@@ -1,45 +1,53 @@
-use Rattle.std.proofs.Common.{◌≡◌, ◌∙◌, ℕ, List, ◌++◌, Bool, false, true, length, take, drop, ap, sym, subst, arith}
-use Rattle.std.specs.Prelude.{if◌then◌else◌, ◌⊎◌}
-use Rattle.std.specs.Vec.{with_items}
-use Rattle.std.proofs.lemmas.List.{with_items_is}
-use Rattle.icu_zerovec.specs.Slice.{slice_values}
-use Rattle.icu_invlist.specs.InversionList.{IsValid, holds, Acts}
-use Rattle.icu_invlist.specs.Inside.Merging.{Walks}
+use Rattle.std.proofs.Common.{◌≡◌, ◌∙◌, ℕ, Bool, false, true, length, ap, arith}
+use Rattle.std.specs.Prelude.{if◌then◌else◌}
 use Rattle.icu_invlist.proofs.PlaceLemmas.{valid-length}
-use Rattle.icu_invlist.proofs.Merging.{merged_all, joined}
+use Rattle.icu_invlist.proofs.MergeLemmas.{has_merged, few_filled}
 use Rattle.icu_invlist.proofs.merge.merge.Goals as goal
 
-pub overflow_add-a : goal.overflow_add-a
-overflow_add-a g c =
-    let x = valid-length c.args.a.now c.requires in let y = valid-length c.args.b.now c.count.ensures.valid in
-    let n = c.count.ensures.count in omega arith
+pub put_rest-written-requires-clause-small : goal.put_rest-written-requires-clause-small
+put_rest-written-requires-clause-small g c =
+    let s = c.pass_all-walk.ensures.walks in
+    let k = s.few in let x = s.first in let y = s.second in
+    let u = valid-length (g.A.Boundaries.list c.args.a) c.requires.a in
+    let v = valid-length (g.B.Boundaries.list c.args.b) c.requires.b in omega arith
 
-pub returns : goal.returns
-returns g c =
+pub put_rest-requires-clause-small : goal.put_rest-requires-clause-small
+put_rest-requires-clause-small g c =
+    let s = c.pass_all-walk.ensures.walks in
+    let k = s.few in let x = s.first in let y = s.second in
+    let n = c.put_rest-written.ensures.next in
+    let u = valid-length (g.A.Boundaries.list c.args.a) c.requires.a in
+    let v = valid-length (g.B.Boundaries.list c.args.b) c.requires.b in omega arith
+
+pub returns-clause-merged : goal.returns-clause-merged
+returns-clause-merged g c =
     let f = g.O.SetOperation.gives in
-    let a = c.args.a.now in
-    let b = c.args.b.now in
-    let w = c.walk_both-walk.result in
-    let written = c.walk_both-walk.new.out in
-    let out = take w.written written in
-    let e : slice_values c.as_slice.result ≡ b = c.as_slice.ensures ∙ c.packed.ensures.ends in
-    let m : Walks f a b written w.first w.second w.written =
-    subst (λ (ys : List ℕ). Walks f a ys written w.first w.second w.written) e c.walk_both-walk.ensures.walks in
-    let passed = subst (λ (ys : List ℕ). (w.first ≡ length a) ⊎ (w.second ≡ length ys)) e c.walk_both-walk.ensures.passed in
+    let a = g.A.Boundaries.list c.args.a in
+    let b = g.B.Boundaries.list c.args.b in
+    let w = c.pass_all-walk.result in
     let p : c.rest_from-first.result ≡ (if f true false then w.first else length a) =
-    c.rest_from-first.ensures ∙ ap (λ (t : Bool). if t then w.first else length a) c.of.ensures in
+    c.rest_from-first.ensures ∙ (ap (λ (t : Bool). if t then w.first else c.count.result) c.of.ensures
+    ∙ ap (λ (n : ℕ). if f true false then w.first else n) c.count.ensures) in
     let q : c.rest_from-second.result ≡ (if f false true then w.second else length b) =
     c.rest_from-second.ensures ∙ (ap (λ (t : Bool). if t then w.second else c.count-2.result) c.of-2.ensures
-    ∙ ap (λ (n : ℕ). if f false true then w.second else n) c.count-2.ensures.count) in
-    let all = merged_all f a b written w.written w.first w.second c.rest_from-first.result c.rest_from-second.result
-    g.met.O.SetOperation.none m passed p q in
-    let kept : (with_items c.in_ok-ends.ends written).items ≡ written = with_items_is c.in_ok-ends.ends written (omega arith) in
-    let cut : c.truncate.new.self.items ≡ out = c.truncate.ensures.items ∙ ap (take w.written) kept in
-    let items : c.push_ends.new.ends.items ≡ (out ++ drop c.rest_from-first.result a) ++ drop c.rest_from-second.result b =
-    joined a b out c.truncate.new.self.items c.extend_from_slice.new.self.items c.push_ends.new.ends.items c.rest_from-first.result
-    c.rest_from-second.result
-    cut c.in_ok-extend_from_slice.ensures.items c.in_ok-push_ends.ensures.ok in
-    record {
-      valid = subst IsValid (sym items) all.0;
-      set = subst (λ (ys : List ℕ). Acts f a (holds b) ys) (sym items) all.1;
-    }
+    ∙ ap (λ (n : ℕ). if f false true then w.second else n) c.count-2.ensures) in
+    has_merged f a b c.args.out.now c.pass_all-walk.new.out c.put_rest-written.new.out c.put_rest.new.out w.first w.second w.written
+    c.rest_from-first.result c.rest_from-second.result c.put_rest-written.result c.put_rest.result g.met.O.SetOperation.none
+    c.pass_all-walk.ensures.walks c.pass_all-walk.ensures.passed p q c.put_rest-written.ensures.out c.put_rest-written.ensures.next
+    c.put_rest.ensures.out c.put_rest.ensures.next
+
+pub returns-clause-few : goal.returns-clause-few
+returns-clause-few g c =
+    let f = g.O.SetOperation.gives in
+    let a = g.A.Boundaries.list c.args.a in
+    let b = g.B.Boundaries.list c.args.b in
+    let w = c.pass_all-walk.result in
+    let p : c.rest_from-first.result ≡ (if f true false then w.first else length a) =
+    c.rest_from-first.ensures ∙ (ap (λ (t : Bool). if t then w.first else c.count.result) c.of.ensures
+    ∙ ap (λ (n : ℕ). if f true false then w.first else n) c.count.ensures) in
+    let q : c.rest_from-second.result ≡ (if f false true then w.second else length b) =
+    c.rest_from-second.ensures ∙ (ap (λ (t : Bool). if t then w.second else c.count-2.result) c.of-2.ensures
+    ∙ ap (λ (n : ℕ). if f false true then w.second else n) c.count-2.ensures) in
+    few_filled f a b c.args.out.now c.pass_all-walk.new.out w.first w.second w.written
+    c.rest_from-first.result c.rest_from-second.result c.put_rest-written.result c.put_rest.result
+    c.pass_all-walk.ensures.walks p q c.put_rest-written.ensures.next c.put_rest.ensures.next

@@ -1,22 +1,16 @@
-use Rattle.std.proofs.Common.{◌+◌, ◌<◌, refl, arith, get_or, take, drop, length}
-use Rattle.std.proofs.lemmas.List.{take_more, drop_more, drop_all}
-use Rattle.icu_invlist.proofs.CheckedLists.{checked_more, checked_all}
+-- If the last number is a boundary, so are those before it.
+use Rattle.std.proofs.Common.{◌≡◌, ◌%◌, length, arith, sym}
+use Rattle.std.proofs.lemmas.Option.{get_or_from_slice_get}
+use Rattle.icu_invlist.proofs.AscendLemmas.{all_within}
 use Rattle.icu_invlist.proofs.codepointinvlist.utils.is_valid_slice.Goals as goal
 
-pub loop-end-preserved : goal.loop-end-preserved
-loop-end-preserved c =
-    let xs = c.args.ends.now in
-    let i = c.loop-end.end-index in
-    let inside : i < length xs = omega arith in
-    rw (take_more xs i 0 inside)
-    (checked_more xs (take i xs) (drop i xs) (drop (i + 1) xs) c.loop-end.next (get_or xs i 0) c.loop-end.invariant
-    (drop_more xs i 0 inside) (omega arith) (omega arith))
-
-pub returns : goal.returns
-returns c = (
-  λ t. checked_all c.args.ends.now (take c.loop-end.end-index c.args.ends.now)
-      (drop c.loop-end.end-index c.args.ends.now) c.loop-end.next c.loop-end.invariant
-      (drop_all c.loop-end.end-index c.args.ends.now (omega arith))
-      (c.is_multiple_of.ensures.0 c.if-not-is_multiple_of.false),
-  λ v. refl,
+pub returns-then-last-le-CODE_POINT_LIMIT : goal.returns-then-last-le-CODE_POINT_LIMIT
+returns-then-last-le-CODE_POINT_LIMIT c = (
+  λ t. record {
+    even = omega arith;
+    ascending = c.ascend.ensures.0 t;
+    within = all_within c.args.ends.now c.in-Some.last.now _ (c.ascend.ensures.0 t)
+        (sym (get_or_from_slice_get c.args.ends.now _ _ 0 (sym c.in-Some.ensures.value))) (let h = c.if-last-le-CODE_POINT_LIMIT.true in omega arith);
+  },
+  λ v. c.ascend.ensures.1 v.ascending,
 )

@@ -1,0 +1,24 @@
+use Rattle.std.proofs.Common.{◌≡◌, ◌<◌, ◌∙◌, get_or, length, drop, sym, refl, arith}
+use Rattle.std.proofs.lemmas.Option.{get_or_from_slice_get}
+use Rattle.icu_invlist.proofs.MergeLemmas.{write_more, write_none}
+use Rattle.icu_invlist.proofs.merge.put_rest.Goals as goal
+
+pub loop-i-preserved : goal.loop-i-preserved
+loop-i-preserved g c =
+    let a = g.A.Boundaries.list c.args.a in
+    let l = c.loop-i in
+    let i = l.invariant in
+    let x : c.at.result ≡ get_or a l.i 0 = sym (get_or_from_slice_get a l.i c.at.result 0 c.at.ensures) in
+    let inside : l.i < length a = (let k = c.count-count.ensures in let t = c.loop-i-test.true in omega arith) in
+    record {
+      out = rw (c.put-next.ensures.out, c.put-next.ensures.next, x) (sym (write_more l.out a l.next l.i inside) ∙ i.out);
+      next = (let n = c.put-next.ensures.next in let k = i.next in omega arith);
+      from = (let f = i.from in omega arith);
+      within = omega arith;
+    }
+
+pub returns-clause-out : goal.returns-clause-out
+returns-clause-out g c =
+    let a = g.A.Boundaries.list c.args.a in
+    let l = c.loop-i in
+    sym (write_none l.out a l.next l.i (let k = c.count-count.ensures in let t = c.loop-i-test.false in omega arith)) ∙ l.invariant.out
