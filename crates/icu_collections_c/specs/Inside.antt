@@ -5,7 +5,6 @@ pub mod Joined
 pub mod Kinds
 pub mod Listed
 pub mod NumberLaws
-pub mod Operations
 pub mod PackedPlaces
 pub mod Pages
 pub mod SetPlaces

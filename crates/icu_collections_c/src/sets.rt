@@ -2,12 +2,11 @@
 ghost use Rattle.std.specs.Prelude.{◌≡◌, ◌↔◌, IsTrue};
 ghost use Rattle.icu_zerovec.specs.CodePoints.{code_point_limit};
 ghost use Rattle.icu_invlist.specs.InversionList.{IsValid, holds, members_below};
-ghost use Rattle.icu_collections_c.specs.Answers.{AnswersNumber};
+ghost use Rattle.icu_collections_c.specs.Answers.{CountsMembers};
 
 use crate::status::Refusal;
-use icu_invlist::codepointinvlist::CodePointInversionList;
-use icu_zerovec::CODE_POINT_LIMIT;
-use std::alloc::Global;
+use icu_invlist::codepointinvlist::sizes::size_of;
+use icu_invlist::codepointinvlist::utils::is_valid_slice;
 
 /// Returns whether the numbers are the boundaries of a set (an inversion list): an even count of
 /// them, strictly ascending, and none above 0x110000. The set contains the code points from the
@@ -17,17 +16,7 @@ use std::alloc::Global;
 pub extern "C" fn bks_set_test(ends: &[u32]) -> bool
     ensures { IsTrue result ↔ IsValid ends.now }
 {
-    if ends.len() % 2 != 0 {
-        return false;
-    }
-    let mut next = 0;
-    for end in ends {
-        if *end < next || *end > CODE_POINT_LIMIT {
-            return false;
-        }
-        next = *end + 1;
-    }
-    true
+    is_valid_slice(ends)
 }
 
 /// Returns whether the set with these boundaries contains the code point `c`. No set contains a
@@ -47,17 +36,13 @@ pub extern "C" fn bks_set_contains(ends: &[u32], c: u32) -> bool
 /// ICU: `uset_size`.
 ///
 /// # Errors
-/// Returns the number of [`Refusal::NoSet`] if the numbers are not the boundaries of a set, and of
-/// [`Refusal::NoMemory`] if an allocation fails.
+/// Returns the number of [`Refusal::NoSet`] if the numbers are not the boundaries of a set.
 #[unsafe(no_mangle)]
-pub extern "C" fn bks_set_size(alloc: Global, ends: &[u32]) -> i64
-    ensures { AnswersNumber (IsValid ends.now) (members_below ends.now code_point_limit) result }
+pub extern "C" fn bks_set_size(ends: &[u32]) -> i64
+    ensures { CountsMembers (IsValid ends.now) (members_below ends.now code_point_limit) result }
 {
     if !bks_set_test(ends) {
         return Refusal::NoSet.number();
     }
-    match CodePointInversionList::from_valid_slice(alloc, ends) {
-        Ok(set) => set.size() as i64,
-        Err(_) => Refusal::NoMemory.number(),
-    }
+    i64::from(size_of(ends))
 }
