@@ -293,8 +293,8 @@ bool bks_set_test(const uint32_t *ends, size_t count);
  * ICU: uset_contains. */
 bool bks_set_contains(const uint32_t *ends, size_t count, uint32_t c);
 
-/* [m] Returns how many code points the set contains, surrogates included, or BKS_NO_MEMORY or
- * BKS_NO_SET. ICU: uset_size. */
+/* Returns how many code points the set contains, surrogates included, or BKS_NO_SET.
+ * ICU: uset_size. */
 int64_t bks_set_size(const uint32_t *ends, size_t count);
 
 /* Returns the size in bytes of the longest prefix of a text in UTF-8 whose characters are all in
@@ -320,11 +320,10 @@ int64_t bks_set_span_back(const uint32_t *ends, size_t count, const char *text, 
 size_t bks_set_span_utf16(const uint32_t *ends, size_t count, const uint16_t *text, size_t units,
                           bool held);
 
-/* [m] Writes the boundaries of a set made from two sets into `ends`, as many as fit: the union, the
+/* Writes the boundaries of a set made from two sets into `ends`, as many as fit: the union, the
  * intersection, the code points in the first set and not in the second, those in exactly one of
- * them. Returns how many there are, never more than a_count + b_count, or BKS_NO_MEMORY or
- * BKS_NO_SET. `ends` may not overlap a or b. ICU: uset_addAll, uset_retainAll, uset_removeAll,
- * uset_complementAll. */
+ * them. Returns how many there are, never more than a_count + b_count, or BKS_NO_SET. `ends` may
+ * not overlap a or b. ICU: uset_addAll, uset_retainAll, uset_removeAll, uset_complementAll. */
 int64_t bks_set_union(const uint32_t *a, size_t a_count, const uint32_t *b, size_t b_count,
                       uint32_t *ends, size_t room);
 int64_t bks_set_intersection(const uint32_t *a, size_t a_count, const uint32_t *b, size_t b_count,

@@ -156,11 +156,8 @@ int set_contains(code_point_set *self, PyObject *key) {
     return c >= 0 && contains(self, (uint32_t)c);
 }
 
-/* bks_set_size copies the set. */
 Py_ssize_t set_length(code_point_set *self) {
-    Py_ssize_t length = 0;
-    for (size_t i = 0; i + 1 < self->count; i += 2) length += self->ends[i + 1] - self->ends[i];
-    return length;
+    return (Py_ssize_t)bks_set_size(self->ends, self->count);
 }
 
 static PyObject *set_ends(code_point_set *self, void *none) {

@@ -1,9 +1,10 @@
 //! The command line: `clap` in the form of Rattle's crate. What is read lives as long as the program.
 
-use crate::host::HostRuntime;
+use crate::host::{HostRuntime, Stdout};
 use crate::support::AllocError;
 use core::marker::PhantomData;
 use core::ops::RangeFrom;
+use std::io::Write;
 
 pub use ::clap::ArgAction;
 
@@ -143,8 +144,12 @@ impl Error {
         ErrorKind::Other
     }
 
+    /// Prints the text. Unlike clap, it reports that a closed standard output takes none.
     pub fn print(&self, _: &HostRuntime) -> std::io::Result<()> {
-        self.0.print()
+        if self.0.use_stderr() {
+            return self.0.print();
+        }
+        Stdout.write_all(self.0.render().to_string().as_bytes())
     }
 
     pub fn exit_code(&self) -> i32 {
@@ -152,7 +157,7 @@ impl Error {
     }
 }
 
-/// What the words say.
+/// What the words say. An argument that the command does not have is missing.
 pub struct ArgMatches<'a>(&'a ::clap::ArgMatches);
 
 impl<'a> ArgMatches<'a> {
@@ -162,15 +167,15 @@ impl<'a> ArgMatches<'a> {
     }
 
     pub fn get_str(&self, id: &str) -> Option<&'a str> {
-        self.0.get_one::<String>(id).map(String::as_str)
+        self.0.try_get_one::<String>(id).ok()?.map(String::as_str)
     }
 
     pub fn get_strs(&self, id: &str) -> Option<&'a [&'a str]> {
-        let texts = self.0.get_many::<String>(id)?.map(String::as_str);
+        let texts = self.0.try_get_many::<String>(id).ok()??.map(String::as_str);
         Some(Vec::leak(texts.collect()))
     }
 
     pub fn get_one(&self, id: &str) -> Option<u32> {
-        self.0.get_one::<u32>(id).copied()
+        self.0.try_get_one::<u32>(id).ok()?.copied()
     }
 }
