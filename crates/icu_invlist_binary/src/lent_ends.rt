@@ -124,7 +124,7 @@ impl<'a> LentEnds<'a> {
             }
             next = end + 1;
         }
-        count % 2 == 0 || next <= CODE_POINT_LIMIT
+        count.is_multiple_of(2) || next <= CODE_POINT_LIMIT
     }
 
     /// Returns a copy of the boundaries, with 0x110000 appended if their number is odd.
