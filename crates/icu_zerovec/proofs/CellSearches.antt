@@ -1,5 +1,5 @@
 -- A search among cells is a search among their values.
-use Rattle.std.proofs.Common.{◌≡◌, ℕ, ◌*◌, ◌/◌, ◌<◌, List, [], length, drop, get_or, Option, Some, None, Result, true, refl, arith, sym, ◌∙◌, ap}
+use Rattle.std.proofs.Common.{◌≡◌, ℕ, ◌/◌, ◌<◌, List, [], length, get_or, Option, Some, None, Result, true, refl, arith, sym, ◌∙◌, ap}
 use Rattle.std.specs.declared.result.Result.TheVariants.{Ok, Err}
 use Rattle.std.specs.declared.cmp.Ordering.{Ordering}
 use Rattle.std.specs.Option.{is_some}
@@ -7,7 +7,6 @@ use Rattle.std.specs.Ordering.{ordering_index}
 use Rattle.std.specs.List.Sorted.{IsSearchInRange, IsBinarySearchResult, IsNonDecreasingBy}
 use Rattle.std.specs.Simd.{first_chunks}
 use Rattle.std.proofs.lemmas.Bool.{cond-true, eq-eqb}
-use Rattle.std.proofs.lemmas.Nat.{row_fits, div-add-mod'}
 use Rattle.std.proofs.lemmas.Option.{get_or_from_slice_get}
 use Rattle.icu_zerovec.specs.Cells.{cell, values_of, IsPacked}
 use Rattle.icu_zerovec.proofs.CellsLemmas.{get-values_of, length-values_of}

@@ -1,5 +1,5 @@
 //! The work on packed bytes. A cell is the `WIDTH` bytes of one value.
-ghost use Rattle.std.specs.Prelude.{◌≡◌, ◌+◌, ◌*◌, ◌/◌, ◌^◌, ◌<◌, ◌≤◌, List, [], ◌∷◌, length, slice_get, OnOk, IfErr, IfOk, IfSome, MatchOption, Some, None, fold, false, take, nat_lt, if◌then◌else◌};
+ghost use Rattle.std.specs.Prelude.{◌≡◌, ◌+◌, ◌*◌, ◌/◌, ◌^◌, ◌<◌, ◌≤◌, List, [], ◌∷◌, length, slice_get, OnOk, IfErr, IfOk, IfSome, MatchOption, Some, None, IsTrue, fold, false, take, nat_lt, if◌then◌else◌};
 ghost use Rattle.std.specs.Bool.{MatchBool};
 ghost use Rattle.std.specs.Iterator.{Drains, IsFinite};
 ghost use Rattle.std.specs.List.{All, flat_map};
@@ -7,7 +7,7 @@ ghost use Rattle.std.specs.Cmp.Lexicographic.{pointwise};
 ghost use Rattle.std.specs.Hash as fed;
 ghost use Rattle.icu_zerovec.specs.Cells.{cell, values_of, IsPacked, IsFault, same_bytes, one_write};
 
-use crate::raw::{cell_at, cell_below};
+use crate::raw::{cell_at, cell_below, cell_known};
 use crate::ule::{AsULE, UleError};
 use std::alloc::{AllocError, Global};
 use std::hash::Hasher;
@@ -62,6 +62,20 @@ pub(crate) fn get_below<T: AsULE>(bytes: &[u8], end: usize, i: usize) -> Option<
     ensures { result ≡ (if nat_lt i end then slice_get (values_of T.unpack T.WIDTH bytes.now) i else None) }
 {
     match cell_below(bytes, T::WIDTH, end, i) {
+        Some(cell) => T::from_unaligned(cell),
+        None => None,
+    }
+}
+
+/// Returns the value at index `i` of packed bytes, or `None` if `i` is not less than the length. If
+/// `is_inside` is true, `i` must be less.
+#[inline(always)]
+pub(crate) fn get_known<T: AsULE>(bytes: &[u8], i: usize, is_inside: bool) -> Option<T>
+    requires packed { IsPacked T.unpack T.WIDTH bytes.now }
+    requires inside { IsTrue is_inside → i < length (values_of T.unpack T.WIDTH bytes.now) }
+    ensures { result ≡ slice_get (values_of T.unpack T.WIDTH bytes.now) i }
+{
+    match cell_known(bytes, T::WIDTH, i, is_inside) {
         Some(cell) => T::from_unaligned(cell),
         None => None,
     }

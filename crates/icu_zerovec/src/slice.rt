@@ -112,6 +112,16 @@ impl<'a, T: AsULE> ZeroSlice<'a, T> {
         cells::get_below(self.bytes, end, i)
     }
 
+    /// Returns the value at index `i`, or `None` if `i` is not less than the length. If `is_inside` is
+    /// true, `i` must be less than the length; where a proof takes the place of tests, none is made then.
+    #[inline(always)]
+    pub fn get_known(&self, i: usize, is_inside: bool) -> Option<T>
+        requires { IsTrue is_inside → i < length (slice_values self.now) }
+        ensures { result ≡ slice_get (slice_values self.now) i }
+    {
+        cells::get_known(self.bytes, i, is_inside)
+    }
+
     /// Returns the first value, or `None` if there are no values.
     #[inline]
     pub fn first(&self) -> Option<T>

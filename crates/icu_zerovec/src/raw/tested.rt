@@ -1,5 +1,5 @@
 //! Bodies with one test of an index, in forms that rustc optimizes well.
-ghost use Rattle.std.specs.Prelude.{◌≡◌, ◌/◌, ◌<◌, ◌≤◌, length, MatchOption};
+ghost use Rattle.std.specs.Prelude.{◌≡◌, ◌/◌, ◌<◌, ◌≤◌, IsTrue, length, MatchOption};
 ghost use Rattle.icu_zerovec.specs.Cells.{cell};
 
 /// Returns cell `i` of cells of `WIDTH` bytes.
@@ -48,6 +48,47 @@ fn cell_of<const WIDTH: usize>(bytes: &[u8], i: usize) -> Option<&[u8]>
     }
 }
 
+/// Tells the compiler that the path on which it is called is rare.
+#[cold]
+#[inline(always)]
+fn rare() {}
+
+/// Does the same where a cell is usually there, so that rustc places that path first.
+#[inline(always)]
+fn usual_cell_of<const WIDTH: usize>(bytes: &[u8], i: usize) -> Option<&[u8]>
+    requires some { 0 < WIDTH }
+    requires few { WIDTH ≤ 4 }
+    ensures { MatchOption result (length bytes.now / WIDTH ≤ i)
+        (λ c. (i < length bytes.now / WIDTH) × (c.now ≡ cell WIDTH bytes.now i)) }
+{
+    let cells = bytes.as_chunks::<WIDTH>().0;
+    if i < cells.len() {
+        Some(cells[i].as_slice())
+    } else {
+        rare();
+        None
+    }
+}
+
+/// Returns cell `i` of cells of `width` bytes, or `None` if there is none. If `is_inside` is true, there
+/// must be one; the test is the same.
+#[inline(always)]
+pub fn cell_known(bytes: &[u8], width: usize, i: usize, is_inside: bool) -> Option<&[u8]>
+    requires some { 0 < width }
+    requires few { width ≤ 4 }
+    requires inside { IsTrue is_inside → i < length bytes.now / width }
+    ensures { MatchOption result (length bytes.now / width ≤ i)
+        (λ c. (i < length bytes.now / width) × (c.now ≡ cell width bytes.now i)) }
+{
+    let _ = is_inside;
+    match width {
+        1 => cell_of::<1>(bytes, i),
+        2 => cell_of::<2>(bytes, i),
+        3 => cell_of::<3>(bytes, i),
+        _ => cell_of::<4>(bytes, i),
+    }
+}
+
 /// Returns cell `i` of the first `end` cells of `WIDTH` bytes, or `None` if `i` is not less than `end`.
 /// The only test is that of a slice that ends there.
 #[inline(always)]
@@ -58,7 +99,7 @@ fn cell_below_of<const WIDTH: usize>(bytes: &[u8], end: usize, i: usize) -> Opti
     ensures { MatchOption result (end ≤ i) (λ c. (i < end) × (c.now ≡ cell WIDTH bytes.now i)) }
 {
     let front = bytes.len().min(end * WIDTH);
-    cell_of::<WIDTH>(&bytes[..front], i)
+    usual_cell_of::<WIDTH>(&bytes[..front], i)
 }
 
 /// Returns cell `i` of the first `end` cells of `width` bytes, or `None` if `i` is not less than `end`.

@@ -1,5 +1,5 @@
 -- Value i is that of cell i.
-use Rattle.std.proofs.Common.{◌≡◌, ◌/◌, ◌<◌, ◌≤◌, length, None, arith, ap, sym, ◌∙◌}
+use Rattle.std.proofs.Common.{◌/◌, ◌<◌, length, arith, ap, sym, ◌∙◌}
 use Rattle.std.proofs.lemmas.Bool.{lt-ltb, cond-true}
 use Rattle.icu_zerovec.proofs.CellsLemmas.{get-values_of, length-values_of}
 use Rattle.icu_zerovec.proofs.Chunks.{length-cell}
