@@ -408,7 +408,6 @@ EDITS = {
         (r"entries\.try_insert\(key, value\)\?", "entries.try_insert_at(place, key, value)?", 1),
         (r"insert_key\(entries, key, value\)", "insert_key(entries, place, key, value)", 1),
     ],
-    "icu_trie_compaction/blocks": [(r"&(stored\[stored\.len\(\) - common\.\.\]) == &", r"\1 == ", 1)],
     # Most blocks hold the number of the block before: one search finds where they end.
     "icu_trie_map/blocks": [
         (
@@ -459,12 +458,6 @@ EDITS = {
             r"        let second = u32::from(rest[1]) % 64;\n",
             1,
         ),
-    ],
-    # Few searches go past the first test. A call would take longer than that.
-    "icu_trie_compaction/window_table": [
-        (r"(?m)^(?= +pub\(crate\) fn find)", "    #[inline(always)]\n", 1),
-        (r"heads: &mut Vec<u32>", "heads: &mut [u32]", 1),
-        (r"\.max\(FIRST_BUCKETS\)\.min\(MOST_BUCKETS\)", ".clamp(FIRST_BUCKETS, MOST_BUCKETS)", 1),
     ],
     # The range that the last character has been taken of, for DoubleEndedIterator.
     "icu_invlist/codepointinvlist/iter": [

@@ -23,7 +23,7 @@ pub(crate) fn overlap(stored: &[u32], wanted: &[u32]) -> usize
 {
     let mut common = (wanted.len() - 1).min(stored.len());
     while common > 0 {
-        if &stored[stored.len() - common..] == &wanted[..common] {
+        if stored[stored.len() - common..] == wanted[..common] {
             return common;
         }
         common -= 1;

@@ -47,7 +47,7 @@ impl WindowTable {
         ensures size { IfOk result (λ t. t.size ≡ size) }
         ensures table { IfOk result (λ t. (cells : List ℕ) → IsTable cells t) }
     {
-        let buckets = cells.max(FIRST_BUCKETS).min(MOST_BUCKETS);
+        let buckets = cells.clamp(FIRST_BUCKETS, MOST_BUCKETS);
         WindowTable::with_buckets(alloc, size, buckets)
     }
 
@@ -88,6 +88,8 @@ impl WindowTable {
 
     /// Returns the first position at which `wanted` occurs in `cells`, or `None` if the table has
     /// no such window. `hash` is the hash of `wanted`.
+    // Few searches go past the first test, and a call would take longer than that.
+    #[inline(always)]
     pub(crate) fn find(&self, cells: &[u32], wanted: &[u32], hash: u64) -> Option<usize>
         requires size { length wanted.now ≡ self.now.size }
         requires hash { hash ≡ cells_hash wanted.now }
@@ -188,9 +190,9 @@ impl WindowTable {
 }
 
 /// Sets the head of a bucket.
-fn set_head(heads: &mut Vec<u32>, bucket: usize, head: u32)
-    requires { bucket < length heads.old.items }
-    ensures { heads.new.items ≡ slice_set heads.old.items bucket head }
+fn set_head(heads: &mut [u32], bucket: usize, head: u32)
+    requires { bucket < length heads.old }
+    ensures { heads.new ≡ slice_set heads.old bucket head }
 {
     heads[bucket] = head;
 }

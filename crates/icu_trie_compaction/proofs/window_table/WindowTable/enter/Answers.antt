@@ -1,7 +1,9 @@
 use Rattle.std.proofs.Common.{rules, ◌≡◌, ◌+◌, ℕ, [], ◌∷◌, ◌++◌, set, get_or, length, ◌∙◌, ap, sym, refl}
-use Rattle.std.proofs.lemmas.List.{get_or_read, length-append}
+use Rattle.std.proofs.lemmas.List.{get_or_read, length-append, length-set, with_items_is}
 use Rattle.icu_trie_core.specs.Blocks.{window}
 use Rattle.icu_trie_compaction.proofs.TableLemmas.{table-again, table-added, table-restored, bucket-is, part-window}
+use Rattle.std.specs.Vec.{with_items}
+use Rattle.icu_trie_compaction.specs.declared.window_table.WindowTable.{WindowTable}
 use Rattle.icu_trie_compaction.proofs.window_table.WindowTable.enter.Goals as goal
 
 pub returns-in-Some-clause-table : goal.returns-in-Some-clause-table
@@ -38,8 +40,20 @@ returns-clause-table c =
     ∙ ap (λ x. t.next.items ++ x ∷ []) head) in
     let held : c.len.result ≡ length c.push.new.self.items = search rules in
     let len : c.len.result ≡ length t.starts.items + 1 = held ∙ ap length starts ∙ length-append t.starts.items (t.entered ∷ []) in
-    let heads' : c.set_head.new.heads.items ≡ set heads i (length t.starts.items + 1) = c.set_head.ensures ∙ ap (λ x. set heads i x) len in
-    table-added cells t _ i c.requires.table refl refl refl starts heads' next c.requires.inside
+    let changed : c.set_head.new.heads ≡ set heads i (length t.starts.items + 1) =
+    c.set_head.ensures ∙ (ap (λ xs. set xs i c.len.result) c.deref_mut.ensures.value ∙ ap (λ x. set heads i x) len) in
+    let heads' : (with_items t.heads c.set_head.new.heads).items ≡ set heads i (length t.starts.items + 1) =
+    with_items_is t.heads c.set_head.new.heads
+    (ap length changed ∙ length-set heads i (length t.starts.items + 1) ∙ sym t.heads.ok.0) ∙ changed in
+    let entered : WindowTable = record {
+      size = t.size;
+      leaving = t.leaving;
+      entered = t.entered + 1;
+      starts = c.push.new.self;
+      heads = with_items t.heads c.set_head.new.heads;
+      next = c.push-2.new.self;
+    } in
+    table-added cells t entered i c.requires.table refl refl refl starts heads' next c.requires.inside
     (λ q lt e. c.in_default.ensures.none q lt (e ∙ sym part))
     (bucket-is (length heads) i c.args.hash (window t.size t.entered cells) c.bucket_of-bucket.ensures.value c.requires.hash)
     c.bucket_of-bucket.ensures.below
