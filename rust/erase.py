@@ -26,6 +26,7 @@ PROOFS = [
     (r"impl(?=(?:<[^{};]*>)?\s+Model\b)", True, r"impl(?:<[^{};]*>)?\s+Model\s+for\b[^{};]*(?={)"),
     (r"#!?\[tactic\b", False, r"#!?\[tactic\((?:[^()]|\((?:[^()]|\([^()]*\))*\))*\)\]"),
 ]
+CLAUSE = re.compile(r"\s*(?:ghost|requires|ensures)\b")
 BY = re.compile(r"\s*(?:by|=)\s*(?={)")
 # What is left in place of a `requires`, until rust/make has noted whose it is.
 ASKED = "//requires"
@@ -69,8 +70,11 @@ class Eraser:
             end = found.end() if found[0].endswith((";", "]")) else self.past_braces(found.end())
             if word == "ghost":
                 by = BY.match(self.text, end)
-                end = (self.past_braces(by.end()) if by else end) + 1
-                if self.text[end - 1] not in ",;":
+                end = self.past_braces(by.end()) if by else end
+                # A parameter of a proof has no end: a clause of the function follows it.
+                if self.text[end] in ",;":
+                    end += 1
+                elif not CLAUSE.match(self.text, end):
                     self.refuse("a ghost item that does not end with `,` or `;`")
             while self.kept and (self.kept[-1].isspace() or docs and self.kept[-1].startswith("///")):
                 self.kept.pop()

@@ -27,11 +27,11 @@ TRIED = (
 INSIDE = (
     "PotentialCodePoint::from_u24 ZeroSlice::at ZeroSlice::get_below ZeroSlice::get_known"
     " ZeroVec::try_into_converted cell_at cell_below cell_known"
-    " CodePointInversionList::from_valid_slice fast_place_of"
+    " CodePointInversionList::from_valid_slice size_of merge fast_place_of"
     " high_place_of look_up_whole NumberMap::set_range NumberMap::repeats NumberMap::copy_block"
     " NumberMap::get NumberMap::find_other CellStore::new CellStore::find CellStore::place build_index"
     " copy_characters"
-).split() + ["trait PartValues::ascii", "trait PartValues::near"]
+).split() + ["trait PartValues::ascii", "trait PartValues::near", "trait Boundaries::at", "trait SetOperation::of_range"]
 # Functions whose `requires` need not hold: an iterator without an end runs until an allocation
 # fails, and a closure that does not return does not return here either.
 HARMLESS = (
