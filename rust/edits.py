@@ -354,13 +354,8 @@ EDITS = {
     ],
     # rust/face has a TryFrom whose error is no failed allocation.
     "icu_invlist/codepointinvlist/conversions": [(r"fn try_from(?=<R)", "fn try_from_range", 1)],
-    # A vector of strings or a list with the Rust crate's name.
-    "icu_text_sets/codepointinvliststringlist/make": [
-        (r"str_list: Vec<String>,(?=\n +\) -> Result)", "str_list: impl Into<Vec<String>>,", 1),
-        (r"(\n +)(?=match first_fault)", r"\1let str_list = str_list.into();\1", 1),
-        (r"(?<=fn fault_before\(text: &)String", "str", 1),
-        (r"(?<=only_char\()text\.as_str\(\)(?=\)\.is_some)|(?<=match )text\.as_str\(\)(?=\.cmp\(next)", "text", 2),
-    ],
+    # rust/face has one that takes a vector of strings or a list with the Rust crate's name.
+    "icu_text_sets/codepointinvliststringlist/make": [(r"pub fn try_from(?=\()", "pub(crate) fn try_from_explained", 1)],
     # The bounds of the Rust crate.
     "icu_trie_core/value": [
         (r"AsULE \+ Eq(?= \{)", "AsULE + Eq + 'static", 1),

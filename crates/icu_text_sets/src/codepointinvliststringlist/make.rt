@@ -22,14 +22,14 @@ enum Fault {
 }
 
 /// Returns the fault of a string, given the next one if there is one.
-fn fault_before(text: &String, next: Option<&String>) -> Option<Fault>
+fn fault_before(text: &str, next: Option<&String>) -> Option<Fault>
     ensures { result
-        ≡ kind_of (string_bytes text.now) (option_map (λ s. string_bytes s.now) next.entry) }
+        ≡ kind_of text.now (option_map (λ s. string_bytes s.now) next.entry) }
 {
-    if only_char(text.as_str()).is_some() {
+    if only_char(text).is_some() {
         return Some(Fault::OneCodePoint);
     }
-    match text.as_str().cmp(next?.as_str()) {
+    match text.cmp(next?.as_str()) {
         Ordering::Less => None,
         Ordering::Equal => Some(Fault::Repeated),
         Ordering::Greater => Some(Fault::Unsorted),
