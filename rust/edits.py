@@ -43,18 +43,6 @@ EDITS = {
     ],
     # Of two bodies with one contract, the one with fewer tests.
     "icu_invlist/codepointinvlist/cpinvlist/words": [(r"use proved::", "use tested::", 1), (r"mod proved;\n", "", 1)],
-    # A step of a listing of a unit trie, and an entry with its text. rustc makes calls of them, which
-    # take longer than the step.
-    "icu_char16trie/pending": [(r"(?m)^(?= +fn enter_part)", "    #[inline(always)]\n", 1)],
-    "icu_char16trie/walk": [(r"(?m)^(?= +pub\(crate\) fn next_item)", "    #[inline(always)]\n", 1)],
-    # A unit in one read: rustc reads both bytes apart if only bits of the low one are used later.
-    "icu_char16trie/encoded": [
-        (
-            r"units\.get\(place\)\n",
-            "let units = units.as_bytes().as_chunks::<2>().0;\n    Some(u16::from_le_bytes(*units.get(place)?))\n",
-            1,
-        ),
-    ],
     # One test finds out both whether a block is in the fast index and whether it has a cell, and the
     # same for the value of an ASCII character.
     "icu_trie_text/ascii": [
@@ -259,8 +247,6 @@ EDITS = {
         (r"pub fn new\(trie: (ZeroSlice<'a, u16>)\)", r"pub fn new(trie: impl Into<\1>)", 1),
         (r"units: trie,(?=\n +place: Place::Node)", "units: trie.into(),", 1),
     ],
-    # The bound on positions, also if they are numbers of 32 bits.
-    "icu_char16trie/place": [(r"position >= 1 << 63", "position > isize::MAX as usize", 1)],
     # That there are as many cells as before is proved only for lawful types, so it is asserted.
     "icu_trie/map_value": [
         (r"(\n +)(?=let index = self\.index)", r"\1assert_eq!(data.len(), self.data.len());\1", 1),

@@ -4,6 +4,7 @@ pub mod NodeLemmas
 pub mod PartLemmas
 pub mod PlaceLemmas
 pub mod StepLemmas
+pub mod UnitReads
 pub mod EntryLemmas
 pub mod WorkLemmas
 pub mod SpellingLemmas

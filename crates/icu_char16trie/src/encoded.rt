@@ -19,7 +19,9 @@ pub(crate) fn unit_at(units: ZeroSlice<'_, u16>, place: usize) -> Option<u16>
 {
     // A packed vector has fewer than 2^63 bytes, so adding to an index that was read never wraps.
     prove!(units.len() < 1 << 62);
-    units.get(place)
+    // One read of both bytes, also if only bits of the low one are used.
+    let cells = units.as_bytes().as_chunks::<2>().0;
+    Some(u16::from_le_bytes(*cells.get(place)?))
 }
 
 /// Returns the units at an index and at the one after it, with a single bounds check. `None` if

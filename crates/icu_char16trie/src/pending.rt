@@ -102,6 +102,8 @@ impl<'a> Pending<'a> {
     }
 
     /// Moves to the first node of a part, and postpones the rest. Most parts are rows.
+    // rustc calls it, which takes longer than a step.
+    #[inline(always)]
     fn enter_part(&mut self, place: usize, count: usize) -> Result<(), AllocError>
         requires { self.old.node ≡ None }
         ensures { OnOk result (Opens self.old place

@@ -50,7 +50,7 @@ pub(crate) fn place_of(numbers: CursorPlace) -> Place
     ensures is { result ≡ place_of numbers }
     ensures near { IsNear result }
 {
-    if numbers.position >= 1 << 63 || numbers.left > 256 {
+    if numbers.position > isize::MAX as usize || numbers.left > 256 {
         return Place::Nowhere;
     }
     match numbers.left.checked_sub(1) {

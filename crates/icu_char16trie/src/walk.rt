@@ -144,6 +144,8 @@ impl<'a> Walk<'a> {
     /// Moves to the next entry and returns it, with a text of its own.
     ///
     /// After an `Err` nothing is left.
+    // rustc calls it, which takes longer than a step.
+    #[inline(always)]
     pub(crate) fn next_item(&mut self, alloc: Global) -> Option<Result<(String, i32), MemoryError>>
         requires { IsSound self.old }
         ensures gives { Gives self.old result self.new }
