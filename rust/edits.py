@@ -359,18 +359,6 @@ EDITS = {
         (r"(?m)^(?=pub fn look_up_whole)", "// Tests call it.\n#[allow(dead_code)]\n", 1),
     ],
     "icu_trie_core/cells": [(r"(\n +)(?=fn index_len\(&self\) -> usize;)", r"\1// Tests call it.\1#[allow(dead_code)]\1", 1)],
-    "icu_char16trie/spelling": [
-        (r"(fn push_apart\(&mut self, )lead\b", r"\1_", 1),
-        # Rust inlines `String::push` of a character above ASCII.
-        (r"\x01\d+\x03\n +if unit < 0x800 \{(?:\n[^}]*)\}\n(?= +push_wide)", "", 1),
-        (r"(?s) +\x01\d+\x03\n +#\[inline\(never\)\]\n +fn push_far.*?\n    \}\n\n", "", 1),
-        (r"\x01\d+\x03\n +if unit >= 0x80 \{[^}]*\}\n +", "", 1),
-        (
-            r"\x01\d+\x03\n +let mut bytes = \[0; 4\];\n +text\.try_push_str\(c\.encode_utf8\(&mut bytes\)\)",
-            "text.try_push(c)",
-            1,
-        ),
-    ],
     "icu_trie/lib": [(r"(?m)^(?=pub use icu_trie_core::\{)", "#[allow(unused_imports)] // Tests use them.\n", 1)],
     "icu_trie_text/lib": [(r"(?m)^(?=(?:pub )?mod characters;)", "#[allow(dead_code)] // The C library uses it.\n", 1)],
     "icu_trie_binary/binary": [(r"\(\((high_start) \+ 0xfff\) / (0x1000)\)", r"\1.div_ceil(\2)", 1)],

@@ -71,7 +71,7 @@ impl<'a> Pending<'a> {
             self.put_off(short_end(place + 2, value % VALUE_IS_FINAL), count - 1)?;
             child = first;
         }
-        self.spelling.push_one(unit)?;
+        self.spelling.push(unit)?;
         self.node = Some(child);
         Ok(())
     }

@@ -63,17 +63,6 @@ fn pair_char(lead: LeadSurrogate, unit: u16) -> Option<char>
     char::from_u32(0x1_0000 + (u32::from(lead.unit - 0xD800) << 10) + u32::from(unit - 0xDC00))
 }
 
-/// Appends a character that is not ASCII.
-#[inline(always)]
-fn push_wide(text: &mut String, c: char) -> Result<(), AllocError>
-    ensures { OnOk result (string_bytes text.new ≡ string_bytes text.old ++ encode_utf8 c) }
-{
-    // `String::push` would call a function for it.
-    let mut bytes = [0; 4];
-    text.push_str(c.encode_utf8(&mut bytes))?;
-    Ok(())
-}
-
 impl Spelling {
     ghost use Rattle.icu_char16trie.specs.Inside.Opening.{SpellsOn};
 
@@ -102,20 +91,15 @@ impl Spelling {
             self.held = Some(lead);
             return Ok(());
         }
-        // In each of the two calls the number of bytes is known.
-        if unit < 0x800 {
-            push_wide(&mut self.text, lone_char(unit))?;
-            return Ok(());
-        }
-        push_wide(&mut self.text, lone_char(unit))?;
+        self.text.push(lone_char(unit))?;
         Ok(())
     }
 
     /// Appends a unit after a held lead surrogate with which it is no pair.
     #[cold]
     #[inline(never)]
-    fn push_apart(&mut self, lead: LeadSurrogate, unit: u16) -> Result<(), AllocError>
-        requires held { self.old.held ≡ Some lead }
+    fn push_apart(&mut self, _lead: LeadSurrogate, unit: u16) -> Result<(), AllocError>
+        requires held { self.old.held ≡ Some _lead }
         requires apart { unit < 0xDC00 ⊎ 0xE000 ≤ unit }
         ensures { OnOk result (SpellsOn self.old (unit ∷ []) self.new) }
     {
@@ -133,7 +117,7 @@ impl Spelling {
     {
         if let Some(c) = pair_char(lead, unit) {
             self.held = None;
-            push_wide(&mut self.text, c)?;
+            self.text.push(c)?;
             return Ok(());
         }
         self.push_apart(lead, unit)?;
@@ -142,7 +126,7 @@ impl Spelling {
 
     /// Appends a unit.
     #[inline(always)]
-    fn push(&mut self, unit: u16) -> Result<(), AllocError>
+    pub(crate) fn push(&mut self, unit: u16) -> Result<(), AllocError>
         ensures { OnOk result (SpellsOn self.old (unit ∷ []) self.new) }
     {
         let Some(lead) = self.held else {
@@ -150,29 +134,6 @@ impl Spelling {
             return Ok(());
         };
         self.push_after(lead, unit)?;
-        Ok(())
-    }
-
-    /// Appends a unit that is not ASCII.
-    #[inline(never)]
-    fn push_far(&mut self, unit: u16) -> Result<(), AllocError>
-        ensures { OnOk result (SpellsOn self.old (unit ∷ []) self.new) }
-    {
-        self.push(unit)?;
-        Ok(())
-    }
-
-    /// Appends one unit.
-    #[inline(always)]
-    pub(crate) fn push_one(&mut self, unit: u16) -> Result<(), AllocError>
-        ensures { OnOk result (SpellsOn self.old (unit ∷ []) self.new) }
-    {
-        // A call for all but ASCII: so the code around it stays small.
-        if unit >= 0x80 {
-            self.push_far(unit)?;
-            return Ok(());
-        }
-        self.push(unit)?;
         Ok(())
     }
 

@@ -28,11 +28,11 @@ returns c = elim c.if-count-gt1.branch [
       (omega (arith, w.if-count-gt1.true)) c.requires.short (sym c.in-Some.ensures.unit) (sym w.in-Some-unit_at.ensures.unit)
       (sym w.in-Some-entry_child.ensures.child) w.short_end.ensures.end
       (omega (arith, w.in-Some-entry_child.ensures.above)) (omega (arith, w.short_end.ensures.above)) w.in_ok-put_off.ensures
-      (record { units = refl; spelling = rw w.self-is at c.in_ok-push_one.ensures; node = refl; parts = refl }))
+      (record { units = refl; spelling = rw w.self-is at c.in_ok-push.ensures; node = refl; parts = refl }))
   | else-count-gt1 w ↦
       rw (w.self-is, w.child-is)
       (gone_opens c.args.self.now _ _ c.args.place (c.args.place + 1) _
-      (record { units = refl; spelling = rw w.self-is at c.in_ok-push_one.ensures; node = refl; parts = refl })
+      (record { units = refl; spelling = rw w.self-is at c.in_ok-push.ensures; node = refl; parts = refl })
       c.in-Some.ensures.within.1 (omega arith) (λ first s.
       last_stands (slice_values c.args.self.now.units) c.args.place c.args.count c.in-Some.unit first
       (omega (arith, w.if-count-gt1.false)) (sym c.in-Some.ensures.unit) s))

@@ -14,12 +14,7 @@ returns-then-unit-lt128 c =
 pub returns-in-Some : goal.returns-in-Some
 returns-in-Some c = on_held c.args.self.now _ c.in-Some.lead c.args.unit c.requires refl refl c.in-Some.ensures
 
-pub returns-then-unit-lt2048 : goal.returns-then-unit-lt2048
-returns-then-unit-lt2048 c =
-    on_alone c.args.self.now _ c.args.unit c.requires c.requires c.in_default.ensures
-    (c.in_ok-push_wide.ensures ∙ ap (λ z. bytes_of c.args.self.now ++ encode_utf8 z) c.lone_char.ensures)
-
 pub returns : goal.returns
 returns c =
     on_alone c.args.self.now _ c.args.unit c.requires c.requires c.in_default.ensures
-    (c.in_ok-push_wide-2.ensures ∙ ap (λ z. bytes_of c.args.self.now ++ encode_utf8 z) c.lone_char-2.ensures)
+    (c.in_ok-push-2.ensures.bytes ∙ ap (λ z. bytes_of c.args.self.now ++ encode_utf8 z) c.lone_char.ensures)
