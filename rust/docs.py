@@ -11,7 +11,7 @@ import re
 
 from files import HERE, Stop, read, rules_of, write
 from rules import TRIED
-from tokens import after_gap, functions, owner_of, past_group, tokens_of
+from tokens import after_gap, past_group
 
 RULES = rules_of("docs")
 FENCES = (" ```", " ```text", " ```ignore")
@@ -137,58 +137,3 @@ def documented(crate, module, tokens, is_library):
             raise Stop(f"rust/examples has no example for {module}: {it.item}")
         tokens[it.start : it.end] = it.tokens()
     return tokens
-
-
-# The docs of all public functions, by their owner and name.
-DOCS = {}
-
-
-def note_docs(tokens):
-    """Notes the docs of the public functions of a module."""
-    for line_owner, name, docs in docs_in("".join(tokens)):
-        DOCS[line_owner, name] = docs
-
-
-def docs_in(text):
-    """Yields the owner, the name and the docs of each public function."""
-    owner, docs = "", []
-    for line in text.splitlines():
-        if line.startswith("impl"):
-            owner = owner_of([line])
-        elif line == "}":
-            owner = ""
-        if function := re.match(r" *pub (?:const )?fn (\w+)", line):
-            yield owner, function[1], docs
-        if re.match(r" *///", line):
-            docs = [*docs, line.strip()]
-        elif not re.match(r" *#\[", line):
-            docs = []
-
-
-def plain(lines):
-    """Returns docs without the section about errors, with examples of functions that panic."""
-    text = "\n".join(lines)
-    text = re.sub(r"(?ms)\n///\n/// # Errors\n.*?(?=^///\n/// # |\Z)", "\n", text + "\n")
-    # The builder of unit tries has no `build` that panics.
-    names = [it for it in TRIED if it != "build" or "Char16TrieBuilder" not in text]
-    call = rf"\btry_({'|'.join(names)}|build_from_writes)(\((?:[^()]|\([^()]*\))*\))\?"
-    text = re.sub(call, r"\1\2", text)
-    text = re.sub(r"\btry_build_from_writes(?=[,}])", "build_from_writes", text)
-    if not re.search(r"\?[;,).]|\?$", re.sub("(?m)^/// #.*", "", text), re.M):
-        text = text.replace(f"/// {ERRORS}\n", "")
-    return text.splitlines()
-
-
-def face_docs(folder):
-    """Replaces lines `/// {NAME}` of rust/face by the docs of the function that is called."""
-    for path in glob.glob(f"{folder}/src/*.rs"):
-        owner, out = "", []
-        for line in read(path).splitlines():
-            owner = owner_of([line]) if line.startswith("impl") else "" if line == "}" else owner
-            if name := re.fullmatch(r"( *)/// \{(\w+)\}", line):
-                if (owner, name[2]) not in DOCS:
-                    raise Stop(f"{path}: no docs of {owner}::{name[2]}")
-                out += [name[1] + it for it in plain(DOCS[owner, name[2]])]
-            else:
-                out.append(line)
-        write(path, "\n".join(out) + "\n")

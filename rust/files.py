@@ -1,8 +1,5 @@
-"""Reads and writes files for rust/make, and applies what rust/edits.py lists."""
+"""Reads and writes files for rust/make, and reads rust/rules.txt."""
 import os
-import re
-
-from tokens import TOKEN, tokens_of
 
 HERE = os.path.dirname(os.path.realpath(__file__))
 
@@ -34,17 +31,3 @@ def rules_of(section):
                 (examples if is_example else forms).append([it.strip() for it in sides])
             words = [""] if is_example else words
     return [(*form, *example) for form, example in zip(forms, examples, strict=True)]
-
-
-def edited(module, tokens, edits):
-    """Applies what rust/edits.py lists for a module, to its text with marks for comments and literals."""
-    held, text = [], ""
-    for it in tokens:
-        kind = 1 if it.startswith("//") else 2 if it[-1] in "\"'" else 0
-        text += f"{chr(kind)}{len(held)}\x03" if kind else it
-        held += [it] * (kind > 0)
-    for pattern, put, times in edits.get(module, []):
-        text, count = re.subn(pattern, put, text)
-        if count != times:
-            raise Stop(f" expected {pattern!r} {times} times, found it {count} times")
-    return tokens_of(re.sub("[\x01\x02](\\d+)\x03", lambda it: held[int(it[1])], text))

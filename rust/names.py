@@ -1,9 +1,7 @@
 """The names and paths of the Rust edition, and its lists of arguments without the allocator."""
-import re
-
 from files import Stop, rules_of
 from rules import FEATURES, TRIED
-from tokens import after_gap, before_gap, code_of, is_gap, match, replaced, start_of, tokens_of
+from tokens import after_gap, before_gap, code_of, is_gap, match, replaced, tokens_of
 
 # Parameters, fields and arguments that are the allocator, before a comma or a bracket.
 ALLOCATORS = [
@@ -25,7 +23,7 @@ def compiled(rules):
     return made
 
 
-SOURCE, LEDGERS = compiled(rules_of("source")), compiled(rules_of("ledgers"))
+SOURCE, LIBRARY = compiled(rules_of("source")), compiled(rules_of("library"))
 
 
 def ruled(tokens, rules):
@@ -94,15 +92,9 @@ def with_paths(crate, tokens):
     return made
 
 
-def featured(module, tokens):
-    """Puts modules that need a feature, and imports from them, behind it."""
-    made, folder = list(tokens), re.sub("/(mod|lib)$", "", module)
-    for at in reversed([i for i, it in enumerate(made) if it in ("mod", "use")]):
-        start, said = start_of(made, at), "".join(made[at : made.index(";", at)])
-        for needing, feature in FEATURES.items():
-            home, name = needing.rsplit("/", 1)
-            is_import = made[start] == "pub" and needing.startswith(module.split("/")[0]) and f"{name}::" in said
-            if is_import or home == folder and said == f"mod {name}":
-                found = ", ".join(f'feature = "{it}"' for it in feature.split())
-                made[start:start] = tokens_of(f"#[cfg({f'any({found})' if ' ' in feature else found})]\n")
-    return made
+def with_head(module, tokens, names):
+    """Adds what a module starts with: the feature that it needs, what Rust's prelude lacks without std, the
+    functions that report failed allocations, and other names."""
+    lines = f"#![cfg({FEATURES[module]})]\n" if module in FEATURES else ""
+    place = next((at for at, it in enumerate(tokens) if not it.isspace() and not it.startswith("//!")), 0)
+    return tokens[:place] + tokens_of(f"{lines}use crate::support::prelude::*;\n{names}") + tokens[place:]

@@ -1,9 +1,7 @@
 """Writes the programs for cargo, rust/ucptab and rust/ucptrie, over the library rust/bekstaudi."""
-import glob
-import os
 import shutil
 
-from files import HERE, read, rules_of, write
+from files import HERE, rules_of
 
 # The programs, and the crates of each.
 PROGRAMS = {
@@ -12,14 +10,7 @@ PROGRAMS = {
         "bzip2_reader ucptrie ucptrie_sets ucptrie_source ucptrie_tables ucptrie_words ucd_files ucptab_table"
     ),
 }
-NAMES = "#[allow(unused_imports)]\nuse crate::host::*;\n"
-
-
-def after_head(text, names):
-    """Returns a module's text with imports after the docs at its head."""
-    lines = text.splitlines(True)
-    place = next((i for i, it in enumerate(lines) if it.strip() and not it.startswith("//!")), len(lines))
-    return "".join([*lines[:place], names, *lines[place:]])
+NAMES = "use crate::host::*;\n"
 
 
 def programs(folder, make):
@@ -31,7 +22,4 @@ def programs(folder, make):
         shutil.copytree(f"{HERE}/support", f"{package}/src/support")
         for name in ("host", "ledger"):
             shutil.copy(f"{HERE}/programs/{name}.rs", f"{package}/src")
-        make(package, crates.split(), rules_of("programs"))
-        for crate in crates.split():
-            for path in glob.glob(f"{package}/src/{crate}/*.rs"):
-                write(path, after_head(read(path), NAMES))
+        make(package, crates.split(), rules_of("programs"), NAMES)

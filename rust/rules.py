@@ -1,18 +1,14 @@
 """The names that rust/make treats in another way than others. rust/rules.txt has its rules."""
 
-# Modules that need another crate, and so a feature, or one of several.
+# Modules that need another crate, and so a feature.
 FEATURES = {
-    "icu_invlist/codepointinvlist/json": "json",
-    "icu_invlist/spelling": "json serde",
-    "icu_char16trie/json": "json",
-    "icu_text_sets/codepointinvliststringlist/json": "json",
-    "icu_trie_formats/json": "json",
-    "icu_trie_formats/trie_toml": "toml serde",
+    "icu_invlist/codepointinvlist/json": 'feature = "json"',
+    "icu_invlist/spelling": 'any(feature = "json", feature = "serde")',
+    "icu_char16trie/json": 'feature = "json"',
+    "icu_text_sets/codepointinvliststringlist/json": 'feature = "json"',
+    "icu_trie_formats/json": 'feature = "json"',
+    "icu_trie_formats/trie_toml": 'any(feature = "toml", feature = "serde")',
 }
-# Crates of which nothing works without the feature `alloc`.
-ALLOCATING = (
-    "icu_text_sets icu_frozen_sets icu_char16trie_builder icu_trie_map icu_trie_compaction icu_trie_builder"
-).split()
 # Functions that allocate. rust/face has functions with these names that panic if that fails.
 TRIED = (
     "add_char add32 add_range add_range32 add_set remove_char remove32 remove_range remove_range32"
@@ -89,8 +85,3 @@ CONST = {
     "icu_trie_formats/trie_toml": "index_slice data_slice",
     "icu_trie_text/utf16": "values_of_utf16",
 }
-# What rust/support/mod.rs has in its prelude: types, a macro, and methods of its traits.
-PRELUDE = set(
-    "Vec String try_vec with_room try_room try_exact_room try_push try_push_str try_insert"
-    " try_extend_from_slice try_resize".split()
-)

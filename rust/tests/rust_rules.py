@@ -56,11 +56,12 @@ UNKNOWN = [
     "#[unsafe(no_mangle)]\npub fn f(x: u8) -> u8 {\n    x\n}\n",
 ]
 # Forms that it knows, and what they become.
+HEAD = "use crate::support::prelude::*;\n"
 KNOWN = {
     "use std::marker::{Brand, PhantomData};\nstruct S(PhantomData<u8>);\n":
-        "use core::marker::PhantomData;\nstruct S(PhantomData<u8>);\n",
+        f"{HEAD}use core::marker::PhantomData;\nstruct S(PhantomData<u8>);\n",
     "use std::cmp::{self, Ordering};\nuse std::fmt::Debug;\nstruct S(Ordering);\n":
-        "use core::cmp::{self, Ordering};\nuse core::fmt::Debug;\nstruct S(Ordering);\n",
+        f"{HEAD}use core::cmp::{{self, Ordering}};\nuse core::fmt::Debug;\nstruct S(Ordering);\n",
 }
 # Changes of c/bekstaudi.h after which it no longer declares what icu_collections_c has.
 OTHER_HEADERS = [

@@ -61,41 +61,57 @@ plain_clone! {
 #[cfg(feature = "alloc")]
 impl CodePointInversionListBuilder {
     plain_calls! {
-        /// {try_add_char}
+        /// Adds the character `c`.
         add_char = try_add_char(c: char);
-        /// {try_add32}
+        /// Adds the code point `c`. A number above 0x10FFFF is ignored.
         add32 = try_add32(c: u32);
-        /// {try_add_range}
+        /// Adds all code points in `range`: `'A'..='Z'` adds 26 letters. Surrogates between the start
+        /// and the end are added too.
+        ///
+        /// `range` may be empty or reversed; it then adds nothing.
         add_range = try_add_range(range: impl RangeBounds<char>);
-        /// {try_add_range32}
+        /// Adds all code points in `range`.
+        ///
+        /// `range` may be empty or reversed; it then adds nothing. If its exclusive end is above
+        /// 0x110000, the whole range is ignored: 0x50..=0x110000 adds nothing.
         add_range32 = try_add_range32(range: impl RangeBounds<u32>);
-        /// {try_add_set}
+        /// Adds all code points in `set`.
         add_set = try_add_set(set: &CodePointInversionList<'_>);
-        /// {try_remove_char}
+        /// Removes the character `c`.
         remove_char = try_remove_char(c: char);
-        /// {try_remove32}
+        /// Removes the code point `c`. A number above 0x10FFFF is ignored.
         remove32 = try_remove32(c: u32);
-        /// {try_remove_range}
+        /// Removes all code points in `range`, including surrogates between its start and its end.
+        ///
+        /// `range` may be empty or reversed; it then removes nothing.
         remove_range = try_remove_range(range: impl RangeBounds<char>);
-        /// {try_remove_range32}
+        /// Removes all code points in `range`: `0..=u32::MAX` removes all.
+        ///
+        /// `range` may be empty or reversed; it then removes nothing.
         remove_range32 = try_remove_range32(range: impl RangeBounds<u32>);
-        /// {try_remove_set}
+        /// Removes all code points in `set`.
         remove_set = try_remove_set(set: &CodePointInversionList<'_>);
-        /// {try_retain_set}
+        /// Removes all code points that are not in `set`.
         retain_set = try_retain_set(set: &CodePointInversionList<'_>);
-        /// {try_complement_char}
+        /// Flips the character `c`: removes it if it is in the set, and adds it otherwise.
         complement_char = try_complement_char(c: char);
-        /// {try_complement32}
+        /// Flips the code point `c`: removes it if it is in the set, and adds it otherwise. A number
+        /// above 0x10FFFF is ignored.
         complement32 = try_complement32(c: u32);
-        /// {try_complement_range}
+        /// Flips all code points in `range`, including surrogates between its start and its end.
+        ///
+        /// `range` may be empty or reversed; it then changes nothing.
         complement_range = try_complement_range(range: impl RangeBounds<char>);
-        /// {try_complement_range32}
+        /// Flips all code points in `range`. Numbers above 0x10FFFF are ignored.
+        ///
+        /// `range` may be empty or reversed; it then changes nothing.
         complement_range32 = try_complement_range32(range: impl RangeBounds<u32>);
-        /// {try_complement_set}
+        /// Flips all code points in `set`, so that the result is the symmetric difference. Doing it
+        /// twice restores the set.
         complement_set = try_complement_set(set: &CodePointInversionList<'_>);
     }
 
-    /// {try_complement}
+    /// Flips all code points: the set becomes its complement. Doing it twice restores the set.
     ///
     /// # Panics
     /// Panics if an allocation fails; [`try_complement`](Self::try_complement) returns an error
@@ -104,7 +120,7 @@ impl CodePointInversionListBuilder {
         plain(self.try_complement());
     }
 
-    /// {try_build}
+    /// Returns the set as an inversion list, with its boundaries packed in three bytes each.
     ///
     /// # Panics
     /// Panics if an allocation fails; [`try_build`](Self::try_build) returns an error then.
@@ -174,7 +190,7 @@ fn without_memory<T>(answer: Result<T, SetError>) -> Result<T, InvalidSetError> 
 
 #[cfg(feature = "alloc")]
 impl CodePointInversionList<'_> {
-    /// {try_get_inversion_list_vec}
+    /// Returns a copy of the boundaries as a vector of numbers.
     ///
     /// # Panics
     /// Panics if an allocation fails;
@@ -184,7 +200,8 @@ impl CodePointInversionList<'_> {
         plain(self.try_get_inversion_list_vec())
     }
 
-    /// {try_into_owned}
+    /// Returns the same set, which then owns its boundaries. If the set already owns them, nothing
+    /// is allocated or copied.
     ///
     /// # Panics
     /// Panics if an allocation fails; [`try_into_owned`](Self::try_into_owned) returns an error
@@ -233,7 +250,8 @@ from_ranges! {
 
 #[cfg(feature = "alloc")]
 impl FrozenCodePointSet {
-    /// {try_freeze}
+    /// Returns a frozen set with the code points of `set` (ICU: `UnicodeSet::freeze`). It has its
+    /// own copy of the boundaries, and `set` is unchanged.
     ///
     /// # Panics
     /// Panics if an allocation fails; [`try_freeze`](Self::try_freeze) returns an error then.
@@ -245,7 +263,8 @@ impl FrozenCodePointSet {
 
 #[cfg(feature = "alloc")]
 impl FrozenCodePointSetAndStrings {
-    /// {try_freeze}
+    /// Returns a frozen set with the code points and the strings of `set` (ICU:
+    /// `UnicodeSet::freeze`). It has its own copy of both, and `set` is unchanged.
     ///
     /// # Panics
     /// Panics if an allocation fails; [`try_freeze`](Self::try_freeze) returns an error then.

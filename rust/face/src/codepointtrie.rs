@@ -108,7 +108,20 @@ impl<T: TrieValue> CodePointTrie<'_, T> {
         plain(self.try_into_owned())
     }
 
-    /// {try_get_set_for_value}
+    /// Returns the set of code points whose range in [`iter_ranges`](Self::iter_ranges) has the
+    /// value.
+    ///
+    /// If the trie is coherent, as every built one is, these are exactly the code points that have
+    /// the value.
+    ///
+    /// ```
+    /// use bekstaudi::codepointtrie::{CodePointTrieBuilder, TrieType};
+    ///
+    /// let mut builder = CodePointTrieBuilder::new(0u8, 9, TrieType::Small);
+    /// builder.set_range_value(0x41..=0x5A, 1);
+    /// let letters = builder.build().get_set_for_value(1);
+    /// assert!(letters.contains('Z') && !letters.contains32(0x5B));
+    /// ```
     ///
     /// # Panics
     /// Panics if an allocation fails; [`try_get_set_for_value`](Self::try_get_set_for_value)
@@ -184,7 +197,27 @@ impl<'trie, T: TrieValue> CodePointTrie<'trie, T> {
 
 #[cfg(feature = "alloc")]
 impl<T: TrieValue> CodePointTrieBuilder<T> {
-    /// {try_from_trie}
+    /// Makes a builder with the values of a trie, which can then be changed and built again. It has
+    /// the trie's type and its error value.
+    ///
+    /// At every number it returns what the trie returns, even if the trie's header is wrong: it
+    /// reads a coherent trie range by range, and any other one by look-ups. Code points for which
+    /// the trie lacks a cell get the error value.
+    ///
+    /// The default is the value of 0x10FFFF, so that most code points need no memory.
+    ///
+    /// ICU: `umutablecptrie_fromUCPTrie`.
+    ///
+    /// ```
+    /// use bekstaudi::codepointtrie::CodePointTrieBuilder;
+    /// use bekstaudi::codepointtrie::planes::get_planes_trie;
+    ///
+    /// let mut builder = CodePointTrieBuilder::from_trie(&get_planes_trie());
+    /// builder.set_value(0x41, 7);
+    /// let amended = builder.build();
+    /// assert_eq!(amended.get('A'), 7);
+    /// assert_eq!(amended.get32(0x1F600), 1);
+    /// ```
     ///
     /// # Panics
     /// Panics if an allocation fails; [`try_from_trie`](Self::try_from_trie) returns an error then.
@@ -193,7 +226,17 @@ impl<T: TrieValue> CodePointTrieBuilder<T> {
         plain(CodePointTrieBuilder::try_from_trie(trie))
     }
 
-    /// {try_set_value}
+    /// Sets the value of the code point `c`. If `c` is above 0x10FFFF, nothing is written.
+    ///
+    /// ```
+    /// use bekstaudi::codepointtrie::{CodePointTrieBuilder, TrieType};
+    ///
+    /// let mut builder = CodePointTrieBuilder::new(0u8, 9, TrieType::Fast);
+    /// builder.set_value(0x1234, 7);
+    /// builder.set_value(0x110000, 8);
+    /// assert_eq!(builder.get(0x1234), 7);
+    /// assert_eq!(builder.get(0x110000), 9);
+    /// ```
     ///
     /// # Panics
     /// Panics if an allocation fails; [`try_set_value`](Self::try_set_value) returns an error then.
@@ -201,7 +244,20 @@ impl<T: TrieValue> CodePointTrieBuilder<T> {
         plain(self.try_set_value(c, value));
     }
 
-    /// {try_set_range_value}
+    /// Sets the value of each code point in `range`, whose bounds are both inclusive.
+    ///
+    /// If the range is reversed or starts above 0x10FFFF, nothing is written. If it ends above
+    /// 0x10FFFF, the code points up to 0x10FFFF are written.
+    ///
+    /// ```
+    /// use bekstaudi::codepointtrie::{CodePointTrieBuilder, TrieType};
+    ///
+    /// let mut builder = CodePointTrieBuilder::new(0u8, 9, TrieType::Fast);
+    /// builder.set_range_value(0x1000..=0x1FFF, 8);
+    /// builder.set_range_value(0x10FFFF..=0x110005, 1);
+    /// assert_eq!(builder.get(0x1FFF), 8);
+    /// assert_eq!(builder.get(0x10FFFF), 1);
+    /// ```
     ///
     /// # Panics
     /// Panics if an allocation fails; [`try_set_range_value`](Self::try_set_range_value) returns an
@@ -210,7 +266,17 @@ impl<T: TrieValue> CodePointTrieBuilder<T> {
         plain(self.try_set_range_value(range, value));
     }
 
-    /// {try_build}
+    /// Builds the trie of the map. It has the builder's trie type, and owns its index and its data.
+    ///
+    /// ```
+    /// use bekstaudi::codepointtrie::{CodePointTrieBuilder, TrieType};
+    ///
+    /// let mut builder = CodePointTrieBuilder::new(0u16, 9, TrieType::Small);
+    /// builder.set_value(0x20000, 10);
+    /// let trie = builder.build();
+    /// assert_eq!(trie.get32(0x20000), 10);
+    /// assert_eq!(trie.get32(0x1FFFF), 0);
+    /// ```
     ///
     /// # Panics
     /// Panics if an allocation fails, or if the map has too many different blocks;
@@ -221,7 +287,18 @@ impl<T: TrieValue> CodePointTrieBuilder<T> {
     }
 }
 
-/// {try_build_from_writes}
+/// Builds a trie from a list of writes, applied in order to a map that has the default everywhere.
+/// Each code point gets the value of the last accepted write that covers it.
+///
+/// ```
+/// use bekstaudi::codepointtrie::{TrieType, Write, build_from_writes};
+///
+/// let writes = [Write::Range(0x41..=0x5A, 1u8), Write::One(0x41, 0)];
+/// let trie = build_from_writes(0, 9, TrieType::Fast, &writes);
+/// assert_eq!(trie.get32(0x41), 0);
+/// assert_eq!(trie.get32(0x5A), 1);
+/// assert_eq!(trie.get32(0x110000), 9);
+/// ```
 ///
 /// # Panics
 /// Panics if an allocation fails, or if the map has too many different blocks;

@@ -133,7 +133,6 @@ pub mod zerovec;
 
 pub use plain::iterator_utils;
 
-// rust/make writes the two lists.
 macro_rules! generated {
     ($($name:ident)*) => {
         modules! { all(): $($name)* }
@@ -168,5 +167,12 @@ macro_rules! modules {
     };
 }
 
-generated! {}
-generated_with_alloc! {}
+// The crates of crates.txt, and those of which nothing works without the feature `alloc`.
+generated! {
+    icu_zerovec icu_invlist icu_invlist_binary icu_char16trie icu_trie_core icu_trie icu_trie_formats
+    icu_trie_binary icu_trie_text
+}
+generated_with_alloc! {
+    icu_text_sets icu_frozen_sets icu_char16trie_builder icu_trie_map icu_trie_compaction
+    icu_trie_builder
+}

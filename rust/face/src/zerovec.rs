@@ -45,7 +45,8 @@ impl<T: AsULE> Clone for ZeroVec<'_, T> {
 
 #[cfg(feature = "alloc")]
 impl<T: AsULE> ZeroVec<'_, T> {
-    /// {try_into_owned}
+    /// Returns the same vector, which then owns its bytes. If the vector already owns them, nothing
+    /// is allocated or copied.
     ///
     /// # Panics
     /// Panics if an allocation fails; [`try_into_owned`](Self::try_into_owned) returns an error

@@ -2,8 +2,10 @@
 //! crates/ucptrie_tables, crates/ucptrie_words, crates/bzip2_reader, crates/ucd_files and
 //! crates/ucptab_table without their proofs, over `bekstaudi`, `clap`, `serde_json` and `toml`.
 #![deny(unsafe_code)]
-// What the proved sources have in another form than clippy asks for. A format has whole lines.
+// Each module imports the same names of `host` and `support`. What the proved sources have in another
+// form than clippy asks for is allowed. A format has whole lines.
 #![allow(
+    unused_imports,
     clippy::write_with_newline,
     clippy::collapsible_if,
     clippy::manual_range_contains,
@@ -23,11 +25,9 @@ mod bzip2_reader;
 mod clap;
 mod host;
 mod ledger;
-#[allow(dead_code, unused_imports)]
 mod serde_json;
-#[allow(dead_code, unused_imports, unused_macros)]
+#[allow(dead_code, unused_macros)]
 mod support;
-#[allow(unused_imports)]
 mod toml;
 #[allow(dead_code, unused_variables)]
 mod ucd_files;
