@@ -68,7 +68,7 @@ def compares_header(made, folder):
         path = f"{folder}/header{number}.h"
         write(path, header.replace(old, new))
         try:
-            made.c_library(f"{folder}/other_c", f"{folder}/bekstaudi", path, made.make)
+            made.c_library(f"{folder}/other_c", path, made.make)
             print(f"rust/make does not see that a header has {new!r} for {old!r}")
             failed.append(old)
         except made.Stop:

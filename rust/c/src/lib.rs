@@ -24,6 +24,7 @@ use core::alloc::{GlobalAlloc, Layout};
 use core::ffi::c_void;
 
 mod exports;
+mod trie;
 #[forbid(unsafe_code)]
 mod icu_collections_c;
 
@@ -100,3 +101,88 @@ unsafe fn slice_mut<'a, T>(first: *mut T, count: usize) -> &'a mut [T] {
 #[inline(never)]
 fn cold() {}
 
+// The modules of rust/bekstaudi. `serde_forms` is not among them: there is no feature serde here.
+#[forbid(unsafe_code)]
+#[path = "../../bekstaudi/src/char16trie.rs"]
+mod char16trie;
+#[forbid(unsafe_code)]
+#[path = "../../bekstaudi/src/codepointinvlist.rs"]
+mod codepointinvlist;
+#[forbid(unsafe_code)]
+#[path = "../../bekstaudi/src/codepointinvliststringlist.rs"]
+mod codepointinvliststringlist;
+#[forbid(unsafe_code)]
+#[path = "../../bekstaudi/src/codepointtrie.rs"]
+mod codepointtrie;
+#[forbid(unsafe_code)]
+#[path = "../../bekstaudi/src/collected.rs"]
+mod collected;
+#[forbid(unsafe_code)]
+#[path = "../../bekstaudi/src/constant.rs"]
+mod constant;
+#[forbid(unsafe_code)]
+#[path = "../../bekstaudi/src/constant_units.rs"]
+mod constant_units;
+#[forbid(unsafe_code)]
+#[path = "../../bekstaudi/src/constant_values.rs"]
+mod constant_values;
+#[forbid(unsafe_code)]
+#[path = "../../bekstaudi/src/icu_char16trie/mod.rs"]
+mod icu_char16trie;
+#[forbid(unsafe_code)]
+#[path = "../../bekstaudi/src/icu_char16trie_builder/mod.rs"]
+mod icu_char16trie_builder;
+#[forbid(unsafe_code)]
+#[path = "../../bekstaudi/src/icu_frozen_sets/mod.rs"]
+mod icu_frozen_sets;
+#[forbid(unsafe_code)]
+#[path = "../../bekstaudi/src/icu_invlist/mod.rs"]
+mod icu_invlist;
+#[forbid(unsafe_code)]
+#[path = "../../bekstaudi/src/icu_invlist_binary/mod.rs"]
+mod icu_invlist_binary;
+#[forbid(unsafe_code)]
+#[path = "../../bekstaudi/src/icu_text_sets/mod.rs"]
+mod icu_text_sets;
+#[forbid(unsafe_code)]
+#[path = "../../bekstaudi/src/icu_trie/mod.rs"]
+mod icu_trie;
+#[forbid(unsafe_code)]
+#[path = "../../bekstaudi/src/icu_trie_binary/mod.rs"]
+mod icu_trie_binary;
+#[forbid(unsafe_code)]
+#[path = "../../bekstaudi/src/icu_trie_builder/mod.rs"]
+mod icu_trie_builder;
+#[forbid(unsafe_code)]
+#[path = "../../bekstaudi/src/icu_trie_compaction/mod.rs"]
+mod icu_trie_compaction;
+#[forbid(unsafe_code)]
+#[path = "../../bekstaudi/src/icu_trie_core/mod.rs"]
+mod icu_trie_core;
+#[forbid(unsafe_code)]
+#[path = "../../bekstaudi/src/icu_trie_formats/mod.rs"]
+mod icu_trie_formats;
+#[forbid(unsafe_code)]
+#[path = "../../bekstaudi/src/icu_trie_map/mod.rs"]
+mod icu_trie_map;
+#[forbid(unsafe_code)]
+#[path = "../../bekstaudi/src/icu_trie_text/mod.rs"]
+mod icu_trie_text;
+#[forbid(unsafe_code)]
+#[path = "../../bekstaudi/src/icu_zerovec/mod.rs"]
+mod icu_zerovec;
+#[forbid(unsafe_code)]
+#[path = "../../bekstaudi/src/plain.rs"]
+mod plain;
+#[forbid(unsafe_code)]
+#[path = "../../bekstaudi/src/strings.rs"]
+mod strings;
+#[cfg_attr(not(feature = "proved-reads"), forbid(unsafe_code))]
+#[path = "../../bekstaudi/src/support/mod.rs"]
+mod support;
+#[forbid(unsafe_code)]
+#[path = "../../bekstaudi/src/traits.rs"]
+mod traits;
+#[forbid(unsafe_code)]
+#[path = "../../bekstaudi/src/zerovec.rs"]
+mod zerovec;
