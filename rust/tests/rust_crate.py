@@ -9,6 +9,7 @@ import re
 import shutil
 import sys
 
+import header
 from memory_tests import calls_in
 from rust_rules import (
     FORM_RULES, KNOWN, NOT_SWEPT, OTHER_HEADERS, TESTED, TEST_NAMES, TEST_RULES, UNKNOWN
@@ -61,18 +62,14 @@ def refuses_all(made, folder):
     return not failed
 
 
-def compares_header(made, folder):
-    """Whether rust/make stops if c/bekstaudi.h declares something else than the crate has."""
-    header, failed = read(f"{TOP}/c/bekstaudi.h"), []
-    for number, (old, new) in enumerate(OTHER_HEADERS):
-        path = f"{folder}/header{number}.h"
-        write(path, header.replace(old, new))
-        try:
-            made.c_library(f"{folder}/other_c", path, made.make)
-            print(f"rust/make does not see that a header has {new!r} for {old!r}")
-            failed.append(old)
-        except made.Stop:
-            failed += [] if header.count(old) == 1 else [old]
+def is_as_declared(folder):
+    """Whether the C library has what c/bekstaudi.h declares, and no other header that is tried."""
+    text = read(f"{TOP}/c/bekstaudi.h")
+    failed = list(header.differences(f"{folder}/bekstaudi-c", text))
+    for old, new in OTHER_HEADERS:
+        if text.count(old) != 1 or not list(header.differences(f"{folder}/bekstaudi-c", text.replace(old, new))):
+            failed.append(f"rust/tests/header.py does not see that a header has {new!r} for {old!r}")
+    print(*failed, sep="\n", end="\n" if failed else "")
     return not failed
 
 
