@@ -22,7 +22,7 @@ TRIED = (
 # Functions with a `requires` that only a proof can check. They are private.
 INSIDE = (
     "PotentialCodePoint::from_u24 ZeroSlice::at ZeroSlice::get_below ZeroSlice::get_known"
-    " ZeroVec::try_into_converted cell_at cell_below cell_known"
+    " ZeroVec::from_packed ZeroVec::try_into_converted cell_at cell_below cell_known"
     " CodePointInversionList::from_valid_slice size_of merge fast_place_of"
     " high_place_of look_up_whole NumberMap::set_range NumberMap::repeats NumberMap::copy_block"
     " NumberMap::get NumberMap::find_other CellStore::new CellStore::find CellStore::place build_index"

@@ -108,7 +108,7 @@ impl<'a, T: AsULE> ZeroVec<'a, T> {
 
     /// Returns the vector with bytes that have been validated, which it borrows.
     #[inline]
-    pub(crate) fn from_packed(bytes: &'a [u8]) -> Self
+    pub fn from_packed(bytes: &'a [u8]) -> Self
         requires { IsPacked T.unpack T.WIDTH bytes.now }
         ensures { result ≡ values_of T.unpack T.WIDTH bytes.now }
     {
