@@ -1,11 +1,8 @@
 -- A list of numbers that is tested pair by pair.
-use Rattle.std.proofs.Common.{◌≡◌, ℕ, zero, suc, ◌+◌, ◌-◌, ◌%◌, ◌<◌, ◌≤◌, Bool, true, false, not, List, [], ◌∷◌, length, get_or, add-zero, refl, arith, inl, inr, subst}
-use Rattle.std.specs.Prelude.{◌↔◌, ◌||◌}
+use Rattle.std.proofs.Common.{◌≡◌, ℕ, zero, suc, ◌+◌, ◌-◌, ◌<◌, ◌≤◌, Bool, true, false, not, List, length, get_or, add-zero, refl, arith}
 use Rattle.std.specs.List.{All}
 use Rattle.std.specs.List.Sorted.{IsStrictlyIncreasing}
 use Rattle.std.proofs.lemmas.Grind.{get_or_default_zero}
-use Rattle.icu_zerovec.specs.CodePoints.{code_point_limit}
-use Rattle.icu_invlist.specs.InversionList.{IsValid}
 
 -- The numbers below index i ascend strictly.
 abbrev pub UpTo : List ℕ → ℕ → Type 0

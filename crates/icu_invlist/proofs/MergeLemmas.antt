@@ -1,17 +1,15 @@
 -- The merge into a buffer that may be too short.
-use Rattle.std.proofs.Common.{◌≡◌, ℕ, ◌+◌, ◌-◌, ◌%◌, ◌<◌, ◌≤◌, ◌^◌, List, [], ◌∷◌, ◌++◌, length, set, take, drop, get_or, refl, ap, sym, ◌∙◌, subst, arith, suc, Bool, true, false, not, inl, inr}
+use Rattle.std.proofs.Common.{◌≡◌, ℕ, ◌+◌, ◌-◌, ◌<◌, ◌≤◌, ◌^◌, List, [], ◌∷◌, ◌++◌, length, set, take, drop, get_or, refl, ap, sym, ◌∙◌, subst, arith, suc, Bool, true, false, not, inl, inr}
 use Rattle.std.specs.Prelude.{if◌then◌else◌, ◌⊎◌}
-use Rattle.std.proofs.lemmas.Bool.{cases_Bool, eq-eqb, ne_eqb, eqb-true, eqb-false}
 use Rattle.std.proofs.lemmas.List.{append-nil, drop_all, length-append, length-drop, length_push}
-use Rattle.icu_invlist.specs.InversionList.{holds, is_odd, IsValid, Acts}
-use Rattle.icu_invlist.specs.Inside.Merging.{Merging, Merged, MovesOver}
+use Rattle.icu_invlist.specs.InversionList.{is_odd, IsValid}
+use Rattle.icu_invlist.specs.Inside.Merging.{Merging, MovesOver}
 use Rattle.icu_zerovec.specs.Buffers.{written}
 use Rattle.icu_invlist.specs.Merge.{HasMerged}
 use Rattle.icu_invlist.specs.Inside.MergeSteps.{MergeSteps, filled, filled_from}
 use Rattle.std.proofs.Math.Seq.{drop-cons}
 use mathlib.Core.Bool.{beq}
 use Rattle.icu_invlist.proofs.Merging.{merged_step, none_yet, rests, odd_more, moves_within, turned, turned_both, TurnsAtBoth}
-use Rattle.icu_invlist.proofs.Toggles.{odd_next}
 use Rattle.icu_invlist.proofs.PlaceLemmas.{valid-length}
 
 -- ---- the buffer

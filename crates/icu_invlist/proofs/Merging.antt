@@ -1,15 +1,14 @@
 -- The merge of two lists of boundaries.
-use Rattle.std.proofs.Common.{◌≡◌, ℕ, ◌+◌, ◌-◌, ◌%◌, ◌<◌, ◌≤◌, List, [], ◌∷◌, ◌++◌, length, set, take, drop, get_or, refl, ap, sym, ◌∙◌, add-zero, subst, arith, suc, Bool, true, false, not, inl, inr}
+use Rattle.std.proofs.Common.{◌≡◌, ℕ, ◌+◌, ◌-◌, ◌%◌, ◌<◌, ◌≤◌, List, [], ◌++◌, length, take, drop, get_or, refl, ap, sym, ◌∙◌, subst, arith, suc, Bool, true, false, not, inl, inr}
 use Rattle.std.specs.Prelude.{if◌then◌else◌, ◌⊎◌}
 use Rattle.std.proofs.Math.Bool.{not-not}
 use Rattle.std.proofs.lemmas.Bool.{cases_lt, cases_Bool, cond-true, cond-false, eq-eqb, ne_eqb, eqb-true, eqb-false}
-use Rattle.std.proofs.lemmas.List.{append-nil, drop_all, length-append, length-drop, length-take-le, length_push, take-append-drop, take_all, take-set, take_more_set, length-set}
+use Rattle.std.proofs.lemmas.List.{append-nil, drop_all, length-append, length-drop, length-take-le, take-append-drop, take_all}
 use Rattle.icu_zerovec.specs.CodePoints.{code_point_limit}
 use Rattle.icu_invlist.specs.InversionList.{holds, is_odd, IsValid, Acts}
 use Rattle.icu_invlist.specs.Inside.Merging.{Merging, Merged, MovesOver, StandBefore}
 use Rattle.icu_invlist.specs.Inside.Places.{Run, ends_below}
 use mathlib.Core.Bool.{beq}
-use mir.Val.{bool_byte}
 use Rattle.icu_invlist.proofs.RunLemmas.{ends_below-append, ends_below-before, ends_below-past, ends_below-mono, ends_below-le, ends_below-zero, run-append, run-wider, run-front, run-back}
 use Rattle.icu_invlist.proofs.PlaceLemmas.{all_below, least_at, stays_at, moves_over, stays_over}
 use Rattle.icu_invlist.proofs.EqualSets.{parity}

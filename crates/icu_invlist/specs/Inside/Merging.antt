@@ -1,7 +1,7 @@
 -- A merge of the boundaries of two sets, in ascending order, into the boundaries of a third.
-use Rattle.std.specs.Prelude.{ℕ, suc, ◌+◌, ◌<◌, ◌≤◌, ◌≡◌, ◌⊎◌, List, length, slice_index, take, Bool}
+use Rattle.std.specs.Prelude.{ℕ, suc, ◌+◌, ◌<◌, ◌≤◌, ◌≡◌, ◌⊎◌, List, length, slice_index, Bool}
 use Rattle.icu_zerovec.specs.CodePoints.{code_point_limit}
-use Rattle.icu_invlist.specs.InversionList.{holds, is_odd, IsValid}
+use Rattle.icu_invlist.specs.InversionList.{holds, is_odd}
 use Rattle.icu_invlist.specs.Inside.Places.{Run, ends_below}
 
 -- The merge has passed all boundaries below `passed`: i of a and j of b. `out` has the boundaries

@@ -1,4 +1,4 @@
-use Rattle.std.proofs.Common.{◌≡◌, ◌≤◌, ◌-◌, length}
+use Rattle.std.proofs.Common.{◌≤◌, ◌-◌}
 use Rattle.icu_invlist.specs.Inside.MergeSteps.{MergeSteps}
 use Rattle.icu_invlist.proofs.merge.pass_second.Given as goal
 

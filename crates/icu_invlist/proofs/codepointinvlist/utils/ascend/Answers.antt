@@ -1,4 +1,4 @@
-use Rattle.std.proofs.Common.{◌<◌, ◌≤◌, length, arith, inl, inr}
+use Rattle.std.proofs.Common.{length, arith, inl, inr}
 use Rattle.std.proofs.lemmas.Bool.{cases_lt}
 use Rattle.icu_invlist.proofs.AscendLemmas.{false_if_not, not_if_false}
 use Rattle.icu_invlist.proofs.codepointinvlist.utils.ascend.Goals as goal

@@ -1,5 +1,5 @@
 -- If the last number is a boundary, so are those before it.
-use Rattle.std.proofs.Common.{◌≡◌, ◌%◌, length, arith, sym}
+use Rattle.std.proofs.Common.{arith, sym}
 use Rattle.std.proofs.lemmas.Option.{get_or_from_slice_get}
 use Rattle.icu_invlist.proofs.AscendLemmas.{all_within}
 use Rattle.icu_invlist.proofs.codepointinvlist.utils.is_valid_slice.Goals as goal

@@ -1,5 +1,5 @@
 -- Three words are the bytes of the next four boundaries.
-use Rattle.std.proofs.Common.{◌≡◌, ◌++◌, ◌+◌, List, ℕ, take, ap, sym, ◌∙◌, append_assoc, take-append-drop, length, arith}
+use Rattle.std.proofs.Common.{◌≡◌, ◌++◌, ◌+◌, take, ap, sym, ◌∙◌, append_assoc, take-append-drop, length, arith}
 use Rattle.std.specs.List.{flat_map}
 use Rattle.std.proofs.lemmas.Grind.{flat_map-append}
 use Rattle.std.proofs.lemmas.List.{length-take-le}
