@@ -4,10 +4,12 @@ a module."""
 import os
 import re
 
-from files import HERE, Stop, read
-from rules import CONST, DERIVED, INSIDE, ITERATORS, PANICS
+from files import HERE, Stop, read, table
+from rules import INSIDE, PANICS
 from tokens import after_gap, attributes_of, before_gap, functions, match, past_group, start_of, tokens_of
 
+CONST, ITERATORS = table("const"), table("iterators")["names"].split()
+DERIVED = {trait: types.split() for trait, types in table("derives").items()}
 # What iterators that are not used get, as those of Rust's std.
 LAZY = '#[must_use = "iterators are lazy and do nothing unless consumed"]\n'
 # Names that start results which carry `must_use` themselves.
@@ -15,7 +17,7 @@ MARKED = {"Result", "impl", *ITERATORS}
 
 
 def derived(tokens):
-    """Adds the traits of DERIVED in rust/rules.py, and marks iterators, and enums of errors as
+    """Adds the traits of DERIVED in rust/rules.txt, and marks iterators, and enums of errors as
     non-exhaustive."""
     tokens = list(tokens)
     for at in reversed([i for i, it in enumerate(tokens) if it in ("struct", "enum")]):
@@ -70,7 +72,7 @@ def with_modifiers(module, tokens, asked):
         if key in asked and key in PANICS:
             tokens[it.start : it.start] = tokens_of(f"///\n/// # Panics\n/// {PANICS[key]}\n")
     if missing := set(names) - {it.name for it in functions(tokens)}:
-        raise Stop(f" no function {' '.join(missing)}, which CONST of rust/rules.py names")
+        raise Stop(f" no function {' '.join(missing)}, which rust/rules.txt names")
     return tokens
 
 
@@ -92,6 +94,6 @@ def guided(module, tokens, is_library):
     for at, it in enumerate(tokens if is_library else []):
         if (found := match(tokens, at, ["Iterator", "for", "$x"])) and it == "Iterator":
             if found[1]["$x"][0] not in ITERATORS:
-                raise Stop(f" {found[1]['$x'][0]} is an iterator, but not in ITERATORS of rust/rules.py")
+                raise Stop(f" {found[1]['$x'][0]} is an iterator, but not in the table of rust/rules.txt")
     tokens = with_attributes(derived(tokens) if is_library else tokens, is_library)
     return with_added(module, tokens) if is_library else tokens

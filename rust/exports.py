@@ -1,4 +1,4 @@
-"""Writes the C library for cargo, rust/bekstaudi-c.
+"""Writes the functions of the C library for cargo, rust/bekstaudi-c.
 
 The functions of crates/icu_collections_c become safe Rust functions. For each of them `exports.rs`
 has an `extern "C"` function with the name, the parameters and the structs of c/bekstaudi.h, which
@@ -7,9 +7,8 @@ turns pointers and counts into slices. rust/tests/header.py compares what is wri
 import glob
 import os
 import re
-import shutil
 
-from files import HERE, Stop, read, rules_of, write
+from files import Stop, read, rules_of, write
 from names import compiled, ruled
 from tokens import code_of, match, tokens_of
 
@@ -60,11 +59,8 @@ def function(module, found, homes):
     return text * (name != OPEN)
 
 
-def c_library(folder, make):
-    """Writes the package into a folder. `make` writes the modules of crates."""
-    shutil.rmtree(f"{folder}/src", ignore_errors=True)
-    shutil.copytree(f"{HERE}/c", folder, dirs_exist_ok=True)
-    make(folder, [CRATE])
+def exported(folder):
+    """Makes safe functions of the package's exported ones, and writes those of C."""
     sources = {os.path.basename(it)[:-3]: it for it in sorted(glob.glob(f"{folder}/src/{CRATE}/*.rs"))}
     texts = {module: read(path) for module, path in sources.items()}
     homes = {name: f"crate::{CRATE}::{module}::{name}" for module, it in texts.items() for name in STRUCT.findall(it)}

@@ -18,13 +18,25 @@ def write(path, text):
         file.write(text)
 
 
-def rules_of(section):
+def section(name):
+    """Returns the lines of a section of rust/rules.txt."""
+    lines = read(f"{HERE}/rules.txt").split(f"== {name}\n")[1].split("\n== ")[0].splitlines()
+    return [it for it in lines if it.strip() and not it.startswith("//")]
+
+
+def table(name):
+    """Returns a table of rust/rules.txt: words by their keys. A line that is indented goes on."""
+    rows = "\n".join(section(name)).replace("\n    ", " ").splitlines()
+    return {key: words for key, _, words in (it.partition(": ") for it in rows)}
+
+
+def rules_of(name):
     """Returns the rules of a section of rust/rules.txt: pattern, replacement, example and result."""
     forms, examples, words = [], [], [""]
-    for line in read(f"{HERE}/rules.txt").split(f"== {section}\n")[1].split("\n== ")[0].splitlines():
+    for line in section(name):
         if line.startswith("each "):
             words = line.split()[1:]
-        elif "==>" in line and not line.startswith("//"):
+        else:
             is_example = line.startswith(" ")
             for key, _, value in (it.partition("=") for it in words):
                 sides = line.replace("@", key).replace("%", value).replace("\\n", "\n").split("==>")

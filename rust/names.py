@@ -1,6 +1,5 @@
 """The names and paths of the Rust edition, and its lists of arguments without the allocator."""
-from files import Stop, rules_of
-from rules import FEATURES, TRIED
+from files import Stop, rules_of, table
 from tokens import after_gap, before_gap, code_of, is_gap, match, replaced, tokens_of
 
 # Parameters, fields and arguments that are the allocator, before a comma or a bracket.
@@ -9,6 +8,9 @@ ALLOCATORS = [
     *("alloc", "alloc()", "$x.alloc", "$x.alloc()", "$x.$y.alloc", "$x.$y.alloc()"),
 ]
 ALLOCATORS = [code_of(it) for it in ALLOCATORS]
+FEATURES = table("features")
+# Methods that allocate.
+TRIED = " ".join(table("tried").values()).split()
 # Modules of the edition that are no crate.
 SHARED = "support ledger host context cold clap serde_json toml".split()
 

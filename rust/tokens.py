@@ -5,7 +5,7 @@ follows, with all brackets closed, and `$docs` in front for the comments and att
 and comments may be between the tokens that a pattern matches.
 """
 import re
-from typing import NamedTuple
+from collections import namedtuple
 
 TOKEN = re.compile(
     r'//[^\n]*|b?r#".*?"#|b?"(?:\\.|[^"\\])*"'
@@ -31,14 +31,14 @@ def is_gap(token):
 
 
 def after_gap(tokens, at):
-    """Returns the position of the first token from `at` on that is no space and no comment."""
+    """Returns the position of the first token from `at` on that is no gap."""
     while at < len(tokens) and is_gap(tokens[at]):
         at += 1
     return at
 
 
 def before_gap(tokens, at):
-    """Returns the position of the last token before `at` that is no space and no comment, or -1."""
+    """Returns the position of the last token before `at` that is no gap, or -1."""
     at -= 1
     while at >= 0 and is_gap(tokens[at]):
         at -= 1
@@ -69,12 +69,9 @@ def match(tokens, at, pattern):
     if not pattern:
         return at, {}
     part, at = pattern[0], after_gap(tokens, at)
-    if part.startswith("$$"):
-        ends = runs(tokens, at)
-    else:
-        it = tokens[at] if at < len(tokens) else " "
-        ends = [at + 1] if it == part or part[0] == "$" and (it[0] in "_\"'" or it[0].isalnum()) else []
-    for end in ends:
+    it = tokens[at] if at < len(tokens) else " "
+    is_same = it == part or part[0] == "$" and (it[0] in "_\"'" or it[0].isalnum())
+    for end in runs(tokens, at) if part.startswith("$$") else [at + 1] * is_same:
         if found := match(tokens, end, pattern[1:]):
             return found[0], {part: tokens[at:end], **found[1]}
     return None
@@ -112,17 +109,10 @@ def replaced(tokens, pattern, put):
     return kept
 
 
-class Function(NamedTuple):
-    """A function: the positions of its first token after its docs, of `fn`, of what ends its head, and
-    after it. `owner` is the type of its `impl`, or `trait` and its name."""
-
-    name: str
-    owner: str
-    home: list
-    start: int
-    place: int
-    head_end: int
-    end: int
+# A function: what it is in (the type of its `impl`, or `trait` and its name, and the whole head of that),
+# and the positions of its first token after docs and attributes, of `fn`, of what ends its head, and
+# after it.
+Function = namedtuple("Function", "name owner home start place head_end end")
 
 
 def owner_of(head):
@@ -148,7 +138,8 @@ def functions(tokens):
             head_end = name
             while tokens[head_end] not in ("{", ";"):
                 head_end = past_group(tokens, head_end)
-            found.append(Function(tokens[name], owner_of(home), home, start_of(tokens, at), at, head_end, past_group(tokens, head_end)))
+            places = start_of(tokens, at), at, head_end, past_group(tokens, head_end)
+            found.append(Function(tokens[name], owner_of(home), home, *places))
     return found
 
 
