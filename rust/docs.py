@@ -35,12 +35,19 @@ def examples():
 EXAMPLES = examples()
 
 
+def mark_of(token):
+    """Returns what a comment starts with, or nothing."""
+    return re.match("(?://[/!]?)?", token)[0]
+
+
 class Block:
     """Lines of comments of one kind, one after another: where they are, and the item behind them."""
 
     def __init__(self, tokens, start):
-        self.start, self.end, self.mark = start, start + 1, re.match("//[/!]?", tokens[start])[0]
-        while self.is_next(tokens[self.end : self.end + 2]):
+        self.start, self.end, self.mark = start, start + 1, mark_of(tokens[start])
+        while [mark_of(it) for it in tokens[self.end + 1 : self.end + 2]] == [self.mark] and (
+            tokens[self.end].count("\n") == 1
+        ):
             self.end += 2
         self.lines = [it[len(self.mark) :] for it in tokens[start : self.end : 2]]
         self.gap = tokens[start + 1] if self.end > start + 1 else "\n"
@@ -49,12 +56,6 @@ class Block:
             at = after_gap(tokens, past_group(tokens, at + (tokens[at] == "#")))
         is_item = tokens[at : at + 1] and tokens[at] in ("fn", "struct", "enum", "trait")
         self.item = "mod" if self.mark == "//!" else tokens[after_gap(tokens, at + 1)] if is_item else ""
-
-    def is_next(self, after):
-        """Whether these two tokens are the next line of the block."""
-        return len(after) == 2 and after[0].count("\n") == 1 and (
-            re.match("(//[/!]?)?", after[1])[0] == self.mark
-        )
 
     def tokens(self):
         """Returns the lines as tokens."""

@@ -7,6 +7,7 @@ outside ASCII are errors, reported with their line. So a new form of clause cann
 """
 import re
 
+from files import Stop
 from tokens import TOKEN, before_gap, is_gap
 
 KEYWORDS = set(
@@ -32,10 +33,6 @@ BY = re.compile(r"\s*(?:by|=)\s*(?={)")
 ASKED = "//requires"
 
 
-class Refused(Exception):
-    """An unknown form, with its line."""
-
-
 class Eraser:
     """Splits one file into tokens, and drops the proofs."""
 
@@ -45,8 +42,7 @@ class Eraser:
         self.kept = []
 
     def refuse(self, why):
-        line = self.text.count("\n", 0, self.place) + 1
-        raise Refused(f"{line}: {why}: {self.text[self.place:][:50]!r}")
+        raise Stop(f"{self.text.count(chr(10), 0, self.place) + 1}: {why}: {self.text[self.place:][:50]!r}")
 
     def past_braces(self, start):
         """Returns the position after the braces of the proof language at `start`, or `start`."""

@@ -77,15 +77,6 @@ def match(tokens, at, pattern):
     return None
 
 
-def drop_docs(kept):
-    """Drops the comments and attributes at the end of these tokens, and the space before them."""
-    while kept and (is_gap(kept[-1]) or kept[-1] == "]"):
-        if kept[-1] == "]":
-            while kept[-1] != "#":
-                kept.pop()
-        kept.pop()
-
-
 def replaced(tokens, pattern, put):
     """Returns the tokens with `put` in place of each match of a pattern."""
     has_docs = pattern[0] == "$docs"
@@ -100,7 +91,7 @@ def replaced(tokens, pattern, put):
         at = found[0]
         new = [token for it in put for token in found[1].get(it, [it])]
         if has_docs:
-            drop_docs(kept)
+            del kept[before_gap(kept, attributes_of(kept, len(kept))) + 1 :]
         elif not new and kept[-1:] and kept[-1].isspace():
             kept.pop()
         elif not new and tokens[at : at + 1] and tokens[at].isspace():
