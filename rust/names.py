@@ -1,13 +1,7 @@
-"""The names and paths of the Rust edition, and its lists of arguments without the allocator."""
+"""The names and paths of the Rust edition, and the rules of rust/rules.txt."""
 from files import Stop, rules_of, table
-from tokens import after_gap, before_gap, code_of, is_gap, match, replaced, tokens_of
+from tokens import before_gap, code_of, replaced, tokens_of
 
-# Parameters, fields and arguments that are the allocator, before a comma or a bracket.
-ALLOCATORS = [
-    *("alloc: Global", "_alloc: Global", "pub(crate) alloc: Global", "alloc: self.alloc", "alloc: _"),
-    *("alloc", "alloc()", "$x.alloc", "$x.alloc()", "$x.$y.alloc", "$x.$y.alloc()"),
-]
-ALLOCATORS = [code_of(it) for it in ALLOCATORS]
 FEATURES = table("features")
 # Methods that allocate.
 TRIED = " ".join(table("tried").values()).split()
@@ -33,31 +27,6 @@ def ruled(tokens, rules):
     for pattern, put in rules:
         tokens = replaced(tokens, pattern, put)
     return tokens
-
-
-def without_allocator(tokens):
-    """Removes the allocator from lists of parameters, fields and arguments: `f(alloc, x)` becomes `f(x)`."""
-    kept, at, last = [], 0, ""
-    while at < len(tokens):
-        it = tokens[at]
-        ends = [match(tokens, at, form) for form in ALLOCATORS] if last and last in "(,{" and not is_gap(it) else []
-        ends = [after_gap(tokens, found[0]) for found in ends if found]
-        end = next((end for end in ends if tokens[end] in (",", ")", "}")), None)
-        if end is None:
-            kept.append(it)
-            last = last if is_gap(it) else it
-            at += 1
-            continue
-        has_comma, has_space = tokens[end] == ",", is_gap(kept[-1])
-        at = end + has_comma
-        while is_gap(kept[-1]):
-            kept.pop()
-        if not has_comma and last == ",":
-            kept.pop()
-            last = "("
-        if not has_space and tokens[at].isspace():
-            at += 1
-    return kept
 
 
 def tried(tokens):

@@ -81,6 +81,8 @@ def replaced(tokens, pattern, put):
     """Returns the tokens with `put` in place of each match of a pattern."""
     has_docs = pattern[0] == "$docs"
     pattern = pattern[has_docs:]
+    if not {it for it in pattern if it[0] != "$"} <= {*tokens}:
+        return tokens
     kept, at = [], 0
     while at < len(tokens):
         found = not is_gap(tokens[at]) and pattern[0] in (tokens[at], "$x") and match(tokens, at, pattern)
@@ -94,8 +96,8 @@ def replaced(tokens, pattern, put):
             del kept[before_gap(kept, attributes_of(kept, len(kept))) + 1 :]
         elif not new and kept[-1:] and kept[-1].isspace():
             kept.pop()
-        elif not new and tokens[at : at + 1] and tokens[at].isspace():
-            at += 1
+        elif not new or new[-1] in CLOSING:
+            at += tokens[at : at + 1] == [" "]
         kept += new
     return kept
 
