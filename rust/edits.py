@@ -270,15 +270,6 @@ EDITS = {
         (r"(\n +)(?=value_width: u8,\n)", r"\1#[allow(dead_code)] // The array that is there says the width.\1", 1),
         (r"(?m)^    (?=(?:index|data_8|data_16|data_32|\w+_width|\w+_start|\w+_offset|trie_type|null_value|fields): [\w<>]+,$)", "    pub(crate) ", 12),
     ],
-    # In a constant there is no call of a trait.
-    "icu_invlist/codepointinvlist/cpinvlist": [
-        (
-            r"(?s)match ZeroVec::parse_bytes\((&\[[^]]*\])\) \{.*?( +size: \w+),?(?: \}|\n +\}),.*?\n        \}",
-            r"CodePointInversionList {\n            ends: ZeroVec::from_packed(\1),\n           \2,\n        }",
-            3,
-        ),
-        (r"(?m)^    (?=ends: ZeroVec<'data|size: u32,)", "    pub(crate) ", 2),
-    ],
     # A constant cannot read a value of any type, so the error value is not stored beside the data.
     "icu_trie/cptrie": [
         (r"\n +\x01\d+\x03\n +pub\(crate\) error_value: T,", "", 1),

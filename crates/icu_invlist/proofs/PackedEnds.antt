@@ -18,7 +18,7 @@ use Rattle.icu_invlist.proofs.ValidLists.{run_from_valid}
 small_ends : (xs : List ℕ) → IsValid xs → AllByRecursion (λ x. x < 2 ^ 24) xs
 small_ends xs v = recursion_from_All (λ x. x < 2 ^ 24) xs (λ k d h. let a = v.within k d h in omega arith)
 
-packed_ends : (xs : List ℕ) → IsValid xs → IsPacked (λ b. Some (number_of 3 b)) 3 (flat_map (low_bytes 3) xs)
+pub packed_ends : (xs : List ℕ) → IsValid xs → IsPacked (λ b. Some (number_of 3 b)) 3 (flat_map (low_bytes 3) xs)
 packed_ends xs v = IsPacked-flat_map (λ b. Some (number_of 3 b)) 3 (low_bytes 3) (λ x. x < 2 ^ 24) (lit< tt) (λ x h. refl)
     (λ x h. ap Some (number_of-3 x h))
     xs (small_ends xs v) (λ x h. low_bytes-small 3 x)

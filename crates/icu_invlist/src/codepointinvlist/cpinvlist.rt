@@ -41,8 +41,8 @@ use stretches::Stretch;
 /// In contracts, a set is the list of its boundaries.
 #[derive(Debug, Drop)]
 pub struct CodePointInversionList<'data> {
-    ends: ZeroVec<'data, PotentialCodePoint>,
-    size: u32,
+    pub(crate) ends: ZeroVec<'data, PotentialCodePoint>,
+    pub(crate) size: u32,
 }
 
 impl<'data> Model for CodePointInversionList<'data> {
@@ -129,9 +129,9 @@ impl<'data> CodePointInversionList<'data> {
     pub(crate) fn none() -> CodePointInversionList<'static>
         ensures { result ≡ [] }
     {
-        match ZeroVec::parse_bytes(&[]) {
-            Ok(ends) => CodePointInversionList { ends, size: 0 },
-            Err(_) => unreachable!(),
+        CodePointInversionList {
+            ends: ZeroVec::from_packed(&[]),
+            size: 0,
         }
     }
 
@@ -140,12 +140,9 @@ impl<'data> CodePointInversionList<'data> {
     pub fn all() -> CodePointInversionList<'static>
         ensures { result ≡ 0 ∷ code_point_limit ∷ [] }
     {
-        match ZeroVec::parse_bytes(&[0, 0, 0, 0, 0, 0x11]) {
-            Ok(ends) => CodePointInversionList {
-                ends,
-                size: CODE_POINT_LIMIT,
-            },
-            Err(_) => unreachable!(),
+        CodePointInversionList {
+            ends: ZeroVec::from_packed(&[0, 0, 0, 0, 0, 0x11]),
+            size: CODE_POINT_LIMIT,
         }
     }
 
@@ -154,12 +151,9 @@ impl<'data> CodePointInversionList<'data> {
     pub fn bmp() -> CodePointInversionList<'static>
         ensures { result ≡ 0 ∷ 0x10000 ∷ [] }
     {
-        match ZeroVec::parse_bytes(&[0, 0, 0, 0, 0, 0x1]) {
-            Ok(ends) => CodePointInversionList {
-                ends,
-                size: 0x10000,
-            },
-            Err(_) => unreachable!(),
+        CodePointInversionList {
+            ends: ZeroVec::from_packed(&[0, 0, 0, 0, 0, 0x1]),
+            size: 0x10000,
         }
     }
 

@@ -2,6 +2,7 @@ use Rattle.std.proofs.Common.{◌≡◌, ◌∙◌, refl, lit<, lit≤, [], ◌�
 use Rattle.icu_zerovec.specs.Cells.{values_of}
 use Rattle.icu_zerovec.specs.PackedBytes.{number_of}
 use Rattle.icu_invlist.specs.InversionList.{IsValid}
+use Rattle.icu_invlist.proofs.PackedEnds.{packed_ends}
 use Rattle.icu_invlist.proofs.SizeLemmas.{sized}
 use Rattle.icu_invlist.proofs.ValidLists.{valid_from_run}
 use Rattle.icu_invlist.proofs.codepointinvlist.cpinvlist.CodePointInversionList.bmp.Goals as goal
@@ -14,7 +15,10 @@ two_valid : IsValid (0 ∷ 0x10000 ∷ [])
 two_valid = valid_from_run (0 ∷ 0x10000 ∷ []) (lit≤ tt, lit< tt, (lit≤ tt, lit< tt, tt)) refl
 
 pub invariant_of-result : goal.invariant_of-result
-invariant_of-result c = sized (0 ∷ 0x10000 ∷ []) _ 0x10000 (c.in-Ok.ensures.ok.1 ∙ two_ends) two_valid refl
+invariant_of-result c = sized (0 ∷ 0x10000 ∷ []) _ 0x10000 (c.from_packed.ensures ∙ two_ends) two_valid refl
 
 pub returns : goal.returns
-returns c = c.in-Ok.ensures.ok.1 ∙ two_ends
+returns c = c.from_packed.ensures ∙ two_ends
+
+pub from_packed-requires : goal.from_packed-requires
+from_packed-requires c = packed_ends (0 ∷ 0x10000 ∷ []) two_valid

@@ -2,6 +2,7 @@ use Rattle.std.proofs.Common.{◌≡◌, ◌∙◌, refl, [], Some}
 use Rattle.icu_zerovec.specs.Cells.{values_of}
 use Rattle.icu_zerovec.specs.PackedBytes.{number_of}
 use Rattle.icu_invlist.specs.InversionList.{IsValid}
+use Rattle.icu_invlist.proofs.PackedEnds.{packed_ends}
 use Rattle.icu_invlist.proofs.SizeLemmas.{sized}
 use Rattle.icu_invlist.proofs.ValidLists.{valid_from_run}
 use Rattle.icu_invlist.proofs.codepointinvlist.cpinvlist.CodePointInversionList.none.Goals as goal
@@ -14,7 +15,10 @@ none_valid : IsValid []
 none_valid = valid_from_run [] tt refl
 
 pub invariant_of-result : goal.invariant_of-result
-invariant_of-result c = sized [] _ 0 (c.in-Ok.ensures.ok.1 ∙ no_ends) none_valid refl
+invariant_of-result c = sized [] _ 0 (c.from_packed.ensures ∙ no_ends) none_valid refl
 
 pub returns : goal.returns
-returns c = c.in-Ok.ensures.ok.1 ∙ no_ends
+returns c = c.from_packed.ensures ∙ no_ends
+
+pub from_packed-requires : goal.from_packed-requires
+from_packed-requires c = packed_ends ([]) none_valid
