@@ -8,7 +8,7 @@ INSIDE = (
     " high_place_of look_up_whole NumberMap::set_range NumberMap::repeats NumberMap::copy_block"
     " NumberMap::get NumberMap::find_other CellStore::new CellStore::find CellStore::place build_index"
     " copy_characters"
-).split() + ["trait PartValues::ascii", "trait PartValues::near", "trait Boundaries::at", "trait SetOperation::of_range"]
+).split() + ["trait PartValues::ascii", "trait PartValues::near", "trait PartValues::near_below", "trait Boundaries::at", "trait SetOperation::of_range"]
 # Functions whose `requires` need not hold: an iterator without an end runs until an allocation
 # fails, and a closure that does not return does not return here either.
 HARMLESS = (

@@ -1,9 +1,13 @@
 -- Values of the first parts of bytes, in a buffer that is filled from its start.
-use Rattle.std.proofs.Common.{◌≡◌, ◌∙◌, sym, ap, refl, ℕ, zero, suc, ◌+◌, ◌-◌, ◌<◌, ◌≤◌, List, [], ◌∷◌, ◌++◌, length, get_or, slice_get, take, drop, Option, Some, arith, inl, inr}
-use Rattle.std.specs.Prelude.{◌⊎◌}
+use Rattle.std.proofs.Common.{◌≡◌, ◌∙◌, sym, ap, refl, ℕ, zero, suc, ◌+◌, ◌-◌, ◌<◌, ◌≤◌, List, [], ◌∷◌, ◌++◌, length, get_or, slice_get, take, drop, Option, Some, None, arith, inl, inr}
+use Rattle.std.specs.Prelude.{◌⊎◌, IfSome}
+use Rattle.std.specs.Option.{MatchOption}
 use Rattle.std.proofs.Math.ListN.{set}
-use Rattle.std.proofs.lemmas.List.{drop_all, drop-drop, get_or-drop, length-drop, length-set, take_more_set, take_rest}
+use Rattle.std.proofs.lemmas.Slice.{drop-put_mid, take-put_mid}
+use borrow.Rule.Slice.PartMut.{put_mid, same_len_mid}
+use Rattle.std.proofs.lemmas.List.{append-nil, append_assoc, drop_all, drop-drop, get_or-drop, length-drop, length-set, length-take-le, take_more_set, take_rest}
 use Rattle.icu_trie_text.specs.CopiedParts.{AreCopiedParts, HasCopiedParts, HasFirstValue, HaveFirstValues}
+use Rattle.icu_trie_text.specs.Utf8.{IsFirstPart}
 use Rattle.icu_trie_text.proofs.Utf8Parts.{part_of_ascii, part_size}
 
 -- ---- lists with the same cells
@@ -24,6 +28,19 @@ module _ {T : Type 0} where
   set_other (y ∷ ys) zero (suc k) x l = refl
   set_other (y ∷ ys) (suc n) zero x l = absurd (omega arith)
   set_other (y ∷ ys) (suc n) (suc k) x l = set_other ys n k x (omega arith)
+
+  get_drop : (xs : List T) (n k : ℕ) → slice_get (drop n xs) k ≡ slice_get xs (n + k)
+  get_drop xs zero k = ap (λ j. slice_get xs j) (omega arith)
+  get_drop [] (suc n) k = refl
+  get_drop (x ∷ xs) (suc n) k =
+      let same : suc (n + k) ≡ suc n + k = omega arith in
+      get_drop xs n k ∙ ap (λ j. slice_get (x ∷ xs) j) same
+
+  get_after : (xs ys : List T) (n k : ℕ) → drop n xs ≡ drop n ys → n ≤ k → slice_get xs k ≡ slice_get ys k
+  get_after xs ys n k e l =
+      let same : n + (k - n) ≡ k = omega (arith, l) in
+      ap (λ j. slice_get xs j) (sym same) ∙ sym (get_drop xs n (k - n)) ∙ ap (λ (zs : List T). slice_get zs (k - n)) e
+      ∙ get_drop ys n (k - n) ∙ ap (λ j. slice_get ys j) same
 
 -- ---- parts
 module _ {T : Type 0} (value : Option ℕ → Option T) where
@@ -51,6 +68,27 @@ module _ {T : Type 0} (value : Option ℕ → Option T) where
         ap (λ b. value (Some b)) byte ∙ e,
       )
 
+  -- The values of ASCII bytes, each of which is a part, after those of the parts before them.
+  ascii_more : (bytes : List ℕ) (xs ys : List T) (size : ℕ) → HaveFirstValues value bytes xs size → size + length ys ≤ length bytes
+      → ((k : ℕ) → k < length ys → get_or bytes (size + k) 0 < 128)
+      → ((k : ℕ) → k < length ys → value (Some (get_or bytes (size + k) 0)) ≡ slice_get ys k)
+      → HaveFirstValues value bytes (xs ++ ys) (size + length ys)
+  ascii_more bytes xs [] size h l a e = let none : size + 0 ≡ size = omega arith in rw (append-nil, none) h
+  ascii_more bytes xs (y ∷ ys) size h l a e =
+      let here : size + 0 ≡ size = omega arith in
+      let own = ascii_value bytes size y (omega (arith, l)) (rw here at (a 0 (omega arith))) (rw here at (e 0 (omega arith))) in
+      let more = ascii_more bytes (xs ++ y ∷ []) ys (size + 1) (first_values_more bytes xs size 1 y h own) (omega (arith, l))
+      (λ k m. let same : size + 1 + k ≡ size + suc k = omega arith in rw same (a (suc k) (omega (arith, m))))
+      (λ k m. let same : size + 1 + k ≡ size + suc k = omega arith in rw same (e (suc k) (omega (arith, m)))) in
+      let count : size + 1 + length ys ≡ size + suc (length ys) = omega arith in
+      rw (append_assoc, count) at more
+
+  -- The value of a character, if it is returned.
+  pub value_if : (bytes : List ℕ) (c size limit block : ℕ) (found : Option T) → IsFirstPart bytes (Some c) size
+      → MatchOption found (limit ≤ block) (λ x. value (Some c) ≡ Some x) → IfSome found (λ x. HasFirstValue value bytes x size)
+  value_if bytes c size limit block None p m = tt
+  value_if bytes c size limit block (Some x) p m = (Some c, p, m)
+
   -- ---- the buffer
   module _ (bytes : List ℕ) (old : List T) where
     pub copied_none : AreCopiedParts value bytes old old 0 0
@@ -76,6 +114,27 @@ module _ {T : Type 0} (value : Option ℕ → Option T) where
           long = length-set new count x ∙ long;
           values = rw (take_more_set new count x room) (first_values_more bytes (take count new) size n x r.values v);
           rest = λ k l. set_other new count k x (omega (arith, l)) ∙ r.rest k (omega (arith, l));
+        }
+
+    -- The values of n ASCII bytes are written.
+    pub copied_ascii : (new target : List T) (size count n : ℕ) → AreCopiedParts value bytes old new size count
+        → length target ≡ n → count + n ≤ length new → size + n ≤ length bytes
+        → ((k : ℕ) → k < n → get_or bytes (size + k) 0 < 128)
+        → ((k : ℕ) → k < n → value (Some (get_or bytes (size + k) 0)) ≡ slice_get target k)
+        → AreCopiedParts value bytes old (put_mid count n new target) (size + n) (count + n)
+    copied_ascii new target size count n r own room there a e =
+        let long = r.long in
+        let within : count ≤ length new = omega (arith, room) in
+        let part : length (take n (drop count new)) ≡ n = length-take-le n (drop count new) (omega (arith, room, length-drop count new)) in
+        let more = ascii_more bytes (take count new) target size r.values (omega (arith, own, there))
+        (λ k l. a k (omega (arith, own, l))) (λ k l. e k (omega (arith, own, l))) in
+        record {
+          taken = there;
+          within = omega (arith, room, long);
+          long = same_len_mid count n new target (own ∙ sym part) ∙ long;
+          values = rw (take-put_mid count n new target (count + n) (omega (arith, own)) within) (rw own at more);
+          rest = λ k l. get_after (put_mid count n new target) new (count + n) k
+              (drop-put_mid count n new target (count + n) (omega arith) within own) l ∙ r.rest k (omega (arith, l));
         }
 
     -- Copying ends where the bytes or the buffer end.
@@ -107,25 +166,3 @@ left_from bytes rest i e l =
     let long : length rest ≡ length bytes - i = ap length e ∙ length-drop i bytes in
     let same : length bytes - length rest ≡ i = omega (arith, long, l) in
     (same, omega (arith, long), e ∙ ap (λ k. drop k bytes) (sym same))
-
--- ---- copying up to what is left of the bytes
-pub left_within : (bytes rest : List ℕ) (n : ℕ) → length rest ≤ length bytes
-    → length (take (length rest - n) (drop n rest)) ≤ length bytes
-left_within bytes rest n l = rw (take_rest rest n) (omega (arith, length-drop n rest, l))
-
-module _ {T : Type 0} (value : Option ℕ → Option T) (bytes : List ℕ) (old : List T) where
-  -- The values of the bytes before `rest`, which is what is left of them, are in the buffer.
-  abbrev pub AreCopiedUpTo : List T → List ℕ → ℕ → Type 0
-  AreCopiedUpTo new rest count = AreCopiedParts value bytes old new (length bytes - length rest) count
-      × (rest ≡ drop (length bytes - length rest) bytes) × (length rest ≤ length bytes)
-
-  pub up_to_more : (new : List T) (rest : List ℕ) (count n : ℕ) (x : T) → AreCopiedUpTo new rest count
-      → HasFirstValue value rest x n → count < length new
-      → AreCopiedUpTo (set new count x) (take (length rest - n) (drop n rest)) (count + 1)
-  up_to_more new rest count n x u v room =
-      let i : ℕ = length bytes - length rest in
-      let fits = (part_size rest v.0 n v.1).1 in
-      let inside = u.2 in
-      let left = left_from bytes (take (length rest - n) (drop n rest)) (i + n) (rest_after bytes rest i n u.1)
-      (omega (arith, fits, inside)) in
-      (rw left.0 (copied_more value bytes old new i count n x u.0 (rw u.1 at v) room), left.2, left.1)

@@ -1,5 +1,6 @@
 pub mod AsciiLemmas
 pub mod CallerLemmas
+pub mod CellLemmas
 pub mod CharacterLemmas
 pub mod CopiedItems
 pub mod CopiedLemmas

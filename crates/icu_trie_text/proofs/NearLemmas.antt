@@ -1,5 +1,6 @@
 -- The blocks of 64 code points that the fast index of a trie names.
-use Rattle.std.proofs.Common.{◌≡◌, ◌∙◌, ap, refl, ℕ, zero, suc, ◌+◌, ◌*◌, ◌/◌, ◌%◌, ◌<◌, Bool, false, nat_lt, List, [], ◌∷◌, length, slice_get, take, Option, Some, None, arith, rules, inl, inr}
+use Rattle.std.proofs.Common.{◌≡◌, ◌∙◌, ap, refl, ℕ, zero, suc, ◌+◌, ◌*◌, ◌/◌, ◌%◌, ◌<◌, ◌≤◌, Bool, false, nat_lt, List, [], ◌∷◌, length, get_or, slice_get, take, Option, Some, None, arith, rules, inl, inr}
+use Rattle.std.specs.Int.{w16, from_le_bytes}
 use Rattle.std.specs.List.{list_any}
 use Rattle.std.proofs.lemmas.Bool.{ltb-false}
 use Rattle.std.proofs.lemmas.Option.{slice_get_cases}
@@ -11,7 +12,7 @@ use Rattle.icu_trie_core.specs.declared.header.TrieType.{TrieType}
 use Rattle.icu_trie_core.specs.declared.header.TrieType.TheVariants.{Fast, Small}
 use Rattle.icu_trie_core.proofs.CallerLemmas.{fast_answer}
 use Rattle.icu_trie.specs.Parts.{Parts, parts_fault, trie_value}
-use Rattle.icu_trie_text.specs.Inside.NearBlocks.{HasNearBlocks}
+use Rattle.icu_trie_text.specs.Inside.NearBlocks.{AreFirstOffsets, HasNearBlocks}
 
 -- If a test fails for all the first n numbers, it fails for each.
 none_of : (p : ℕ → Bool) (xs : List ℕ) (n i v : ℕ) → list_any p (take n xs) ≡ false → slice_get xs i ≡ Some v → i < n → p v ≡ false
@@ -69,3 +70,17 @@ module _ {T : Type 0} (of_number : ℕ → Option T) where
     inside = λ block offset place l s e. inside t none block offset place l s e;
     are = λ block offset place l s e. are t none block offset place l s e;
   })
+
+least : (kind : TrieType) → 32 ≤ fast_index_len kind
+least Fast = omega arith
+least Small = omega arith
+
+-- The first cells of the index are offsets of blocks.
+pub first_offsets_known : {T : Type 0} (t : Parts T) (index : List ℕ) (values : List T) (cells : List (List ℕ)) (blocks : ℕ)
+    → HasNearBlocks t index values blocks → blocks ≡ fast_index_len t.header.trie_type
+    → ((i : ℕ) → i < 32 → 32 ≤ length index → slice_get index i ≡ Some (from_le_bytes w16 (get_or cells i [])))
+    → AreFirstOffsets index cells blocks
+first_offsets_known t index values cells blocks near b are =
+    let some = least t.header.trie_type in
+    let there = near.there in
+    record { near = omega (arith, some, b); are = λ i l. are i l (omega (arith, some, b, there)) }

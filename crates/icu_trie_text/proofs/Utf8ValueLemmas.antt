@@ -1,7 +1,6 @@
 -- The items of an iterator over bytes that may be ill-formed UTF-8.
-use Rattle.std.proofs.Common.{◌≡◌, ◌∙◌, sym, ap, subst, ℕ, ◌<◌, List, [], ◌∷◌, drop, get_or, length, true, Option, Some, None, arith}
-use Rattle.std.specs.Char.{IsScalar}
-use Rattle.std.specs.Option.{SomeIff, unwrap_or}
+use Rattle.std.proofs.Common.{◌≡◌, ◌∙◌, sym, ap, subst, ℕ, ◌<◌, List, [], ◌∷◌, drop, get_or, length, slice_get, Bor, true, Option, Some, None, arith}
+use Rattle.std.specs.Option.{MatchOption, unwrap_or}
 use Rattle.std.specs.Iterator.{Drains, Yields}
 use Rattle.std.specs.Str.{IsUtf8, StartsWithNoChar, all_scalars, chars, encode_utf8_all}
 use Rattle.std.proofs.lemmas.Bool.{and_parts}
@@ -12,11 +11,6 @@ use Rattle.icu_trie_text.specs.Utf8.{IsFirstPart}
 use Rattle.icu_trie_text.specs.Utf8Values.{AreValuesOfBytes, BytesToValue, GivesPart, IsFirstItem, part_value}
 use Rattle.icu_trie_text.specs.Values.{AreValuesOf}
 use Rattle.icu_trie_text.proofs.Utf8Parts.{part_of_ascii}
-
--- A number that is a character is made one.
-pub character_is : (made : Option ℕ) (c : ℕ) → SomeIff made (IsScalar c) c → IsScalar c → unwrap_or made 0xFFFD ≡ c
-character_is None c m s = absurd (m s)
-character_is (Some d) c m s = m.1
 
 -- A text that is not empty starts with a character.
 pub some_begins : (bytes cs : List ℕ) → all_scalars cs ≡ true → encode_utf8_all cs ≡ bytes → 0 < length bytes → StartsWithNoChar bytes → ⊥
@@ -76,3 +70,26 @@ module _ {T : Type 0} (trie : Parts T) where
     character = e;
     value = sym v;
   }
+
+-- A byte that was read is the first one.
+first_byte : (bytes : List ℕ) (lead : ℕ) → Some lead ≡ slice_get bytes 0 → (0 < length bytes) × (lead ≡ get_or bytes 0 0)
+first_byte [] lead e = cc
+first_byte (b ∷ bs) lead e = let same : Some lead ≡ Some b = e in (omega arith, cc)
+
+-- What is left after a call of `next`.
+passed : (bytes rest : List ℕ) (P : Type 0) (item : Option (Bor ℕ))
+    → MatchOption item ((length bytes ≡ 0) × P) (λ byte. bytes ≡ byte.now ∷ rest) → 0 < length bytes → rest ≡ drop 1 bytes
+passed bytes rest P None m some = let none = m.0 in absurd (omega (arith, none, some))
+passed bytes rest P (Some byte) m some = sym (ap (λ (bs : List ℕ). drop 1 bs) m)
+
+-- The first part is an ASCII byte, and `next` is called once.
+pub ascii_step : {T : Type 0} (trie : Parts T) (bytes rest : List ℕ) (P : Type 0) (item : Option (Bor ℕ)) (lead c n : ℕ) (value : T)
+    → Some lead ≡ slice_get bytes 0 → n ≡ lead → n < 128 → c ≡ lead → Some value ≡ trie_value trie n
+    → MatchOption item ((length bytes ≡ 0) × P) (λ byte. bytes ≡ byte.now ∷ rest)
+    → (size : ℕ) × IsFirstItem trie bytes (c, value) size × (rest ≡ drop size bytes)
+ascii_step trie bytes rest P item lead c n value e same small made v m =
+    let first = first_byte bytes lead e in (
+      1,
+      ascii_item trie bytes lead c value first.0 first.1 (omega (arith, same, small)) made (v ∙ ap (λ k. trie_value trie k) same),
+      passed bytes rest P item m first.0,
+    )

@@ -1,15 +1,16 @@
 -- The items of an iterator over values.
-use Rattle.std.proofs.Common.{◌≡◌, ◌∙◌, sym, ap, refl, ℕ, ◌≤◌, List, [], ◌∷◌, length, map, Option, Some, arith}
+use Rattle.std.proofs.Common.{◌≡◌, ◌∙◌, sym, ap, refl, ℕ, ◌≤◌, List, [], ◌∷◌, ◌++◌, encode_utf8, length, map, Option, Some, arith}
 use Rattle.std.specs.Iterator.{Drains}
 use Rattle.std.specs.Iterator.Runs.{EveryRun, ItemsMapTo}
 use Rattle.std.proofs.iter.runs.Sources.{from_front}
 use Rattle.std.specs.Str.{IsUtf8, chars}
-use Rattle.std.proofs.lemmas.Str.{encodes-chars, length-le-encodes}
+use Rattle.std.proofs.lemmas.Str.{chars_past_char, encodes-chars, length-le-encodes}
 use Rattle.std.proofs.lemmas.List.{length-map}
 use Rattle.std.proofs.lemmas.Iterator.{items_from_drains}
 use Rattle.std.proofs.lemmas.Iterator.Consumers.{YieldsList-from_first}
 use Rattle.std.proofs.lemmas.List.Elements.{All-cons, All-nil}
 use Rattle.icu_trie.specs.Parts.{Parts, trie_value}
+use Rattle.icu_trie_text.specs.FirstCharacter.{IsFirstValue}
 use Rattle.icu_trie_text.specs.Utf16.{code_points_of}
 use Rattle.icu_trie_text.specs.Values.{AreValuesOf, GivesValue, value_item, with_values}
 use Rattle.icu_trie_text.proofs.Utf16Lemmas.{length-code_points}
@@ -45,6 +46,12 @@ module _ {T : Type 0} (trie : Parts T) where
   -- Each run returns a prefix of what was left.
   pub value_runs : EveryRun (GivesValue {T = T}) (λ p. ItemsMapTo p value_item p.from)
   value_runs p s = from_front (GivesValue {T = T}) value_item (λ left. left) (λ s t h. ap length h.0) (λ s x t h. h) p s
+
+  -- The first of the characters that are left.
+  pub first_is : (text rest : List ℕ) (c : ℕ) (value : T) → IsUtf8 text → text ≡ encode_utf8 c ++ rest → Some value ≡ trie_value trie c
+      → IsFirstValue trie text (c, value) rest
+  first_is text rest c value u e v =
+      record { first = record { bytes = e; characters = chars_past_char text rest c u e }; value = sym v }
 
   -- There are no more characters than bytes.
   pub values_fit : (text : List ℕ) → IsUtf8 text → length (with_values trie (chars text)) ≤ length text

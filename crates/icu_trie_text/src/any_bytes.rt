@@ -8,7 +8,7 @@ ghost use Rattle.icu_trie_text.specs.Utf8.{IsFirstPart};
 use crate::first_utf8::{
     ill_formed_size, is_high_of_four, is_high_of_three, of_four, of_three, of_two, trail_of,
 };
-use crate::part_values::{PartValues, Reading, THREE_BYTE_BLOCKS};
+use crate::part_values::{PartValues, Reading};
 
 /// Returns the character at the start of the bytes, which are not empty, and its size in bytes.
 /// `None` if they do not start with a character.
@@ -64,14 +64,12 @@ fn near_two<T, V: PartValues<T>>(trie: &V, bytes: &[u8]) -> Option<T>
 }
 
 /// Returns the value of the three-byte character at the start of the bytes, in two reads.
-/// `None` if there is none, or if its value takes more reads. The first `NEAR` blocks are known to
-/// be near.
+/// `None` if there is none, or if its value takes more reads.
 #[inline(always)]
-fn near_three<T, V: PartValues<T>, const NEAR: u32>(trie: &V, bytes: &[u8]) -> Option<T>
+fn near_three<T, V: PartValues<T>>(trie: &V, bytes: &[u8]) -> Option<T>
     requires bytes { 3 ≤ length bytes.now }
     requires from { 0xE0 ≤ slice_index bytes.now 0 }
     requires to { slice_index bytes.now 0 < 0xF0 }
-    requires near { NEAR ≤ V.near_blocks trie.now }
     ensures { IfSome result (λ x. HasFirstValue (V.gives trie.now) bytes.now x 3) }
 {
     let second = trail_of(bytes[1]);
@@ -83,10 +81,7 @@ fn near_three<T, V: PartValues<T>, const NEAR: u32>(trie: &V, bytes: &[u8]) -> O
     if !is_high_of_three(block) {
         return None;
     }
-    if NEAR < THREE_BYTE_BLOCKS && block >= trie.blocks() {
-        return None;
-    }
-    Some(trie.near(block, third))
+    trie.near_below(block, third)
 }
 
 /// Returns the value of the four-byte character at the start of the bytes. `None` if there is none.
@@ -112,10 +107,9 @@ fn near_four<T, V: PartValues<T>>(trie: &V, bytes: &[u8]) -> Option<T>
 /// Returns the value of the character at the start of the bytes, and its size in bytes. `None` if
 /// there is none, or if its value takes a call. There are at least four bytes.
 #[inline(always)]
-fn near_value<T, V: PartValues<T>, const NEAR: u32>(trie: &V, bytes: &[u8]) -> Option<(T, usize)>
+fn near_value<T, V: PartValues<T>>(trie: &V, bytes: &[u8]) -> Option<(T, usize)>
     requires bytes { 4 ≤ length bytes.now }
     requires ascii { V.end_of_ascii trie.now ≡ 0x80 }
-    requires near { NEAR ≤ V.near_blocks trie.now }
     requires two { 0x20 ≤ V.near_blocks trie.now }
     ensures { IfSome result (λ found. HasFirstValue (V.gives trie.now) bytes.now found.0 found.1) }
 {
@@ -129,23 +123,23 @@ fn near_value<T, V: PartValues<T>, const NEAR: u32>(trie: &V, bytes: &[u8]) -> O
         }
         Some((near_two(trie, bytes)?, 2))
     } else if lead < 0xF0 {
-        Some((near_three::<T, V, NEAR>(trie, bytes)?, 3))
+        Some((near_three(trie, bytes)?, 3))
     } else {
         Some((near_four(trie, bytes)?, 4))
     }
 }
 
-/// Bytes that may be ill-formed. The first `NEAR` blocks are known to be near.
-pub(crate) struct AnyBytes<const NEAR: u32>;
+/// Bytes that may be ill-formed.
+pub(crate) struct AnyBytes;
 
-impl<T, V: PartValues<T>, const NEAR: u32> Reading<T, V> for AnyBytes<NEAR> {
+impl<T, V: PartValues<T>> Reading<T, V> for AnyBytes {
     ghost trusts = { false };
 
-    ghost least_blocks = { NEAR };
+    ghost least_blocks = { 0 };
 
     #[inline(always)]
     fn first_value(trie: &V, bytes: &[u8]) -> (T, usize) {
-        match near_value::<T, V, NEAR>(trie, bytes) {
+        match near_value(trie, bytes) {
             Some(found) => found,
             None => value_apart(trie, bytes),
         }

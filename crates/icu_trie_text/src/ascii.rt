@@ -1,5 +1,6 @@
 //! Tries whose data start with the values of ASCII.
-ghost use Rattle.std.specs.Prelude.{◌≡◌, ◌+◌, ◌*◌, ◌<◌, ◌≤◌, Some, None, IfSome, length, slice_get};
+ghost use Rattle.std.specs.Prelude.{◌≡◌, ℕ, ◌+◌, ◌*◌, ◌<◌, ◌≤◌, [], Some, IfSome, length, slice_get, slice_index_or};
+ghost use Rattle.std.specs.Int.{w16, from_le_bytes};
 ghost use Rattle.icu_zerovec.specs.Slice.{slice_values};
 ghost use Rattle.icu_trie.specs.Parts.{Parts, last_cell, trie_value};
 ghost use Rattle.icu_trie_text.specs.Inside.Ascii.{HasAsciiInPlace};
@@ -29,20 +30,23 @@ pub(crate) struct AsciiInPlace<'a, T: TrieValue> {
     end: u32,
     /// The number of blocks of 64 code points in the fast index.
     blocks: u32,
+    /// The offsets of the blocks of characters of two bytes.
+    two_bytes: &'a [[u8; 2]; 32],
 }
 
 impl<'a, T: TrieValue> Model for AsciiInPlace<'a, T> {
     ghost use Rattle.icu_zerovec.specs.Slice.{slice_values};
     ghost use Rattle.icu_trie.specs.Parts.{Parts};
     ghost use Rattle.icu_trie_text.specs.Inside.Ascii.{HasAsciiInPlace};
-    ghost use Rattle.icu_trie_text.specs.Inside.NearBlocks.{HasNearBlocks};
+    ghost use Rattle.icu_trie_text.specs.Inside.NearBlocks.{AreFirstOffsets, HasNearBlocks};
 
     ghost Value = { Parts T };
 
     ghost view = { λ a. a.trie.now };
 
     ghost invariant = { λ a. HasAsciiInPlace a.trie.now (slice_values a.values) a.end
-        × HasNearBlocks a.trie.now (slice_values a.index) (slice_values a.values) a.blocks };
+        × HasNearBlocks a.trie.now (slice_values a.index) (slice_values a.values) a.blocks
+        × AreFirstOffsets (slice_values a.index) a.two_bytes.now a.blocks };
 }
 
 /// Returns 0x80 if the first two blocks of the trie are the first two blocks of the data, and
@@ -65,6 +69,20 @@ pub(crate) fn ascii_end<T: TrieValue>(index: ZeroSlice<'_, u16>, values: ZeroSli
     ASCII_END
 }
 
+/// Returns the first 32 cells of an index, or zeros if there are fewer.
+fn first_cells<'a>(index: ZeroSlice<'a, u16>) -> &'a [[u8; 2]; 32]
+    ensures { (i : ℕ) → i < 32 → 32 ≤ length (slice_values index.entry)
+        → slice_get (slice_values index.entry) i
+        ≡ Some (from_le_bytes w16 (slice_index_or result.now i [])) }
+{
+    index
+        .as_bytes()
+        .as_chunks::<2>()
+        .0
+        .first_chunk::<32>()
+        .unwrap_or(&[[0; 2]; 32])
+}
+
 impl<'a, T: TrieValue> AsciiInPlace<'a, T> {
     /// Borrows the trie.
     #[inline]
@@ -78,6 +96,7 @@ impl<'a, T: TrieValue> AsciiInPlace<'a, T> {
             values,
             end: ascii_end(index, values),
             blocks: header.trie_type.fast_index_len() as u32,
+            two_bytes: first_cells(index),
         }
     }
 
@@ -87,11 +106,7 @@ impl<'a, T: TrieValue> AsciiInPlace<'a, T> {
         ensures ascii { IfSome result (λ _. c < 0x80) }
         ensures value { IfSome result (λ value. Some value ≡ trie_value self.now c) }
     {
-        if c < self.end {
-            Some(self.values.at(c as usize))
-        } else {
-            None
-        }
+        self.values.get_below(self.end as usize, c as usize)
     }
 
     /// Returns the value of the code point at index `place` in a block of 64.
@@ -101,21 +116,31 @@ impl<'a, T: TrieValue> AsciiInPlace<'a, T> {
         requires within { block * 64 + place < 0x110000 }
         ensures { Some result ≡ trie_value self.now (block * 64 + place) }
     {
-        if block < self.blocks {
-            let offset = self.index.at(block as usize);
+        if let Some(offset) = self.index.get_below(self.blocks as usize, block as usize) {
             return self.values.at(offset as usize + place as usize);
         }
         self.trie.get32(block * 64 + place)
     }
 
-    /// Returns the value of a code point, for those that take four bytes: no fast index has their
-    /// blocks.
+    /// Returns what [`at`](Self::at) returns, for a block of characters of two bytes.
     #[inline(always)]
-    pub(crate) fn get32(&self, c: u32) -> T
-        requires { c < 0x110000 }
+    pub(crate) fn at_two(&self, block: u32, place: u32) -> T
+        requires block { block < 0x20 }
+        requires place { place < 64 }
+        ensures { Some result ≡ trie_value self.now (block * 64 + place) }
+    {
+        // The remainder is the block itself: the compiler then knows that there is an offset.
+        let offset = u16::from_le_bytes(self.two_bytes[block as usize % 32]);
+        self.values.at(usize::from(offset) + place as usize)
+    }
+
+    /// Returns the value of a character.
+    #[inline(always)]
+    pub(crate) fn get(&self, c: char) -> T
         ensures { Some result ≡ trie_value self.now c }
     {
-        self.trie.get32(c)
+        let c = u32::from(c);
+        self.at(c / 64, c % 64)
     }
 
     /// Returns the value of a character, for those of four bytes: no fast index has their blocks.

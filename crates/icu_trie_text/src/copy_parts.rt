@@ -33,9 +33,10 @@ fn word_of(bytes: &[u8]) -> u64
     requires { 8 ≤ length bytes.now }
     ensures { result ≡ from_le_bytes w64 bytes.now }
 {
-    u64::from_le_bytes([
-        bytes[0], bytes[1], bytes[2], bytes[3], bytes[4], bytes[5], bytes[6], bytes[7],
-    ])
+    match bytes.first_chunk::<8>() {
+        Some(eight) => u64::from_le_bytes(*eight),
+        None => unreachable!(),
+    }
 }
 
 /// Returns true if the first sixteen bytes are ASCII.
@@ -68,8 +69,10 @@ fn copy_sixteen<T: Copy, V: PartValues<T>>(
         → AreCopiedParts (V.gives trie.now) bytes.now old values.new result.bytes result.values }
 {
     let (i, j) = (front.bytes, front.values);
+    let ascii = &bytes[i..i + 16];
+    let target = &mut values[j..j + 16];
     for k in 0..16 {
-        values[j + k] = trie.ascii(bytes[i + k]);
+        target[k] = trie.ascii(ascii[k]);
     }
     Copied {
         values: j + 16,
@@ -98,18 +101,18 @@ fn copy_block<T: Copy, V: PartValues<T>, R: Reading<T, V>>(
         front.bytes front.values
         → AreCopiedParts (V.gives trie.now) bytes.now old values.new result.bytes result.values }
 {
-    let mut i = front.bytes;
+    let mut rest = &bytes[front.bytes..];
     let mut j = front.values;
-    let end = i + BLOCK;
-    while i < end {
-        let (value, size) = R::first_value(trie, &bytes[i..]);
+    let left = rest.len() - BLOCK;
+    while rest.len() > left {
+        let (value, size) = R::first_value(trie, rest);
         values[j] = value;
-        i += size;
+        rest = &rest[size..];
         j += 1;
     }
     Copied {
         values: j,
-        bytes: i,
+        bytes: bytes.len() - rest.len(),
     }
 }
 
@@ -205,11 +208,7 @@ fn copy_by<T: Copy, V: PartValues<T>, R: Reading<T, V>>(
 pub fn copy_parts<T: Copy, V: PartValues<T>>(trie: &V, bytes: &[u8], values: &mut [T]) -> Copied
     ensures { HasCopiedParts (V.gives trie.now) bytes.now values.old values.new result }
 {
-    if trie.blocks() >= THREE_BYTE_BLOCKS {
-        copy_by::<T, V, AnyBytes<THREE_BYTE_BLOCKS>>(trie, bytes, values)
-    } else {
-        copy_by::<T, V, AnyBytes<0>>(trie, bytes, values)
-    }
+    copy_by::<T, V, AnyBytes>(trie, bytes, values)
 }
 
 /// Writes the values of the characters of well-formed UTF-8 as [`copy_parts`] does, in less time.

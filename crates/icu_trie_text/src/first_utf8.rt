@@ -35,7 +35,8 @@ pub(crate) fn place_of_two(bytes: &[u8]) -> Option<(u32, u32)>
     requires from { 0xC2 ≤ slice_index bytes.now 0 }
     requires to { slice_index bytes.now 0 < 0xE0 }
     ensures { MatchOption result (StartsWithNoChar bytes.now)
-        (λ found. (found.1 < 64) × IsFirstPart bytes.now (Some (found.0 * 64 + found.1)) 2) }
+        (λ found. (found.1 < 64) × IsFirstPart bytes.now (Some (found.0 * 64 + found.1)) 2
+        × (found.0 < 0x20)) }
 {
     let first = u32::from(bytes[0]) - 0xC0;
     let second = trail_bits(bytes, 1)?;

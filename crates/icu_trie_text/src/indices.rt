@@ -10,6 +10,7 @@ use crate::first::first_value;
 use icu_trie::cptrie::CodePointTrie;
 use icu_trie_core::value::TrieValue;
 use std::marker::Model;
+use std::str::Chars;
 
 /// An iterator over the characters of a text, each with its byte offset and its value in a trie.
 ///
@@ -17,21 +18,23 @@ use std::marker::Model;
 #[derive(Debug, Drop)]
 pub struct ValueIndicesOf<'a, T: TrieValue> {
     trie: AsciiInPlace<'a, T>,
-    rest: &'a str,
+    rest: Chars<'a>,
     /// The length of the whole text in bytes.
     end: usize,
 }
 
 impl<'a, T: TrieValue> Model for ValueIndicesOf<'a, T> {
     ghost use Rattle.std.specs.Prelude.{ℕ, ◌-◌, ◌≤◌, List, Option, length};
-    ghost use Rattle.std.specs.Str.{chars};
+    ghost use Rattle.std.specs.Str.{IsUtf8, chars};
+    ghost use Rattle.std.specs.Str.Iter.{chars_rest};
     ghost use Rattle.icu_trie_text.specs.Indices.{with_indices};
 
     ghost Value = { List (ℕ × ℕ × Option T) };
 
-    ghost view = { λ a. with_indices a.trie (a.end - length a.rest.now) (chars a.rest.now) };
+    ghost view = { λ a. with_indices a.trie (a.end - length (chars_rest a.rest))
+        (chars (chars_rest a.rest)) };
 
-    ghost invariant = { λ a. length a.rest.now ≤ a.end };
+    ghost invariant = { λ a. IsUtf8 (chars_rest a.rest) × (length (chars_rest a.rest) ≤ a.end) };
 }
 
 /// Returns an iterator over the characters of the text, each with its byte offset and its value in
@@ -58,7 +61,7 @@ pub fn value_indices_of<'a, T: TrieValue>(
 {
     ValueIndicesOf {
         trie: AsciiInPlace::new(trie),
-        rest: text,
+        rest: text.chars(),
         end: text.len(),
     }
 }
@@ -72,9 +75,8 @@ impl<'a, T: TrieValue> Iterator for ValueIndicesOf<'a, T> {
 
     #[inline(always)]
     fn next(&mut self) -> Option<(usize, char, T)> {
-        let offset = self.end - self.rest.len();
-        let (item, rest) = first_value(&self.trie, self.rest)?;
-        self.rest = rest;
-        Some((offset, item.0, item.1))
+        let offset = self.end - self.rest.as_str().len();
+        let (c, value) = first_value(&self.trie, &mut self.rest)?;
+        Some((offset, c, value))
     }
 }

@@ -1,5 +1,6 @@
 //! Values of the parts of bytes, and how they are read.
 ghost use Rattle.std.specs.Prelude.{◌≡◌, ℕ, ◌+◌, ◌*◌, ◌<◌, ◌≤◌, length, Bool, true, Option, Some, None};
+ghost use Rattle.std.specs.Option.{MatchOption};
 ghost use Rattle.std.specs.Str.{IsUtf8};
 ghost use Rattle.icu_trie_text.specs.CopiedParts.{HasFirstValue};
 
@@ -38,6 +39,20 @@ pub trait PartValues<T>: Copy {
         requires block { block < near_blocks self.now }
         requires place { place < 64 }
         ensures { gives self.now (Some (block * 64 + place)) ≡ Some result };
+
+    /// Returns the value that [`near`](Self::near) returns, or `None` if the block is not one of
+    /// [`blocks`](Self::blocks).
+    #[inline(always)]
+    fn near_below(&self, block: u32, place: u32) -> Option<T>
+        requires { place < 64 }
+        ensures { MatchOption result (near_blocks self.now ≤ block)
+            (λ x. gives self.now (Some (block * 64 + place)) ≡ Some x) }
+    {
+        if block >= self.blocks() {
+            return None;
+        }
+        Some(self.near(block, place))
+    }
 
     /// Returns the value of any code point.
     fn far(&self, c: u32) -> T

@@ -1,8 +1,10 @@
 //! The value of each character of bytes that may be ill-formed UTF-8.
 ghost use Rattle.std.specs.Prelude.{◌≡◌, ◌+◌, ◌*◌, ◌<◌, ℕ, List, Some, length};
+ghost use Rattle.std.specs.Char.{IsScalar};
 ghost use Rattle.std.specs.Iterator.{Drains, item_count};
 ghost use Rattle.std.specs.Option.{MatchOption};
 ghost use Rattle.std.specs.Str.{IsUtf8, StartsWithNoChar, chars};
+ghost use Rattle.icu_trie.specs.Parts.{Parts, trie_value};
 ghost use Rattle.icu_trie_text.specs.Utf8.{IsFirstPart};
 ghost use Rattle.icu_trie_text.specs.Utf8Values.{AreValuesOfBytes, GivesPart, IsFirstItem};
 ghost use Rattle.icu_trie_text.specs.Values.{AreValuesOf};
@@ -12,6 +14,7 @@ use crate::first_utf8::{ill_formed_size, of_four, place_of_three, place_of_two};
 use icu_trie::cptrie::CodePointTrie;
 use icu_trie_core::value::TrieValue;
 use std::marker::Model;
+use std::slice::Iter;
 
 /// An iterator over the characters of bytes that may be ill-formed UTF-8, each with its value in a
 /// trie.
@@ -20,20 +23,16 @@ use std::marker::Model;
 #[derive(Debug, Drop)]
 pub struct ValuesOfUtf8<'a, T: TrieValue> {
     trie: AsciiInPlace<'a, T>,
-    bytes: &'a [u8],
-    /// The index of the next part.
-    next: usize,
+    rest: Iter<'a, u8>,
 }
 
 impl<'a, T: TrieValue> Model for ValuesOfUtf8<'a, T> {
-    ghost use Rattle.std.specs.Prelude.{◌≤◌, drop, length};
+    ghost use Rattle.std.specs.Slice.Iter.{iter_rest};
     ghost use Rattle.icu_trie_text.specs.Utf8Values.{BytesToValue};
 
     ghost Value = { BytesToValue T };
 
-    ghost view = { λ a. record { trie = a.trie; bytes = drop a.next a.bytes.now } };
-
-    ghost invariant = { λ a. a.next ≤ length a.bytes.now };
+    ghost view = { λ a. record { trie = a.trie; bytes = iter_rest a.rest } };
 }
 
 /// Returns an iterator over the characters of the bytes in order, each with its value in the trie.
@@ -61,27 +60,20 @@ pub fn values_of_utf8<'a, T: TrieValue>(
 {
     ValuesOfUtf8 {
         trie: AsciiInPlace::new(trie),
-        bytes,
-        next: 0,
+        rest: bytes.iter(),
     }
 }
 
-/// Returns the item of a character, by its block of 64 and the index in it, and its size. The
-/// character is the first `size` of the bytes.
+/// Returns the item of the character with this number and this value, and its size in bytes.
 #[inline(always)]
-fn item_of<T: TrieValue>(
-    trie: &AsciiInPlace<'_, T>,
-    bytes: &[u8],
-    at: (u32, u32),
-    size: usize,
-) -> ((char, T), usize)
-    requires place { at.1 < 64 }
-    requires part { IsFirstPart bytes.now (Some (at.0 * 64 + at.1)) size }
-    ensures { IsFirstItem trie.now bytes.now result.0 result.1 }
+fn item_of<T>(number: u32, value: T, size: usize) -> ((char, T), usize)
+    requires { IsScalar number }
+    ensures { (trie : Parts T) (bytes : List ℕ) → IsFirstPart bytes (Some number) size
+        → Some value ≡ trie_value trie number → IsFirstItem trie bytes result.0 result.1 }
 {
     // Without a jump, so that the compiler removes the character if the caller drops it.
-    let c = char::from_u32(at.0 * 64 + at.1).unwrap_or(char::REPLACEMENT_CHARACTER);
-    ((c, trie.at(at.0, at.1)), size)
+    let c = char::from_u32(number).unwrap_or(char::REPLACEMENT_CHARACTER);
+    ((c, value), size)
 }
 
 /// Returns the item of the character at the start of the bytes, which are not empty, and its size.
@@ -99,14 +91,17 @@ fn character_item<T: TrieValue>(
     let lead = bytes[0];
     if lead < 0xE0 {
         if lead < 0x80 {
-            return Some(item_of(trie, bytes, (u32::from(lead / 64), u32::from(lead % 64)), 1));
+            let c = u32::from(lead);
+            return Some(item_of(c, trie.at(c / 64, c % 64), 1));
         }
         if lead < 0xC2 {
             return None;
         }
-        Some(item_of(trie, bytes, place_of_two(bytes)?, 2))
+        let (block, place) = place_of_two(bytes)?;
+        Some(item_of(block * 64 + place, trie.at_two(block, place), 2))
     } else if lead < 0xF0 {
-        Some(item_of(trie, bytes, place_of_three(bytes)?, 3))
+        let (block, place) = place_of_three(bytes)?;
+        Some(item_of(block * 64 + place, trie.at(block, place), 3))
     } else {
         let c = of_four(bytes)?;
         Some(((c, trie.far(c)), 4))
@@ -119,10 +114,6 @@ fn first_item<T: TrieValue>(trie: &AsciiInPlace<'_, T>, bytes: &[u8]) -> ((char,
     requires { 0 < length bytes.now }
     ensures { IsFirstItem trie.now bytes.now result.0 result.1 }
 {
-    let lead = bytes[0];
-    if let Some(value) = trie.ascii(u32::from(lead)) {
-        return ((char::from(lead), value), 1);
-    }
     match character_item(trie, bytes) {
         Some(found) => found,
         None => (('\u{FFFD}', trie.error_value()), ill_formed_size(bytes)),
@@ -138,11 +129,14 @@ impl<'a, T: TrieValue> Iterator for ValuesOfUtf8<'a, T> {
 
     #[inline(always)]
     fn next(&mut self) -> Option<(char, T)> {
-        if self.next == self.bytes.len() {
-            return None;
+        let bytes = self.rest.as_slice();
+        let lead = *bytes.first()?;
+        if let Some(value) = self.trie.ascii(u32::from(lead)) {
+            self.rest.next();
+            return Some((char::from(lead), value));
         }
-        let (item, size) = first_item(&self.trie, &self.bytes[self.next..]);
-        self.next += size;
+        let (item, size) = first_item(&self.trie, bytes);
+        self.rest = bytes.get(size..).unwrap_or_default().iter();
         Some(item)
     }
 }

@@ -10,6 +10,7 @@ use crate::first::first_value;
 use icu_trie::cptrie::CodePointTrie;
 use icu_trie_core::value::TrieValue;
 use std::marker::Model;
+use std::str::Chars;
 
 /// An iterator over the characters of a text, each with its value in a trie.
 ///
@@ -17,17 +18,20 @@ use std::marker::Model;
 #[derive(Debug, Drop)]
 pub struct ValuesOf<'a, T: TrieValue> {
     trie: AsciiInPlace<'a, T>,
-    rest: &'a str,
+    rest: Chars<'a>,
 }
 
 impl<'a, T: TrieValue> Model for ValuesOf<'a, T> {
     ghost use Rattle.std.specs.Prelude.{ℕ, List, Option};
-    ghost use Rattle.std.specs.Str.{chars};
+    ghost use Rattle.std.specs.Str.{IsUtf8, chars};
+    ghost use Rattle.std.specs.Str.Iter.{chars_rest};
     ghost use Rattle.icu_trie_text.specs.Values.{with_values};
 
     ghost Value = { List (ℕ × Option T) };
 
-    ghost view = { λ a. with_values a.trie (chars a.rest.now) };
+    ghost view = { λ a. with_values a.trie (chars (chars_rest a.rest)) };
+
+    ghost invariant = { λ a. IsUtf8 (chars_rest a.rest) };
 }
 
 /// Returns an iterator over the characters of the text in order, each with its value in the trie.
@@ -50,7 +54,7 @@ pub fn values_of<'a, T: TrieValue>(trie: &'a CodePointTrie<'_, T>, text: &'a str
 {
     ValuesOf {
         trie: AsciiInPlace::new(trie),
-        rest: text,
+        rest: text.chars(),
     }
 }
 
@@ -63,8 +67,6 @@ impl<'a, T: TrieValue> Iterator for ValuesOf<'a, T> {
 
     #[inline(always)]
     fn next(&mut self) -> Option<(char, T)> {
-        let (item, rest) = first_value(&self.trie, self.rest)?;
-        self.rest = rest;
-        Some(item)
+        first_value(&self.trie, &mut self.rest)
     }
 }

@@ -13,4 +13,5 @@ returns c =
       c.in_ok-second.ensures.six,
       two_found c.args.bytes.now first c.in_ok-second.second lead (omega (arith, lead, c.requires.from))
           (omega (arith, lead, c.requires.to)) c.in_ok-second.ensures,
+      omega (arith, lead, c.requires.to),
     )

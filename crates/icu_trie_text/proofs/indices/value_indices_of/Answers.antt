@@ -6,12 +6,12 @@ use Rattle.icu_trie_text.proofs.indices.value_indices_of.Goals as goal
 pub returns-clause-fits : goal.returns-clause-fits
 returns-clause-fits g c =
     let start : length c.args.text.now - length c.args.text.now ≡ 0 = omega arith in
-    rw (c.new.ensures, start) (omega (arith, indices_fit c.args.trie.now c.args.text.now c.utf8.text))
+    rw (c.new.ensures, c.chars.ensures.rest, start) (omega (arith, indices_fit c.args.trie.now c.args.text.now c.utf8.text))
 
 pub returns-clause-values : goal.returns-clause-values
 returns-clause-values g c =
     let start : length c.args.text.now - length c.args.text.now ≡ 0 = omega arith in
-    rw (c.new.ensures, start) (λ items drained. indices_of_drained c.args.trie.now (chars c.args.text.now) items drained)
+    rw (c.new.ensures, c.chars.ensures.rest, start) (λ items drained. indices_of_drained c.args.trie.now (chars c.args.text.now) items drained)
 
 pub returns-clause-runs : goal.returns-clause-runs
 returns-clause-runs g c = index_runs c.args.trie.now

@@ -9,9 +9,10 @@ pub invariant_of-result : goal.invariant_of-result
 invariant_of-result g c =
     let found = c.ascii_end.ensures in
     record {
-      ascii = ascii_known c.args.trie.now _ _ c.ascii_end.result c.parts.ensures.index c.parts.ensures.values found.bound found.first
+      in_place = ascii_known c.args.trie.now _ _ c.ascii_end.result c.parts.ensures.index c.parts.ensures.values found.bound found.first
           found.second found.there;
       near = near_known g.T.TrieValue.of_number c.args.trie.now _ _ c.fast_index_len.result c.parts.ensures.index c.parts.ensures.values
           c.parts.ensures.whole
           (c.fast_index_len.ensures ∙ ap (λ (h : CodePointTrieHeader). fast_index_len h.trie_type) c.parts.ensures.header);
+      bytes = λ some. c.first_bytes.ensures (found.there some);
     }

@@ -1,11 +1,13 @@
-use Rattle.std.proofs.Common.{arith}
-use Rattle.std.proofs.lemmas.List.{length-drop, take_rest}
-use Rattle.icu_trie_text.proofs.Utf8Parts.{part_size}
+use Rattle.std.proofs.Common.{sym, refl}
+use Rattle.std.specs.Slice.Iter.{iter_rest}
+use Rattle.icu_trie_text.proofs.Utf8ValueLemmas.{ascii_step}
 use Rattle.icu_trie_text.proofs.utf8.ValuesOfUtf8Iterator.next.Goals as goal
 
-pub invariant_of-self : goal.invariant_of-self
-invariant_of-self g c =
-    let own = c.self.inside in
-    let item = c.first_item-item.ensures in
-    let size = (part_size _ item.part _ item.stands).1 in
-    omega (arith, rw (take_rest own.bytes.now own.next) at size, length-drop own.next own.bytes.now, c.self.invariant)
+pub returns-in-Some-clause-steps : goal.returns-in-Some-clause-steps
+returns-in-Some-clause-steps g c =
+    rw (← c.self.view_is) (record {
+      trie = refl;
+      steps = ascii_step c.self.inside.trie (iter_rest c.self.inside.rest) (iter_rest c.next.new.self) _ c.next.result c.in_ok-lead.field-0.now
+          c.from-in-Some.result c.from.result c.in-Some.value (rw c.as_slice-bytes.ensures.value at c.in_ok-lead.ensures.value) c.from.ensures
+          c.in-Some.ensures.ascii c.from-in-Some.ensures c.in-Some.ensures.value c.next.ensures.steps;
+    })
