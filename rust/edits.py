@@ -173,21 +173,6 @@ EDITS = {
     "icu_trie/lib": [(r"(?m)^(?=pub use icu_trie_core::\{)", "#[allow(unused_imports)] // Tests use them.\n", 1)],
     "icu_trie_text/lib": [(r"(?m)^(?=(?:pub )?mod characters;)", "#[allow(dead_code)] // The C library uses it.\n", 1)],
     "icu_trie_binary/binary": [(r"\(\((high_start) \+ 0xfff\) / (0x1000)\)", r"\1.div_ceil(\2)", 1)],
-    "icu_char16trie_builder/sorted": [(r"key: \*key,", "key,", 1)],
-    # The map is searched once for each key that is added.
-    "icu_char16trie_builder/builder": [
-        (r"(?s)(?:\x01\d+\x03\n)+fn has_key\(.*?\n\}\n\n", "", 1),
-        (
-            r"if has_key\(&self\.entries, (key|units\.as_slice\(\))\) \{(\s*)return Err\(AddError::Duplicate\);",
-            r"let Err(place) = self.entries.place_of(\1) else {\2return Err(AddError::Duplicate);",
-            2,
-        ),
-        (r"(?<=return Err\(AddError::Duplicate\);\n        \})(?=\n        match)", ";", 2),
-        (r"(insert(?:_key)?\(&mut self\.entries, )", r"\1place, ", 2),
-        (r"(entries: &mut BTreeMap<Vec<u16>, i32>,)", r"\1\n    place: (usize, usize),", 2),
-        (r"entries\.try_insert\(key, value\)\?", "entries.try_insert_at(place, key, value)?", 1),
-        (r"insert_key\(entries, key, value\)", "insert_key(entries, place, key, value)", 1),
-    ],
     # Most blocks hold the number of the block before: one search finds where they end.
     "icu_trie_map/blocks": [
         (

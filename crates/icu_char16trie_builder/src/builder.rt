@@ -1,5 +1,5 @@
 //! Collects entries and builds a trie.
-ghost use Rattle.std.specs.Prelude.{◌≡◌, ◌↔◌, ℕ, ℤ, ◌+◌, ◌*◌, ◌<◌, ◌≤◌, ◌⊎◌, List, [], ◌∷◌, length, take, IsTrue, IsSome, IsNone, IfOk, IfErr, OnOk, OnErr, Err, Option, MatchOption, is_some};
+ghost use Rattle.std.specs.Prelude.{◌≡◌, ◌≢◌, ◌↔◌, ℕ, ℤ, ◌+◌, ◌*◌, ◌<◌, ◌≤◌, ◌⊎◌, List, [], ◌∷◌, length, take, IsTrue, IsSome, IsNone, IfOk, IfErr, OnOk, OnErr, Err, Option, MatchOption};
 ghost use Rattle.icu_char16trie.specs.Grammar.{IsTrieOf};
 ghost use Rattle.icu_char16trie.specs.Matches.{text_units};
 ghost use Rattle.icu_char16trie.specs.UnitMap.{UnitMap, value_of, IsAscendingKeys};
@@ -18,7 +18,7 @@ use crate::units::units_of;
 use icu_char16trie::char16trie::Char16Trie;
 use icu_zerovec::{MemoryError, ZeroVec};
 use std::alloc::{AllocError, Global};
-use std::collections::BTreeMap;
+use std::collections::{BTreeMap, btree_map};
 use std::marker::Model;
 
 /// The largest number of units in a key.
@@ -55,41 +55,40 @@ impl Model for Char16TrieBuilder {
     ghost invariant = { λ b. IsAscendingKeys (entry_map b.entries.entries) };
 }
 
-/// Returns true if the map contains the key.
-fn has_key(entries: &BTreeMap<Vec<u16>, i32>, key: &[u16]) -> bool
-    ensures { result ≡ is_some (value_of (entry_map entries.now.entries) key.now) }
+/// Returns why a key cannot be added if there is no memory for a copy of it.
+#[cold]
+fn without_memory(entries: &BTreeMap<Vec<u16>, i32>, key: &[u16]) -> AddError
+    ensures duplicate { (result ≡ Duplicate)
+        ↔ IsSome (value_of (entry_map entries.now.entries) key.now) }
+    ensures short { result ≢ KeyTooLong }
 {
-    entries.contains_key(key)
+    if entries.contains_key(key) {
+        return AddError::Duplicate;
+    }
+    AddError::Memory
 }
 
-/// Adds an entry to a map, which takes ownership of the key. On an error the map is unchanged.
-fn insert_key(
-    entries: &mut BTreeMap<Vec<u16>, i32>,
-    key: Vec<u16>,
-    value: i32,
-) -> Result<(), AllocError>
+/// Adds an entry to a map, which takes ownership of the key and is searched once. On an error the
+/// map is unchanged.
+fn insert(entries: &mut BTreeMap<Vec<u16>, i32>, key: Vec<u16>, value: i32) -> Result<(), AddError>
     ensures added { OnOk result
         (entry_map entries.new.entries
         ≡ with_entry key.items value (entry_map entries.old.entries)) }
     ensures same { OnErr result (entry_map entries.new.entries ≡ entry_map entries.old.entries) }
+    ensures duplicate { (result ≡ Err Duplicate)
+        ↔ IsSome (value_of (entry_map entries.old.entries) key.items) }
+    ensures short { result ≢ Err KeyTooLong }
 {
-    entries.insert(key, value)?;
-    Ok(())
-}
-
-/// Adds an entry to a map. On an error the map is unchanged.
-fn insert(
-    alloc: Global,
-    entries: &mut BTreeMap<Vec<u16>, i32>,
-    key: &[u16],
-    value: i32,
-) -> Result<(), AllocError>
-    ensures added { OnOk result
-        (entry_map entries.new.entries ≡ with_entry key.now value (entry_map entries.old.entries)) }
-    ensures same { OnErr result (entry_map entries.new.entries ≡ entry_map entries.old.entries) }
-{
-    let key = Vec::from_slice(alloc, key)?;
-    insert_key(entries, key, value)
+    let Ok(entry) = entries.entry(key) else {
+        return Err(AddError::Memory);
+    };
+    match entry {
+        btree_map::Entry::Vacant(entry) => {
+            entry.insert_entry(value);
+            Ok(())
+        }
+        btree_map::Entry::Occupied(_) => Err(AddError::Duplicate),
+    }
 }
 
 /// Returns the entries of a map, in their order.
@@ -208,13 +207,10 @@ impl Char16TrieBuilder {
         if key.len() > LONGEST_KEY {
             return Err(AddError::KeyTooLong);
         }
-        if has_key(&self.entries, key) {
-            return Err(AddError::Duplicate);
-        }
-        match insert(self.alloc, &mut self.entries, key, value) {
-            Ok(()) => Ok(()),
-            Err(_) => Err(AddError::Memory),
-        }
+        let Ok(units) = Vec::from_slice(self.alloc, key) else {
+            return Err(without_memory(&self.entries, key));
+        };
+        insert(&mut self.entries, units, value)
     }
 
     /// Adds an entry whose key is a text, as its units in UTF-16.
@@ -246,13 +242,7 @@ impl Char16TrieBuilder {
         let Ok(units) = units_of_text(self.alloc, key) else {
             return Err(AddError::Memory);
         };
-        if has_key(&self.entries, units.as_slice()) {
-            return Err(AddError::Duplicate);
-        }
-        match insert_key(&mut self.entries, units, value) {
-            Ok(()) => Ok(()),
-            Err(_) => Err(AddError::Memory),
-        }
+        insert(&mut self.entries, units, value)
     }
 
     /// Returns the number of entries.

@@ -94,10 +94,7 @@ pub(crate) fn entries_of_pairs<'a>(
 {
     let mut list = Vec::with_capacity(alloc, pairs.len())?;
     for (key, value) in pairs {
-        list.push(Entry {
-            key: *key,
-            value: *value,
-        })?;
+        list.push(Entry { key, value: *value })?;
     }
     Ok(list)
 }

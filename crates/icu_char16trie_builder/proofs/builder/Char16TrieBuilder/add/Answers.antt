@@ -4,5 +4,5 @@ use Rattle.icu_char16trie_builder.proofs.builder.Char16TrieBuilder.add.Goals as 
 
 pub invariant_of-self : goal.invariant_of-self
 invariant_of-self c =
-    ascends_added c.insert.result c.args.key.now _ (entry_map c.insert.new.entries.entries)
+    ascends_added c.insert.result c.in-Ok.units.items _ (entry_map c.insert.new.entries.entries)
     (entry_map c.self.inside.entries.entries) c.insert.ensures.added c.insert.ensures.same c.self.invariant
