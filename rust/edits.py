@@ -209,21 +209,6 @@ EDITS = {
             1,
         ),
     ],
-    # One test for all bytes of a character: the last one is read first.
-    "icu_frozen_sets/frozen": [
-        (
-            r"(?s)let lead = u32::from\(bytes\[start\]\);(.*?)"
-            r"        let second = u32::from\(bytes\[start \+ 1\]\) % 64;\n(        if lead < 0xE0 \{\n)"
-            r"(.*?)        let third = u32::from\(bytes\[start \+ 2\]\) % 64;\n(        if lead < 0xF0 \{\n)"
-            r"(.*?)        let fourth = u32::from\(bytes\[start \+ 3\]\) % 64;\n",
-            r"let rest = &bytes[start..];\n        let lead = u32::from(rest[0]);\1\2"
-            r"            let second = u32::from(rest[1]) % 64;\n\3\4"
-            r"            let third = u32::from(rest[2]) % 64;\n            let second = u32::from(rest[1]) % 64;\n\5"
-            r"        let fourth = u32::from(rest[3]) % 64;\n        let third = u32::from(rest[2]) % 64;\n"
-            r"        let second = u32::from(rest[1]) % 64;\n",
-            1,
-        ),
-    ],
     # The range that the last character has been taken of, for DoubleEndedIterator.
     "icu_invlist/codepointinvlist/iter": [
         (

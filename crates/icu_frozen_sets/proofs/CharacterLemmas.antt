@@ -1,11 +1,11 @@
 -- The lead and trail bytes of a character determine it and the position of its bit.
-use Rattle.std.proofs.Common.{◌≡◌, ◌∙◌, ℕ, ◌+◌, ◌*◌, ◌/◌, ◌%◌, ◌<◌, ◌≤◌, List, [], ◌∷◌, ◌++◌, length, get_or, drop, refl, ap, sym, arith, Bool, true, false, inl, inr}
+use Rattle.std.proofs.Common.{◌≡◌, ◌∙◌, ℕ, ◌+◌, ◌-◌, ◌*◌, ◌/◌, ◌%◌, ◌<◌, ◌≤◌, List, [], ◌∷◌, ◌++◌, length, get_or, drop, refl, ap, sym, arith, Bool, true, false, inl, inr}
 use lib.Utf8.{scalar_cases}
 use Rattle.std.specs.Char.{IsScalar, encode_utf8}
 use Rattle.std.specs.Str.{IsUtf8, all_scalars, encode_utf8_all}
 use Rattle.std.specs.Prelude.{◌&&◌}
 use Rattle.std.proofs.lemmas.Bool.{cases_lt, lt-ltb, le-ltb}
-use Rattle.std.proofs.lemmas.List.{get_or-drop, length-append, length-drop}
+use Rattle.std.proofs.lemmas.List.{get_or-drop, length-append, length-drop, drop-drop}
 use Rattle.std.proofs.lemmas.Str.{drop_past_char, encode_ascii, len_utf8_bounds, length-encode}
 use Rattle.icu_zerovec.specs.CodePoints.{code_point_limit}
 use Rattle.icu_invlist.specs.InversionList.{holds}
@@ -187,3 +187,18 @@ module _ (ends text : List ℕ) (ascii : List Bool) (two : List ℕ) (t : BitTab
     pub four_bytes : (held : Bool) → held ≡ has_bit t (64 * word + get_or text (start + 3) 0 % 64)
         → IsAsked ends text start held (start + 4)
     four_bytes held told = asked 4 held (by_four formed) (told_by _ held told (place_of formed))
+
+-- A character of the rest of a text is one of the text.
+pub asked_on : (ends text part : List ℕ) (start : ℕ) (held : Bool) (len : ℕ) → part ≡ drop start text → IsAsked ends part 0 held len
+    → IsAsked ends text start held (start + len)
+asked_on ends text part start held len is a =
+    let size : length part ≡ length text - start = ap (λ (xs : List ℕ). length xs) is ∙ length-drop start text in
+    let rest : drop len part ≡ drop (start + len) text =
+    ap (λ (xs : List ℕ). drop len xs) is ∙ drop-drop len start text ∙ ap (λ (n : ℕ). drop n text) (omega arith) in
+    record {
+      character = a.character;
+      stands = sym is ∙ a.stands ∙ ap (λ (xs : List ℕ). encode_utf8 a.character ++ xs) rest;
+      order = omega (arith, a.order);
+      within = omega (arith, a.within, a.order, size);
+      told = a.told;
+    }

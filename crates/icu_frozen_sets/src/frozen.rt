@@ -183,31 +183,47 @@ impl FrozenCodePointSet {
         (bits >> place) & 1 == 1
     }
 
+    /// Returns whether the set contains the first character of the bytes, and its length in bytes.
+    /// The payload of the lead and trail bytes is the position of the character's bit, so the
+    /// character is not decoded into a `char`.
+    #[inline(always)]
+    fn ask_first(&self, bytes: &[u8]) -> (bool, usize)
+        requires utf8 { IsUtf8 bytes.now }
+        requires more { 0 < length bytes.now }
+        ensures { IsAsked self.now bytes.now 0 result.0 result.1 }
+    {
+        let lead = u32::from(bytes[0]);
+        if lead < 0x80 {
+            return (self.ascii[lead as usize], 1);
+        }
+        if lead < 0xE0 {
+            let second = u32::from(bytes[1]) % 64;
+            return (self.contains_short(lead % 32, second), 2);
+        }
+        // The last byte first: one bounds check is enough for all of them.
+        if lead < 0xF0 {
+            let third = u32::from(bytes[2]) % 64;
+            let second = u32::from(bytes[1]) % 64;
+            let word = lead % 16 * 64 + second;
+            return (self.bits.contains_in(word, third), 3);
+        }
+        let fourth = u32::from(bytes[3]) % 64;
+        let third = u32::from(bytes[2]) % 64;
+        let second = u32::from(bytes[1]) % 64;
+        let word = lead % 8 * 4096 + second * 64 + third;
+        (self.bits.contains_in(word, fourth), 4)
+    }
+
     /// Returns whether the set contains the character that starts at offset `start`, and the offset
-    /// of its end. The payload of the lead and trail bytes is the position of the character's bit,
-    /// so the character is not decoded into a `char`.
+    /// of its end.
     #[inline(always)]
     fn ask_character(&self, bytes: &[u8], start: usize) -> (bool, usize)
         requires utf8 { IsUtf8 (drop start bytes.now) }
         requires more { start < length bytes.now }
         ensures { IsAsked self.now bytes.now start result.0 result.1 }
     {
-        let lead = u32::from(bytes[start]);
-        if lead < 0x80 {
-            return (self.ascii[lead as usize], start + 1);
-        }
-        let second = u32::from(bytes[start + 1]) % 64;
-        if lead < 0xE0 {
-            return (self.contains_short(lead % 32, second), start + 2);
-        }
-        let third = u32::from(bytes[start + 2]) % 64;
-        if lead < 0xF0 {
-            let word = lead % 16 * 64 + second;
-            return (self.bits.contains_in(word, third), start + 3);
-        }
-        let fourth = u32::from(bytes[start + 3]) % 64;
-        let word = lead % 8 * 4096 + second * 64 + third;
-        (self.bits.contains_in(word, fourth), start + 4)
+        let (is_held, len) = self.ask_first(&bytes[start..]);
+        (is_held, start + len)
     }
 
     /// Returns the offset of the first byte from `start` on that is not ASCII, or whose membership

@@ -1,52 +1,13 @@
-use Rattle.std.proofs.Common.{arith}
-use Rattle.icu_frozen_sets.proofs.CharacterLemmas.{second_there, third_there, fourth_there, two_bytes, three_bytes, four_bytes, four_within}
+use Rattle.std.proofs.Common.{arith, length, subst, sym}
+use Rattle.std.specs.Str.{IsUtf8}
+use Rattle.std.proofs.lemmas.Slice.{between_to_end}
+use Rattle.icu_frozen_sets.proofs.CharacterLemmas.{asked_on}
 use Rattle.icu_frozen_sets.proofs.frozen.FrozenCodePointSet.ask_character.Goals as goal
 
-pub bounds-bytes-start-2 : goal.bounds-bytes-start-2
-bounds-bytes-start-2 c =
-    let s = c.self.inside in
-    second_there s.set c.args.bytes.now s.ascii s.two_bytes s.bits c.self.invariant c.args.start c.requires.utf8 c.requires.more
-    (omega arith)
-
-pub returns-then-lead-lt224 : goal.returns-then-lead-lt224
-returns-then-lead-lt224 c =
-    let s = c.self.inside in
-    rw (← c.self.view_is)
-    (two_bytes s.set c.args.bytes.now s.ascii s.two_bytes s.bits c.self.invariant c.args.start c.requires.utf8 c.requires.more _
-    (omega arith)
-    (omega arith) (rw (c.from-lead.ensures, c.from-second.ensures, ← c.self.view_is) at c.contains_short.ensures))
-
-pub bounds-bytes-start-3 : goal.bounds-bytes-start-3
-bounds-bytes-start-3 c =
-    let s = c.self.inside in
-    third_there s.set c.args.bytes.now s.ascii s.two_bytes s.bits c.self.invariant c.args.start c.requires.utf8 c.requires.more
-    (omega arith)
-
-pub returns-then-lead-lt240 : goal.returns-then-lead-lt240
-returns-then-lead-lt240 c =
-    let s = c.self.inside in
-    rw (← c.self.view_is)
-    (three_bytes s.set c.args.bytes.now s.ascii s.two_bytes s.bits c.self.invariant c.args.start c.requires.utf8 c.requires.more _
-    (omega arith) (omega arith) (rw
-    (c.from-lead.ensures, c.from-second.ensures, c.from-third.ensures) at c.contains_in.ensures))
-
-pub bounds-bytes-start-4 : goal.bounds-bytes-start-4
-bounds-bytes-start-4 c =
-    let s = c.self.inside in
-    fourth_there s.set c.args.bytes.now s.ascii s.two_bytes s.bits c.self.invariant c.args.start c.requires.utf8 c.requires.more
-    (omega arith)
-
-pub contains_in-requires-2-clause-there : goal.contains_in-requires-2-clause-there
-contains_in-requires-2-clause-there c =
-    let s = c.self.inside in
-    rw (c.from-lead.ensures, c.from-second.ensures, c.from-third.ensures)
-    (four_within s.set c.args.bytes.now s.ascii s.two_bytes s.bits c.self.invariant c.args.start c.requires.utf8 c.requires.more
-    (omega arith))
+pub ask_first-is_held-requires-clause-utf8 : goal.ask_first-is_held-requires-clause-utf8
+ask_first-is_held-requires-clause-utf8 c = let b = c.args.bytes.now in
+    subst (λ xs. IsUtf8 xs) (sym (between_to_end b c.args.start (length b) (omega arith))) c.requires.utf8
 
 pub returns : goal.returns
-returns c =
-    let s = c.self.inside in
-    rw (← c.self.view_is)
-    (four_bytes s.set c.args.bytes.now s.ascii s.two_bytes s.bits c.self.invariant c.args.start c.requires.utf8 c.requires.more
-    (omega arith) _ (rw
-    (c.from-lead.ensures, c.from-second.ensures, c.from-third.ensures, c.from-fourth.ensures) at c.contains_in-2.ensures))
+returns c = let b = c.args.bytes.now in
+    asked_on _ b _ c.args.start _ _ (between_to_end b c.args.start (length b) (omega arith)) c.ask_first-is_held.ensures
