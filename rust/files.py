@@ -35,7 +35,7 @@ def rules_of(name):
     forms, examples, words = [], [], [""]
     for line in section(name):
         if line.startswith("each "):
-            words = line.split()[1:]
+            words = (" ".join(table("tried").values()) if "[tried]" in line else line[5:]).split()
         else:
             is_example = line.startswith(" ")
             for key, _, value in (it.partition("=") for it in words):

@@ -1,6 +1,6 @@
 """The names and paths of the Rust edition, and the rules of rust/rules.txt."""
 from files import Stop, rules_of, table
-from tokens import before_gap, code_of, replaced, tokens_of
+from tokens import code_of, replaced, tokens_of
 
 FEATURES = table("features")
 # Methods that allocate.
@@ -19,7 +19,7 @@ def compiled(rules):
     return made
 
 
-SOURCE, LIBRARY = compiled(rules_of("source")), compiled(rules_of("library"))
+METHODS, SOURCE, LIBRARY = (compiled(rules_of(it)) for it in ("methods", "source", "library"))
 
 
 def ruled(tokens, rules):
@@ -27,27 +27,6 @@ def ruled(tokens, rules):
     for pattern, put in rules:
         tokens = replaced(tokens, pattern, put)
     return tokens
-
-
-def tried(tokens):
-    """Renames methods that allocate: `a.build()` becomes `a.try_build()`."""
-    tokens, depth = list(tokens), 0
-    for at, it in enumerate(tokens):
-        depth += (it == "{") - (it == "}")
-        if it == "build_from_writes" or it in TRIED and is_method(tokens, at, depth):
-            tokens[at] = f"try_{it}"
-    return tokens
-
-
-def is_method(tokens, at, depth):
-    """Whether the name at `at` is that of a method that is called or declared."""
-    after = tokens[at + 1 : at + 4]
-    if after[:1] not in (["("], ["<"]) and after != [":", ":", "<"]:
-        return False
-    before = before_gap(tokens, at)
-    if tokens[before] == ":":
-        return tokens[before - 2][0].isupper() or tokens[before - 2] == ">"
-    return tokens[before] == "." or tokens[before] == "fn" and depth > 0
 
 
 def with_paths(crate, tokens):
