@@ -1,6 +1,5 @@
-"""What the Rust API guidelines ask for beside what the proved sources have: more derived traits,
-`#[must_use]`, `#[inline]`, `#[non_exhaustive]`, and code of rust/added, which needs the private parts of
-a module."""
+"""What the Rust API guidelines ask for beside what the proved sources have: derived traits, attributes,
+and the code of rust/added, which needs the private parts of a module."""
 import os
 import re
 
@@ -38,24 +37,22 @@ def must_use(tokens, it):
     of = head[arrows[-1] + 3] if arrows else ""
     of = it.owner if of == "Self" else of
     is_marked = of in MARKED or "&mut" in "".join(head) or "for" in it.home
-    is_open = head[0] == "pub" and head[1] != "("
-    return "#[must_use]\n" * bool(is_open and of and not is_marked)
+    return "#[must_use]\n" * bool(head[0] == "pub" and head[1] != "(" and of and not is_marked)
 
 
 def inline(tokens, it):
     """Returns the attribute of a short function: rustc sees one crate at a time, Rattle's compiler all."""
     text = "".join(tokens[it.start : it.end])
     is_short = text.count("\n") <= 12 and not re.search(r"\n *\n", text) and tokens[it.head_end] == "{"
-    has_other = tokens[before_gap(tokens, it.start)] == "]"
-    return "#[inline]\n" * (is_short and not has_other and "super" not in tokens[it.start : it.place])
+    is_plain = tokens[before_gap(tokens, it.start)] != "]" and "super" not in tokens[it.start : it.place]
+    return "#[inline]\n" * (is_short and is_plain)
 
 
 def with_attributes(tokens, is_library):
     """Gives all functions their attributes."""
     tokens = list(tokens)
     for it in reversed(functions(tokens)):
-        lines = (must_use(tokens, it) if is_library else "") + inline(tokens, it)
-        tokens[it.start : it.start] = tokens_of(lines)
+        tokens[it.start : it.start] = tokens_of(must_use(tokens, it) * is_library + inline(tokens, it))
     return tokens
 
 

@@ -23,12 +23,11 @@ def examples():
     """Returns the examples: for each module, pairs of an item and its example, as lines of docs."""
     found = {}
     for path in sorted(glob.glob(f"{HERE}/examples/*.rs")):
-        crate = os.path.basename(path)[:-3]
         for head, example in re.findall(r"(?m)^//# (.*)\n((?:(?!//# ).*\n)*)", read(path)):
             module, item = head.split() if " " in head else ("lib", head)
             lines = example.splitlines() + [ERRORS] * bool(re.search(r"(?m)\?[;,).]|\?$", example))
             lines = [f" {it}".rstrip() for it in ["```", *lines, "```"]] if example else []
-            found.setdefault(f"{crate}/{module}", []).append((item, lines))
+            found.setdefault(f"{os.path.basename(path)[:-3]}/{module}", []).append((item, lines))
     return found
 
 

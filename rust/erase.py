@@ -1,9 +1,8 @@
 """Removes the proofs from Rattle source. What is left is Rust, with its comments unchanged.
 
-The source is read token by token. Clauses (`requires`, `ensures`), ghost items, models, tactics and
-`prove!` are removed; everything else has to have a form that is listed here. Two names side by side,
-a word after a bracket that is no keyword of Rust, an unlisted attribute or macro, and a character
-outside ASCII are errors, reported with their line. So a new form of clause cannot pass unnoticed.
+Everything that is no proof has to have a form that is listed here. Two names side by side, a word after a
+bracket that is no keyword of Rust, an unlisted attribute or macro, and a character outside ASCII are
+errors, reported with their line. So a new form of clause cannot pass unnoticed.
 """
 import re
 
@@ -37,9 +36,7 @@ class Eraser:
     """Splits one file into tokens, and drops the proofs."""
 
     def __init__(self, text):
-        self.text = text
-        self.place = 0
-        self.kept = []
+        self.text, self.place, self.kept = text, 0, []
 
     def refuse(self, why):
         raise Stop(f"{self.text.count(chr(10), 0, self.place) + 1}: {why}: {self.text[self.place:][:50]!r}")

@@ -1,8 +1,8 @@
 """Writes the functions of the C library for cargo, rust/bekstaudi-c.
 
-The functions of crates/icu_collections_c become safe Rust functions. For each of them `exports.rs`
-has an `extern "C"` function with the name, the parameters and the structs of c/bekstaudi.h, which
-turns pointers and counts into slices. rust/tests/header.py compares what is written with the header.
+For each function of crates/icu_collections_c, which becomes a safe Rust function, `exports.rs` has an
+`extern "C"` function that turns pointers and counts into slices. rust/tests/header.py compares them
+with c/bekstaudi.h.
 """
 import glob
 import os
@@ -17,8 +17,6 @@ CALLS = [
     code_of(f'#[unsafe(no_mangle)] pub extern "C" fn $name{it}($$parameters) -> $$returned {{') for it in ("", "<$$of>")
 ]
 STRUCT = re.compile(r"#\[repr\(C\)\]\n#\[derive\(Clone, Copy\)\]\npub struct (\w+) \{")
-# The numbers that functions of C take.
-NUMBERS = "u8 u16 u32 u64 i8 i16 i32 i64 usize bool".split()
 # The function and the struct that rust/c/src/trie.rs has.
 OPEN, TRIE = "bks_trie_open", "Trie"
 HEAD = """//! The functions of c/bekstaudi.h. rust/make writes this file.
@@ -29,8 +27,7 @@ HEAD = """//! The functions of c/bekstaudi.h. rust/make writes this file.
 //! be any pointer.
 #![allow(clippy::missing_safety_doc)]
 
-use crate::trie::Trie;
-use crate::{slice, slice_mut};
+use crate::{slice, slice_mut, trie::Trie};
 """
 
 
@@ -38,8 +35,6 @@ def parameter(name, of, homes):
     """A parameter in exports.rs, and the argument that the safe function gets."""
     found = re.fullmatch(r"&(?:'\w+ )?(mut )?(\[)?(\w+)(?:<'\w+>)?\]?", of)
     if not found:
-        if of not in NUMBERS:
-            raise Stop(f"{name}: {of}: no C type is known for this parameter")
         return f"{name}: {of}", name
     mutable, is_slice, item = found[1] or "", found[2], found[3]
     pointer = f"{name}: *{mutable or 'const '}{homes.get(item, item)}"
@@ -54,9 +49,8 @@ def function(module, found, homes):
     parts = [parameter(*it.strip().split(": "), homes) for it in parameters.split(",") if it.strip()]
     call = f"crate::{CRATE}::{module}::{name}({', '.join(it[1] for it in parts)})"
     call = f"unsafe {{ {call} }}" if any("*" in it[0] for it in parts) else call
-    head = f"pub unsafe extern \"C\" fn {name}({', '.join(it[0] for it in parts)})"
-    text = f"\n#[unsafe(no_mangle)]\n{head} -> {homes.get(returned, returned)} {{\n    {call}\n}}\n"
-    return text * (name != OPEN)
+    head = f"{name}({', '.join(it[0] for it in parts)}) -> {homes.get(returned, returned)}"
+    return f'\n#[unsafe(no_mangle)]\npub unsafe extern "C" fn {head} {{\n    {call}\n}}\n' * (name != OPEN)
 
 
 def exported(folder):
@@ -70,7 +64,8 @@ def exported(folder):
         for at in (i for i, it in enumerate(tokens) if it == "#"):
             for found in filter(None, (match(tokens, at, form) for form in CALLS)):
                 exports += function(module, found[1], homes)
-        write(path, "".join(ruled(tokens, rules)))
-        if 'extern "C"' in read(path) or "no_mangle" in read(path):
+        tokens = ruled(tokens, rules)
+        if {"extern", "no_mangle"} & {*tokens}:
             raise Stop(f"crates/{CRATE}/src/{module}.rt: an exported function of a form that is not known")
+        write(path, "".join(tokens))
     write(f"{folder}/src/exports.rs", exports)
