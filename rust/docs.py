@@ -40,7 +40,7 @@ def mark_of(token):
 
 
 class Block:
-    """Lines of comments of one kind, one after another: where they are, and the item behind them."""
+    """Lines of comments of one kind, one after another: their positions, and the item behind them."""
 
     def __init__(self, tokens, start):
         self.start, self.end, self.mark = start, start + 1, mark_of(tokens[start])
