@@ -1,5 +1,5 @@
 -- The first cells of an index, and values below an end.
-use Rattle.std.proofs.Common.{◌≡◌, ◌∙◌, sym, ap, subst, ℕ, zero, suc, ◌*◌, ◌/◌, ◌<◌, ◌≤◌, Bool, nat_lt, Bor, List, [], ◌∷◌, length, get_or, slice_get, take, drop, Option, Some, None, if◌then◌else◌, refl, arith, inl, inr}
+use Rattle.std.proofs.Common.{◌≡◌, ◌∙◌, sym, ap, subst, ℕ, zero, suc, ◌*◌, ◌/◌, ◌<◌, ◌≤◌, nat_lt, Bor, List, [], ◌∷◌, length, get_or, slice_get, take, drop, Option, Some, None, if◌then◌else◌, refl, arith, inl, inr}
 use Rattle.std.proofs.Math.Nat.{suc-mul, zero-mul}
 use Rattle.std.proofs.Math.Seq.{drop-cons}
 use Rattle.std.proofs.lemmas.Bool.{cases_lt, le-ltb, lt-ltb}

@@ -1,6 +1,5 @@
-use Rattle.std.proofs.Common.{◌≡◌, ◌∙◌, ◌%◌, [], Some, slice_get, slice_index_or, ap, sym, arith}
+use Rattle.std.proofs.Common.{◌≡◌, ◌∙◌, ◌%◌, [], Some, slice_index_or, ap, sym, arith}
 use Rattle.std.specs.Int.{w16, from_le_bytes}
-use Rattle.icu_zerovec.specs.Slice.{slice_values}
 use Rattle.icu_trie_text.proofs.ascii.AsciiInPlace.at_two.Goals as goal
 
 pub at-requires : goal.at-requires

@@ -1,4 +1,4 @@
-use Rattle.std.proofs.Common.{sym, refl}
+use Rattle.std.proofs.Common.{refl}
 use Rattle.std.specs.Slice.Iter.{iter_rest}
 use Rattle.icu_trie_text.proofs.Utf8ValueLemmas.{ascii_step}
 use Rattle.icu_trie_text.proofs.utf8.ValuesOfUtf8Iterator.next.Goals as goal
