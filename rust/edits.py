@@ -163,14 +163,6 @@ EDITS = {
         (r"(const TRIE_TYPE: TrieType;\n)", rf"\1{UNTYPED}", 1),
         (r"(const TRIE_TYPE: TrieType = TrieType::\w+;\n)", rf"\1{UNTYPED_BODIES}", 2),
     ],
-    # Names and variables that only a proof uses, and what clippy would write in another form.
-    "icu_trie_core/lookup": [
-        (r"(?<=fn fast_place_of<T, C: Cells<T>>\()header(?=:)", "_", 1),
-        (r"(?<=fn high_place_of<T, C: Cells<T>>\()header(: &CodePointTrieHeader, cells: &C, )c(?=:)", r"_\1_", 1),
-        (r"(?m)^(?=pub fn look_up_whole)", "// Tests call it.\n#[allow(dead_code)]\n", 1),
-    ],
-    "icu_trie_core/cells": [(r"(\n +)(?=fn index_len\(&self\) -> usize;)", r"\1// Tests call it.\1#[allow(dead_code)]\1", 1)],
-    "icu_trie/lib": [(r"(?m)^(?=pub use icu_trie_core::\{)", "#[allow(unused_imports)] // Tests use them.\n", 1)],
     "icu_trie_text/lib": [(r"(?m)^(?=(?:pub )?mod characters;)", "#[allow(dead_code)] // The C library uses it.\n", 1)],
     "icu_trie_binary/binary": [(r"\(\((high_start) \+ 0xfff\) / (0x1000)\)", r"\1.div_ceil(\2)", 1)],
     # Most blocks hold the number of the block before: one search finds where they end.

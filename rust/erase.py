@@ -14,7 +14,7 @@ KEYWORDS = set(
     " mut pub ref return self Self static struct super trait type unsafe use where while true false".split()
 )
 BEFORE_NAMES = KEYWORDS - set("break continue crate loop self Self super true false".split())
-ATTRIBUTES = set("derive error from inline cold test cfg tactic repr".split())
+ATTRIBUTES = set("allow derive error from inline cold test cfg tactic repr".split())
 MACROS = set("anyhow assert assert_eq eprintln format json matches panic println unreachable vec write writeln".split())
 # The proofs: the word that each starts with, whether its docs are removed too, and its form. If the
 # form ends with `(?={)`, braces of the proof language follow.

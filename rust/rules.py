@@ -4,8 +4,8 @@
 INSIDE = (
     "PotentialCodePoint::from_u24 ZeroSlice::at ZeroSlice::get_below ZeroSlice::get_known"
     " ZeroVec::from_packed ZeroVec::try_into_converted cell_at cell_below cell_known"
-    " CodePointInversionList::from_valid_slice size_of merge fast_place_of"
-    " high_place_of look_up_whole NumberMap::set_range NumberMap::repeats NumberMap::copy_block"
+    " CodePointInversionList::from_valid_slice size_of merge"
+    " look_up_whole NumberMap::set_range NumberMap::repeats NumberMap::copy_block"
     " NumberMap::get NumberMap::find_other CellStore::new CellStore::find CellStore::place build_index"
     " copy_characters"
 ).split() + ["trait PartValues::ascii", "trait PartValues::near", "trait PartValues::near_below", "trait Boundaries::at", "trait SetOperation::of_range"]

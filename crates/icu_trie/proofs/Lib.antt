@@ -2,7 +2,7 @@ pub mod CallerLemmas
 mod CellBytesLemmas
 mod ConversionLemmas
 mod FastCells
-mod SmallPlaces
+mod Positions
 pub mod IteratorLemmas
 pub mod SetLemmas
 pub mod JoinedLemmas

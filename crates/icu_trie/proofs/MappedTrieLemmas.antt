@@ -125,14 +125,14 @@ handed_on C e (Err k) h at = rw h.1 at
 
 -- ---- The parts v of a trie whose value is p, its error value and its null value.
 module _ {F T P E : Type 0} {step : F → T → Result P E → F → Type 0} {f : F} {of_number : ℕ → Option T} {number : P → ℕ} {v p : Parts T}
-    {error null : T} (seen : v ≡ p) (error_is : last_cell v.values ≡ Some error) (null_is : of_number p.header.null_value ≡ Some null) where
+    {error null : T} (seen : v ≡ p) (error_is : last_cell p.values ≡ Some error) (null_is : of_number p.header.null_value ≡ Some null) where
   -- Calls with the values of v, in order, are calls with those of p.
   pub MapsInTurn-seen : {result : Result (Parts P) (MapError E)} (answered : List P) (refusal : Option E) (last : F)
       → CallsInTurn step f (error ∷ null ∷ v.values) answered refusal last → IsMapOfTrie number v answered refusal result
       → MapsInTurn step f of_number number p result
   MapsInTurn-seen answered refusal last calls gives = rw (← seen) (record {
     error = error;
-    error_is = error_is;
+    error_is = rw (← seen) at error_is;
     null = null;
     null_is = rw (← seen) at null_is;
     answers = answered;

@@ -11,7 +11,7 @@ use Rattle.icu_trie_core.specs.Contents.{Contents, contents_of}
 use Rattle.icu_trie_core.specs.declared.header.CodePointTrieHeader.{CodePointTrieHeader}
 use Rattle.icu_trie_core.specs.declared.error.CodePointTrieError.{CodePointTrieError}
 use Rattle.icu_trie_core.specs.declared.error.CodePointTrieError.TheVariants.{EmptyDataVector, InvalidNullValue, IndexTooShortForFastAccess, DataTooShortForFastAccess}
-use Rattle.icu_trie_core.specs.Format.{answer}
+use Rattle.icu_trie_core.specs.Format.{answer, place_or_last}
 use Rattle.icu_trie.specs.declared.error.PartsError.{PartsError}
 use Rattle.icu_trie.specs.declared.error.PartsError.TheVariants.{Trie, Memory}
 use Rattle.icu_trie_core.specs.FastIndex.{fast_index_len, passes_data}
@@ -33,6 +33,11 @@ last_cell values = slice_get values (length values - 1)
 -- The value of a trie at u: the look-up result, or the error value if that is None.
 abbrev pub trie_value : {T : Type 0} → Parts T → ℕ → Option T
 trie_value t u = option_or (answer t.header (contents_of t.index t.values) u) (last_cell t.values)
+
+-- The position of the data cell of u: of the last cell, the error value, if a cell of the index is
+-- missing or u is above 0x10FFFF. It may be outside the data.
+abbrev pub place_of : {T : Type 0} → Parts T → ℕ → Option ℕ
+place_of t u = place_or_last t.header t.index (length t.values) u
 
 -- The first fault of the parts of a trie, if any. of_number gives the value with a number.
 abbrev pub parts_fault : {T : Type 0} → (ℕ → Option T) → CodePointTrieHeader → List ℕ → List T

@@ -57,7 +57,6 @@ impl<'trie, T: TrieValue> CodePointTrie<'trie, T> {
             header,
             index,
             data,
-            error_value: _,
         } = self;
         let data = match data.try_into_converted::<P>() {
             Ok(data) => data,
@@ -90,9 +89,6 @@ impl<'trie, T: TrieValue> CodePointTrie<'trie, T> {
               values = «data».entry;
             } }
     {
-        let Some(error_value) = data.last() else {
-            unreachable!()
-        };
         CodePointTrie {
             header: CodePointTrieHeader {
                 null_value: null.to_u32(),
@@ -100,7 +96,6 @@ impl<'trie, T: TrieValue> CodePointTrie<'trie, T> {
             },
             index,
             data,
-            error_value,
         }
     }
 }

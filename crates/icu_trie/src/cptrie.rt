@@ -1,16 +1,18 @@
 //! The trie over packed vectors.
-ghost use Rattle.std.specs.Prelude.{◌≡◌, ℕ, ◌<◌, ◌≤◌, length, slice_get, Some, None, IfOk, IfErr, is_some};
-ghost use Rattle.std.specs.Option.{option_map};
+ghost use Rattle.std.specs.Prelude.{◌≡◌, ℕ, ◌-◌, ◌<◌, ◌≤◌, length, nat_lt, slice_get, Some, None, IfOk, IfErr, IfSome, IsTrue, MatchOption, is_some, if◌then◌else◌};
+ghost use Rattle.std.specs.Option.{option_map, option_or};
 ghost use Rattle.icu_trie_core.specs.Format.{fast_limit};
 ghost use Rattle.icu_trie_core.specs.FastIndex.{passes_data, fast_index_len};
 ghost use Rattle.icu_trie.specs.Parts.{parts_fault, last_cell, IsWhyNoTrie};
 ghost use Rattle.icu_zerovec.specs.Slice.{slice_values};
 
 use crate::error::PartsError;
-use crate::packed_cells::{fast_place_in, high_place_in, small_place_in};
+use crate::packed_cells::small_place_in;
 use icu_trie_core::error::CodePointTrieError;
 use icu_trie_core::header::{CodePointTrieHeader, TrieType};
-use icu_trie_core::impl_const::{CODE_POINT_MAX, FAST_TYPE_DATA_BLOCK_LENGTH};
+use icu_trie_core::impl_const::{
+    CODE_POINT_MAX, FAST_TYPE_DATA_BLOCK_LENGTH, FAST_TYPE_SHIFT, HIGH_VALUE_NEG_DATA_OFFSET,
+};
 use icu_trie_core::value::TrieValue;
 use icu_zerovec::{MemoryError, ZeroSlice, ZeroVec};
 use std::alloc::Global;
@@ -56,25 +58,22 @@ pub struct CodePointTrie<'trie, T: TrieValue> {
     pub(crate) header: CodePointTrieHeader,
     pub(crate) index: ZeroVec<'trie, u16>,
     pub(crate) data: ZeroVec<'trie, T>,
-    // The last cell of the data, so that `error_value` returns it without a read.
-    pub(crate) error_value: T,
 }
 
 impl<'trie, T: TrieValue> Model for CodePointTrie<'trie, T> {
     // Contracts see a trie as its header, its index and its data.
     ghost use Rattle.std.specs.Prelude.{◌≡◌, Some, None};
-    ghost use Rattle.icu_trie.specs.Parts.{Parts, parts_fault, last_cell};
+    ghost use Rattle.icu_trie.specs.Parts.{Parts, parts_fault};
 
     ghost Value = { Parts T };
 
     ghost view = { λ t. record { header = t.header; index = t.index; values = t.«data» } };
 
-    ghost invariant = { λ t. (last_cell t.«data» ≡ Some t.error_value)
-        × (parts_fault T.of_number t.header t.index t.«data» ≡ None) };
+    ghost invariant = { λ t. parts_fault T.of_number t.header t.index t.«data» ≡ None };
 }
 
 impl<'trie, T: TrieValue> CodePointTrie<'trie, T> {
-    ghost use Rattle.icu_trie.specs.Parts.{Parts, trie_value};
+    ghost use Rattle.icu_trie.specs.Parts.{Parts, trie_value, place_of};
 
     /// Makes a trie of these parts.
     ///
@@ -109,9 +108,9 @@ impl<'trie, T: TrieValue> CodePointTrie<'trie, T> {
         ensures err { IfErr result
             (λ e. parts_fault T.of_number header index.entry «data».entry ≡ Some e) }
     {
-        let Some(error_value) = data.last() else {
+        if data.is_empty() {
             return Err(CodePointTrieError::EmptyDataVector);
-        };
+        }
         if !is_number_of_value::<T>(header.null_value) {
             return Err(CodePointTrieError::InvalidNullValue);
         }
@@ -125,7 +124,6 @@ impl<'trie, T: TrieValue> CodePointTrie<'trie, T> {
             header,
             index,
             data,
-            error_value,
         })
     }
 
@@ -154,102 +152,142 @@ impl<'trie, T: TrieValue> CodePointTrie<'trie, T> {
         Ok(trie)
     }
 
-    /// Returns the position of the error value, the last cell, for a number above 0x10FFFF.
+    /// Returns the position of the last of `cells` cells, the error value. It takes the number by
+    /// value, so that a trie on the stack need not be stored for the call.
     #[cold]
     #[inline(never)]
-    #[tactic(auto, unfolding(icu_trie_core::specs::Format::answer))]
-    fn outside_place(&self, c: u32) -> usize
-        requires { 0x110000 ≤ c }
-        ensures inside { result < length self.now.values }
-        ensures value { slice_get self.now.values result ≡ trie_value self.now c }
+    fn outside_place(cells: usize) -> usize
+        requires { 0 < cells }
+        ensures { result ≡ cells - 1 }
     {
-        let _ = c;
-        self.data.len() - 1
+        cells - 1
+    }
+
+    /// Returns the position of the value of a code point below the fast limit of this type, in one
+    /// read of the index and with one test. Returns `None` from the fast limit on.
+    #[inline(always)]
+    fn fast_place(&self, trie_type: TrieType, index: ZeroSlice<'_, u16>, c: u32) -> Option<usize>
+        requires same { self.now.header.trie_type ≡ trie_type }
+        requires index { slice_values index ≡ self.now.index }
+        ensures limit { MatchOption result (fast_limit trie_type ≤ c) (λ _. c < fast_limit trie_type) }
+        ensures inside { IfSome result (λ place. place < length self.now.values) }
+        ensures place { IfSome result (λ place. place_of self.now c ≡ Some place) }
+    {
+        let _ = &self.header;
+        let blocks = trie_type.fast_index_len();
+        match index.get_below(blocks, (c >> FAST_TYPE_SHIFT) as usize) {
+            Some(offset) => Some(offset as usize + (c % FAST_TYPE_DATA_BLOCK_LENGTH) as usize),
+            None => None,
+        }
     }
 
     /// Returns the position of the value of `c` through the three stages of the index, with a
-    /// bounds check for each read.
+    /// bounds check for each read. An untrusted index may lead outside the data.
     ///
     /// It takes the index, since LLVM reads an address once before a loop only if two paths use it.
     /// A call would cost a loop over code points above the fast limit half as much time again.
     #[inline(always)]
-    #[tactic(auto, using(crate::proofs::SmallPlaces::value_inside, crate::proofs::SmallPlaces::value_none))]
     fn small_place(&self, index: ZeroSlice<'_, u16>, c: u32) -> usize
         requires index { slice_values index ≡ self.now.index }
         requires from { fast_limit self.now.header.trie_type ≤ c }
         requires below { c < self.now.header.high_start }
         requires within { c < 0x110000 }
-        ensures inside { result < length self.now.values }
-        ensures value { slice_get self.now.values result ≡ trie_value self.now c }
+        ensures { place_of self.now c ≡ Some result }
     {
         let data = self.data.as_slice();
-        let Some(place) = small_place_in(self.header.trie_type, index, data, c) else {
-            return data.len() - 1;
-        };
-        if place < data.len() {
-            place
-        } else {
-            data.len() - 1
+        match small_place_in(self.header.trie_type, index, data, c) {
+            Some(place) => place,
+            None => data.len() - 1,
         }
     }
 
-    /// Returns the position of the value of a code point from the fast limit on.
+    /// Returns the position of the value of a code point from the fast limit on, and whether it is
+    /// known to be inside the data.
     #[inline(always)]
-    fn far_place(&self, index: ZeroSlice<'_, u16>, c: u32) -> usize
+    fn far_place(&self, index: ZeroSlice<'_, u16>, c: u32) -> (usize, bool)
         requires index { slice_values index ≡ self.now.index }
         requires from { fast_limit self.now.header.trie_type ≤ c }
         requires within { c < 0x110000 }
-        ensures inside { result < length self.now.values }
-        ensures value { slice_get self.now.values result ≡ trie_value self.now c }
+        ensures inside { IsTrue result.1 → result.0 < length self.now.values }
+        ensures place { place_of self.now c ≡ Some result.0 }
     {
         if c >= self.header.high_start {
-            return high_place_in(&self.header, index, self.data.as_slice(), c);
+            return (self.data.len() - HIGH_VALUE_NEG_DATA_OFFSET as usize, true);
         }
-        self.small_place(index, c)
+        (self.small_place(index, c), false)
     }
 
-    /// Returns the position of the value of `c` in a trie of this type. All cases share the read of
-    /// the value that follows, so that the compiler keeps the address of the data in a register.
+    /// Returns the position of the value of `c` in a trie of this type, and whether it is known to
+    /// be inside the data. All cases share the read of the value that follows, so that the compiler
+    /// keeps the address of the data in a register.
     #[inline(always)]
-    fn place_by_type(&self, trie_type: TrieType, c: u32) -> usize
+    fn place_by_type(&self, trie_type: TrieType, c: u32) -> (usize, bool)
         requires { self.now.header.trie_type ≡ trie_type }
-        ensures inside { result < length self.now.values }
-        ensures value { slice_get self.now.values result ≡ trie_value self.now c }
+        ensures inside { IsTrue result.1 → result.0 < length self.now.values }
+        ensures place { place_of self.now c ≡ Some result.0 }
     {
-        let (index, data) = (self.index.as_slice(), self.data.as_slice());
-        if c < trie_type.fast_limit() {
-            return fast_place_in(&self.header, index, data, c);
+        let index = self.index.as_slice();
+        if let Some(place) = self.fast_place(trie_type, index, c) {
+            return (place, true);
         }
         if c > CODE_POINT_MAX {
-            return self.outside_place(c);
+            return (Self::outside_place(self.data.len()), true);
         }
         self.far_place(index, c)
     }
 
-    /// Returns the position of the value of the character `c` in a trie of this type. No character
-    /// is above 0x10FFFF.
+    /// Returns the position of the value of the character `c` in a trie of this type, and whether it
+    /// is known to be inside the data. No character is above 0x10FFFF.
     #[inline(always)]
-    fn character_place(&self, trie_type: TrieType, c: char) -> usize
+    fn character_place(&self, trie_type: TrieType, c: char) -> (usize, bool)
         requires { self.now.header.trie_type ≡ trie_type }
-        ensures inside { result < length self.now.values }
-        ensures value { slice_get self.now.values result ≡ trie_value self.now c }
+        ensures inside { IsTrue result.1 → result.0 < length self.now.values }
+        ensures place { place_of self.now c ≡ Some result.0 }
     {
         let c = c as u32;
-        let (index, data) = (self.index.as_slice(), self.data.as_slice());
-        if c < trie_type.fast_limit() {
-            return fast_place_in(&self.header, index, data, c);
+        let index = self.index.as_slice();
+        if let Some(place) = self.fast_place(trie_type, index, c) {
+            return (place, true);
         }
         self.far_place(index, c)
+    }
+
+    /// Returns the value at a position, or the error value if it is outside the data. A position
+    /// that is known to be inside needs no test.
+    #[inline(always)]
+    fn value_at(&self, place: (usize, bool)) -> T
+        requires { IsTrue place.1 → place.0 < length self.now.values }
+        ensures { Some result
+            ≡ option_or (slice_get self.now.values place.0) (last_cell self.now.values) }
+    {
+        let data = self.data.as_slice();
+        if let Some(value) = data.get_known(place.0, place.1) {
+            return value;
+        }
+        data.at(Self::outside_place(data.len()))
     }
 
     /// Returns the value of a code point below the fast limit, in two reads.
     #[inline(always)]
-    pub(crate) fn fast_value(&self, c: u32) -> T
+    fn fast_value(&self, c: u32) -> T
         requires { c < fast_limit self.now.header.trie_type }
         ensures { Some result ≡ trie_value self.now c }
     {
-        let (index, data) = (self.index.as_slice(), self.data.as_slice());
-        data.at(fast_place_in(&self.header, index, data, c))
+        let offset = self.index.as_slice().at((c >> FAST_TYPE_SHIFT) as usize);
+        let place = offset as usize + (c % FAST_TYPE_DATA_BLOCK_LENGTH) as usize;
+        self.data.as_slice().at(place)
+    }
+
+    /// Returns the value of `c` in a trie of this type if `c` is below the fast limit, in two reads.
+    #[inline(always)]
+    pub(crate) fn fast_value_by_type(&self, trie_type: TrieType, c: u32) -> Option<T>
+        requires { self.now.header.trie_type ≡ trie_type }
+        ensures { result ≡ (if nat_lt c (fast_limit trie_type) then trie_value self.now c else None) }
+    {
+        match self.fast_place(trie_type, self.index.as_slice(), c) {
+            Some(place) => Some(self.data.as_slice().at(place)),
+            None => None,
+        }
     }
 
     /// Returns the value of `c` in a trie of this type.
@@ -258,8 +296,7 @@ impl<'trie, T: TrieValue> CodePointTrie<'trie, T> {
         requires { self.now.header.trie_type ≡ trie_type }
         ensures { Some result ≡ trie_value self.now c }
     {
-        let place = self.place_by_type(trie_type, c);
-        self.data.as_slice().at(place)
+        self.value_at(self.place_by_type(trie_type, c))
     }
 
     /// Returns the value of the character `c` in a trie of this type.
@@ -268,8 +305,7 @@ impl<'trie, T: TrieValue> CodePointTrie<'trie, T> {
         requires { self.now.header.trie_type ≡ trie_type }
         ensures { Some result ≡ trie_value self.now c }
     {
-        let place = self.character_place(trie_type, c);
-        self.data.as_slice().at(place)
+        self.value_at(self.character_place(trie_type, c))
     }
 
     /// Returns the value of the code point `c`, or the error value if `c` is above 0x10FFFF or if
@@ -297,11 +333,15 @@ impl<'trie, T: TrieValue> CodePointTrie<'trie, T> {
 
     /// Returns the value of a code point in the Basic Multilingual Plane (0..=0xFFFF), which may be
     /// a surrogate.
-    #[inline]
+    #[inline(always)]
     pub fn get16(&self, bmp: u16) -> T
         ensures { Some result ≡ trie_value self.now bmp }
     {
-        self.get32(u32::from(bmp))
+        let c = u32::from(bmp);
+        match self.header.trie_type {
+            TrieType::Fast => self.fast_value(c),
+            TrieType::Small => self.value_by_type(TrieType::Small, c),
+        }
     }
 
     /// Returns the value of a supplementary code point (0x10000..=0x10FFFF). For any other argument
@@ -345,7 +385,6 @@ impl<'trie, T: TrieValue> CodePointTrie<'trie, T> {
             header: self.header,
             index: self.index.try_clone(alloc)?,
             data: self.data.try_clone(alloc)?,
-            error_value: self.error_value,
         })
     }
 
@@ -355,7 +394,7 @@ impl<'trie, T: TrieValue> CodePointTrie<'trie, T> {
     pub fn error_value(&self) -> T
         ensures { Some result ≡ last_cell self.now.values }
     {
-        self.error_value
+        self.data.as_slice().at(self.data.len() - 1)
     }
 
     /// Returns the null value: the value whose number is in the header. For a built trie it is

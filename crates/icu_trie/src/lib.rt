@@ -30,4 +30,5 @@ pub mod ranges;
 pub mod ranges_of_value;
 pub mod typed;
 
+#[allow(unused_imports)]
 pub use icu_trie_core::{cells, coherent, header, impl_const, lookup, value, walk};

@@ -120,7 +120,7 @@ impl<'trie, T: TrieValue> CodePointTrie<'trie, T> {
         let null_value = self.null_value();
         // The first call, so that the closure can reject the error value before it gets any other
         // one. The result is not stored: the error value of a trie is the last cell of its data.
-        match f(self.error_value) {
+        match f(self.error_value()) {
             Ok(_) => {}
             Err(error) => return Err(MapError::Closure(error)),
         }

@@ -1,9 +1,8 @@
 //! The cells of two packed vectors, and the functions of the format that read only these.
-ghost use Rattle.std.specs.Prelude.{◌≡◌, ℕ, ◌+◌, ◌%◌, ◌<◌, ◌≤◌, List, length, slice_get, Some, IfSome, IfNone, IsSomeAnd, false};
+ghost use Rattle.std.specs.Prelude.{◌≡◌, ◌+◌, ◌%◌, ◌<◌, Some, IsSomeAnd};
 ghost use Rattle.std.specs.Option.{option_and_then};
 ghost use Rattle.icu_trie_core.specs.Coherence.{IsCoherent};
-ghost use Rattle.icu_trie_core.specs.FastIndex.{IsWhole};
-ghost use Rattle.icu_trie_core.specs.Format.{answer, fast_limit, small_offset};
+ghost use Rattle.icu_trie_core.specs.Format.{answer, small_offset};
 ghost use Rattle.icu_trie_core.specs.Range.{GivesWalk, last_of};
 ghost use Rattle.icu_trie_core.specs.Runs.{LongestRun};
 ghost use Rattle.icu_trie.specs.Parts.{cells_in};
@@ -11,7 +10,7 @@ ghost use Rattle.icu_zerovec.specs.Slice.{slice_values};
 
 use icu_trie_core::cells::{Cells, Steps};
 use icu_trie_core::header::{CodePointTrieHeader, TrieType};
-use icu_trie_core::lookup::{fast_place_of, high_place_of, small_place_of};
+use icu_trie_core::lookup::small_place_of;
 use icu_trie_core::range::CodePointMapRange;
 use icu_trie_core::value::TrieValue;
 use icu_trie_core::walk::walk;
@@ -65,108 +64,6 @@ impl<'a, T: TrieValue, L: Ledger> Cells<T> for PackedCells<'a, T, L> {
         self.reads.tick();
         self.values.at(i)
     }
-}
-
-/// `fast_place_of` over packed vectors.
-///
-/// # Contract
-/// It counts in the ledger of `blank`.
-#[inline(always)]
-fn fast_place_counted<T: TrieValue, L: Ledger>(
-    header: &CodePointTrieHeader,
-    index: ZeroSlice<'_, u16>,
-    values: ZeroSlice<'_, T>,
-    c: u32,
-    blank: Blank,
-) -> usize
-    requires name { blank.name ≡ L.name }
-    requires parts { blank.parts ≡ L.parts }
-    requires some { 0 < blank.parts }
-    requires whole { IsWhole header.now.trie_type (cells_in index values) }
-    requires below { c < fast_limit header.now.trie_type }
-    ensures inside { result < length (slice_values values.entry) }
-    ensures answer { answer header.now (cells_in index.entry values.entry) c
-        ≡ slice_get (slice_values values.entry) result }
-{
-    let mut cells = PackedCells {
-        index,
-        values,
-        reads: Steps::<L>::new(blank),
-    };
-    fast_place_of(header, &mut cells, c)
-}
-
-/// `fast_place_of` over packed vectors.
-///
-/// # Contract
-/// It counts in its own ledger, which it then drops.
-#[inline(always)]
-pub(crate) fn fast_place_in<T: TrieValue>(
-    header: &CodePointTrieHeader,
-    index: ZeroSlice<'_, u16>,
-    values: ZeroSlice<'_, T>,
-    c: u32,
-) -> usize
-    requires whole { IsWhole header.now.trie_type (cells_in index values) }
-    requires below { c < fast_limit header.now.trie_type }
-    ensures inside { result < length (slice_values values.entry) }
-    ensures answer { answer header.now (cells_in index.entry values.entry) c
-        ≡ slice_get (slice_values values.entry) result }
-{
-    fast_place_counted::<T, Brand>(header, index, values, c, Blank::new(1))
-}
-
-/// `high_place_of` over packed vectors.
-///
-/// # Contract
-/// It counts in the ledger of `blank`.
-#[inline(always)]
-fn high_place_counted<T: TrieValue, L: Ledger>(
-    header: &CodePointTrieHeader,
-    index: ZeroSlice<'_, u16>,
-    values: ZeroSlice<'_, T>,
-    c: u32,
-    blank: Blank,
-) -> usize
-    requires name { blank.name ≡ L.name }
-    requires parts { blank.parts ≡ L.parts }
-    requires some { 0 < blank.parts }
-    requires whole { IsWhole header.now.trie_type (cells_in index values) }
-    requires from { fast_limit header.now.trie_type ≤ c }
-    requires high { header.now.high_start ≤ c }
-    requires within { c < 0x110000 }
-    ensures inside { result < length (slice_values values.entry) }
-    ensures answer { answer header.now (cells_in index.entry values.entry) c
-        ≡ slice_get (slice_values values.entry) result }
-{
-    let cells = PackedCells {
-        index,
-        values,
-        reads: Steps::<L>::new(blank),
-    };
-    high_place_of(header, &cells, c)
-}
-
-/// `high_place_of` over packed vectors.
-///
-/// # Contract
-/// It counts in its own ledger, which it then drops.
-#[inline(always)]
-pub(crate) fn high_place_in<T: TrieValue>(
-    header: &CodePointTrieHeader,
-    index: ZeroSlice<'_, u16>,
-    values: ZeroSlice<'_, T>,
-    c: u32,
-) -> usize
-    requires whole { IsWhole header.now.trie_type (cells_in index values) }
-    requires from { fast_limit header.now.trie_type ≤ c }
-    requires high { header.now.high_start ≤ c }
-    requires within { c < 0x110000 }
-    ensures inside { result < length (slice_values values.entry) }
-    ensures answer { answer header.now (cells_in index.entry values.entry) c
-        ≡ slice_get (slice_values values.entry) result }
-{
-    high_place_counted::<T, Brand>(header, index, values, c, Blank::new(1))
 }
 
 /// `small_place_of` over packed vectors.

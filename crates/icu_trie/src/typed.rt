@@ -92,24 +92,6 @@ pub trait TypedCodePointTrie<'trie, T: TrieValue> {
             ≡ (if nat_lt c (fast_limit trie_type) then trie_value (parts self.now) c else None) };
 }
 
-/// Returns the value of `c`, in a trie of this type, if `c` is below the fast limit. Otherwise
-/// returns `None`.
-#[inline(always)]
-fn fast_value_of<T: TrieValue>(
-    trie: &CodePointTrie<'_, T>,
-    trie_type: TrieType,
-    c: u32,
-) -> Option<T>
-    requires { trie.now.header.trie_type ≡ trie_type }
-    ensures { result ≡ (if nat_lt c (fast_limit trie_type) then trie_value trie.now c else None) }
-{
-    if c < trie_type.fast_limit() {
-        Some(trie.fast_value(c))
-    } else {
-        None
-    }
-}
-
 /// A trie of the type `Fast`: look-ups in the whole Basic Multilingual Plane take two reads.
 #[derive(Debug, Drop)]
 pub struct FastCodePointTrie<'trie, T: TrieValue> {
@@ -167,7 +149,7 @@ impl<'trie, T: TrieValue> TypedCodePointTrie<'trie, T> for FastCodePointTrie<'tr
 
     #[inline(always)]
     fn get32_by_fast_index(&self, c: u32) -> Option<T> {
-        fast_value_of(&self.inner, TrieType::Fast, c)
+        self.inner.fast_value_by_type(TrieType::Fast, c)
     }
 }
 
@@ -228,7 +210,7 @@ impl<'trie, T: TrieValue> TypedCodePointTrie<'trie, T> for SmallCodePointTrie<'t
 
     #[inline(always)]
     fn get32_by_fast_index(&self, c: u32) -> Option<T> {
-        fast_value_of(&self.inner, TrieType::Small, c)
+        self.inner.fast_value_by_type(TrieType::Small, c)
     }
 }
 
@@ -273,7 +255,6 @@ impl<'trie, T: TrieValue> CodePointTrie<'trie, T> {
             header: self.header,
             index: self.index.as_slice().as_zerovec(),
             data: self.data.as_slice().as_zerovec(),
-            error_value: self.error_value,
         }
     }
 }

@@ -18,6 +18,7 @@ pub trait Cells<T> {
     ghost reads: { Self → ℕ };
 
     /// Returns the number of cells in the index. Does not count as a read.
+    #[allow(dead_code)]
     fn index_len(&self) -> usize
         ensures { result ≡ length (contents self.now).index };
 

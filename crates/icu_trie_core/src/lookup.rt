@@ -1,5 +1,5 @@
 //! Look-ups in a trie.
-ghost use Rattle.std.specs.Prelude.{◌≡◌, ℕ, ◌+◌, ◌^◌, ◌<◌, ◌≤◌, ◌/◌, ◌%◌, ◌-◌, List, Some, None, length, slice_get, IfSome, false};
+ghost use Rattle.std.specs.Prelude.{◌≡◌, ℕ, ◌+◌, ◌^◌, ◌<◌, ◌≤◌, ◌/◌, ◌%◌, ◌-◌, List, Some, None, length, IfSome, false};
 ghost use Rattle.std.specs.Option.{option_and_then};
 ghost use Rattle.icu_trie_core.specs.Format.{answer, fast_limit, high_cell, index2_cell, offset_in_block, long_offset, place, small_offset};
 ghost use Rattle.icu_trie_core.specs.FastIndex.{IsWhole};
@@ -132,62 +132,6 @@ pub fn look_up<T, C: Cells<T>>(header: &CodePointTrieHeader, cells: &mut C, c: u
     look_up_far(header, cells, c)
 }
 
-/// Returns the data position of the cell of `c`, in one read. `c` must be below the fast limit, and
-/// the fast index must be whole.
-///
-/// The fast index is whole if it has a cell for each block of 64 below the fast limit, and all
-/// these blocks are inside the data. Then no bounds check is needed, and there always is a cell.
-/// Every trie whose parts were checked when it was made has a whole fast index.
-///
-/// Public for the crates that build on this one.
-#[inline(always)]
-#[tactic(auto, unfolding(crate::specs::Format::answer))]
-pub fn fast_place_of<T, C: Cells<T>>(header: &CodePointTrieHeader, cells: &mut C, c: u32) -> usize
-    requires whole { IsWhole header.now.trie_type (C.contents cells.old) }
-    requires below { c < fast_limit header.now.trie_type }
-    ensures inside { result < length (C.contents cells.old).values }
-    ensures answer { answer header.now (C.contents cells.old) c
-        ≡ slice_get (C.contents cells.old).values result }
-    ensures reads { C.reads cells.new ≡ C.reads cells.old + 1 }
-    ensures kept { C.contents cells.new ≡ C.contents cells.old }
-{
-    let offset = cells.index_at((c >> FAST_TYPE_SHIFT) as usize);
-    offset as usize + (c & FAST_TYPE_DATA_MASK) as usize
-}
-
-/// Returns the cell of `c`, in two reads. `c` must be below the fast limit, and the fast index must
-/// be whole, as for [`fast_place_of`].
-#[inline(always)]
-fn look_up_fast<T, C: Cells<T>>(header: &CodePointTrieHeader, cells: &mut C, c: u32) -> T
-    requires whole { IsWhole header.now.trie_type (C.contents cells.old) }
-    requires below { c < fast_limit header.now.trie_type }
-    ensures answer { answer header.now (C.contents cells.old) c ≡ Some result }
-    ensures reads { C.reads cells.new ≡ C.reads cells.old + 2 }
-    ensures kept { C.contents cells.new ≡ C.contents cells.old }
-{
-    let place = fast_place_of(header, cells, c);
-    cells.data_at(place)
-}
-
-/// Returns the data position of the high value, which is the cell of `c`. `c` must be at or above
-/// the fast limit and the high start, and at most 0x10FFFF.
-///
-/// The fast index must be whole, which implies that the data have a high value. Reads nothing.
-/// Public for the crates that build on this one.
-#[inline(always)]
-#[tactic(auto, unfolding(crate::specs::Format::answer))]
-pub fn high_place_of<T, C: Cells<T>>(header: &CodePointTrieHeader, cells: &C, c: u32) -> usize
-    requires whole { IsWhole header.now.trie_type (C.contents cells.now) }
-    requires from { fast_limit header.now.trie_type ≤ c }
-    requires high { header.now.high_start ≤ c }
-    requires within { c < 0x110000 }
-    ensures inside { result < length (C.contents cells.now).values }
-    ensures answer { answer header.now (C.contents cells.now) c
-        ≡ slice_get (C.contents cells.now).values result }
-{
-    cells.data_len() - HIGH_VALUE_NEG_DATA_OFFSET as usize
-}
-
 /// Returns what [`look_up`] returns for `c`, which is at or above the fast limit.
 ///
 /// Each case reads its own data cell, since one shared read at the end would cost each case an
@@ -230,8 +174,11 @@ fn look_up_small<T, C: Cells<T>>(header: &CodePointTrieHeader, cells: &mut C, c:
 /// needs no bounds checks.
 ///
 /// The fast index is whole if it has a cell for each block of 64 below the fast limit, and all
-/// these blocks are inside the data.
+/// these blocks are inside the data. Every trie whose parts were checked when it was made has a
+/// whole fast index.
+#[allow(dead_code)]
 #[inline(always)]
+#[tactic(auto, unfolding(crate::specs::Format::answer))]
 pub fn look_up_whole<T, C: Cells<T>>(
     header: &CodePointTrieHeader,
     cells: &mut C,
@@ -243,7 +190,8 @@ pub fn look_up_whole<T, C: Cells<T>>(
     ensures kept { C.contents cells.new ≡ C.contents cells.old }
 {
     if c < header.trie_type.fast_limit() {
-        return Some(look_up_fast(header, cells, c));
+        let offset = cells.index_at((c >> FAST_TYPE_SHIFT) as usize);
+        return Some(cells.data_at(offset as usize + (c & FAST_TYPE_DATA_MASK) as usize));
     }
     look_up_far(header, cells, c)
 }

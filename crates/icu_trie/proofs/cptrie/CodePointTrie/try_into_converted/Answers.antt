@@ -11,7 +11,7 @@ with_data-requires g c =
     let same : g.T.AsULE.WIDTH ≡ g.P.AsULE.WIDTH = sym c.WIDTH.ensures ∙ (c.if-WIDTH.false ∙ c.WIDTH-2.ensures) in
     fault-kept g.T.TrieValue.of_number g.P.TrieValue.of_number c.self.inside.header c.self.inside.index c.self.inside.«data» c.in-Ok.«data»
     (g.P.TrieValue.number c.in-Some.null) c.in-Some.null
-    c.self.invariant.1
+    c.self.invariant
     (length-converted g.T.AsULE.unpack g.P.AsULE.unpack g.T.AsULE.WIDTH g.P.AsULE.WIDTH c.self.inside.«data» c.in-Ok.«data» same
     c.in-Ok.ensures.bytes)
     (g.met.P.TrieValue.number_gives_back c.in-Some.null c.shown.ensures)
