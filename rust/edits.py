@@ -70,7 +70,6 @@ EDITS = {
     # That there are as many cells as before is proved only for lawful types, so it is asserted.
     "icu_trie/map_value": [
         (r"(\n +)(?=let index = self\.index)", r"\1assert_eq!(data.len(), self.data.len());\1", 1),
-        (r"self\.error_value\)", "self.error_value())", 1),
     ],
     # serde spells ranges as JSON does, and reads tables from any format.
     "icu_invlist/lib": [(r"(?m)^(?=mod spelling;)", "pub(crate) ", 1)],
@@ -88,66 +87,16 @@ EDITS = {
     ],
     # A constant cannot read a value of any type, so the error value is not stored beside the data.
     "icu_trie/cptrie": [
-        (r"\n +\x01\d+\x03\n +pub\(crate\) error_value: T,", "", 1),
-        (r"let Some\(error_value\) = data", "let Some(_) = data", 1),
-        (r"\n +error_value(?:: self\.error_value)?,(?=\n +\})", "", 2),
-        (r"self\.error_value(?=\n)", "self.data.as_slice().at(self.data.len() - 1)", 1),
-        # With each read tested, one test finds out whether a code point is below the fast limit and
-        # whether it has a cell. The limit is computed: LLVM repeats a choice between
-        # two limits for each character.
-        (
-            r"( +)(?=if c < trie_type\.fast_limit\(\) \{\n)",
-            r'\1#[cfg(not(feature = "proved-reads"))]\n'
-            r"\1if let Some(offset) = usual_cell(T::WIDTH, index.as_bytes(), 0x1000 << (4 * u32::from(trie_type == TrieType::Fast)), FAST_TYPE_SHIFT, c) {\n"
-            r"\1    return offset as usize + (c & FAST_TYPE_DATA_MASK) as usize;\n\1}\n"
-            r'\1#[cfg(feature = "proved-reads")]\n\1',
-            2,
-        ),
-        (
-            r"let \(index, data\) = \((self\.index\.as_slice\(\)), self\.data\.as_slice\(\)\);(?=\n +#\[cfg\(not)",
-            r"let index = \1;",
-            2,
-        ),
-        (r"(return fast_place_in\(&self\.header, index, )data, c", r"\1self.data.as_slice(), c", 2),
         # One test for all cells of the fast index.
         (
             r"( +)(?=for i in 0\.\.half \{\n)",
             r"\1let index: ZeroSlice<'_, u16> = ZeroSlice::from_packed(&index.as_bytes()[..4 * half]);\n\1",
             1,
         ),
-        # By value, so that a trie on the stack need not be stored for the call.
-        (
-            r"fn outside_place\(&self, c: u32\) -> usize \{\n +let _ = c;\n +self\.data\.len\(\) - 1",
-            "fn outside_place(cells: usize) -> usize {\n        cells - 1",
-            1,
-        ),
-        (r"self\.outside_place\(c\)", "Self::outside_place(self.data.len())", 1),
-        # Nor is a position tested twice: the read of the value tests it.
-        (
-            r"( +)if place < data\.len\(\) \{\n +place\n",
-            r'\1if cfg!(not(feature = "proved-reads")) || place < data.len() {\n\1    place\n',
-            1,
-        ),
-        (
-            r"( +)(?=self\.data\.as_slice\(\)\.at\(place\)\n)",
-            r'\1#[cfg(not(feature = "proved-reads"))]\n'
-            r"\1if let Some(value) = self.data.get(place) {\n\1    return value;\n\1}\n"
-            r'\1#[cfg(not(feature = "proved-reads"))]\n\1let place = Self::outside_place(self.data.len());\n\1',
-            2,
-        ),
-        (
-            r"(?=use icu_trie_core::error)",
-            r'#[cfg(not(feature = "proved-reads"))]\nuse crate::support::cells::usual_cell;\n'
-            r'#[cfg(not(feature = "proved-reads"))]\n'
-            r"use icu_trie_core::impl_const::{FAST_TYPE_DATA_MASK, FAST_TYPE_SHIFT};\n",
-            1,
-        ),
     ],
     "icu_trie/convert": [
         # rust/face has one with the error of the Rust crate.
         (r"fn try_into_converted", "fn try_into_converted_explained", 1),
-        (r"\n +error_value(?:: _)?,(?=\n +\})", "", 2),
-        (r"let Some\(error_value\) = data\.last\(\) else \{\s*unreachable!\(\);?\s*\};\s*", "", 1),
     ],
     # rust/face has a TryFrom whose error is no failed allocation.
     "icu_invlist/codepointinvlist/conversions": [(r"fn try_from(?=<R)", "fn try_from_range", 1)],
@@ -159,7 +108,6 @@ EDITS = {
         (r"type TryFromU32Error;", "type TryFromU32Error: core::fmt::Display;", 1),
     ],
     "icu_trie/typed": [
-        (r"\n +error_value: self\.error_value,", "", 1),
         (r"(const TRIE_TYPE: TrieType;\n)", rf"\1{UNTYPED}", 1),
         (r"(const TRIE_TYPE: TrieType = TrieType::\w+;\n)", rf"\1{UNTYPED_BODIES}", 2),
     ],
