@@ -27,41 +27,6 @@ UNTYPED_BODIES = """
 """
 # Changes to one source: pattern, replacement, and how often the pattern occurs.
 EDITS = {
-    # rustc gets the test of UTF-8 that needs no `std::simd`.
-    "icu_collections_c/well_formed": [
-        (r"mod proved;\n", "", 1),
-        (r"use proved::", "use tested::", 1),
-    ],
-    # rustc gets the bodies with a test, or with the feature `proved-reads` those with a proof.
-    "icu_zerovec/raw": [
-        (r"mod proved;\n", '#[cfg(feature = "proved-reads")]\nmod proved;\n', 1),
-        (r"mod tested;\n", '#[cfg(not(feature = "proved-reads"))]\nmod tested;\n', 1),
-        (
-            r"pub use proved(::\{[^}]*\};\n)",
-            r'#[cfg(feature = "proved-reads")]\npub(crate) use proved\1#[cfg(not(feature = "proved-reads"))]\npub(crate) use tested\1',
-            1,
-        ),
-    ],
-    "icu_zerovec/raw/proved": [
-        (r"&bytes\[start\.\.start \+ width\]", "crate::support::cells::unchecked(bytes, start, width)", 1),
-    ],
-    # Of two bodies with one contract, the one with fewer tests.
-    "icu_invlist/codepointinvlist/cpinvlist/words": [(r"use proved::", "use tested::", 1), (r"mod proved;\n", "", 1)],
-    # A struct with a value of a type parameter is not copied from behind a reference in the source.
-    "icu_collections_c/texts": [
-        (
-            r"(?s)(fn clone\(&self\) -> )Result<([^{]*), AllocError>( \{\s*)Ok\(TextValues \{.*?\}\)",
-            r"\1\2\3*self",
-            1,
-        ),
-        (r"use crate::support::AllocError;\n", "", 1),
-    ],
-    # Two types that differ in lifetimes only may have different widths, so a vector of one must not
-    # be accepted as a vector of the other.
-    **dict.fromkeys(
-        ["icu_zerovec/vec", "icu_zerovec/slice", "icu_zerovec/iter"],
-        [(r"\bof: PhantomData<T>", "of: PhantomData<fn(T) -> T>", 1)],
-    ),
     # The Rust crate passes a reference to a vector.
     "icu_char16trie/cursor": [
         (r"pub fn new\(trie: (ZeroSlice<'a, u16>)\)", r"pub fn new(trie: impl Into<\1>)", 1),

@@ -2,7 +2,6 @@
 //! allocations.
 
 #[allow(dead_code)] // Only the library uses it.
-pub(crate) mod cells;
 #[cfg(not(feature = "alloc"))]
 mod empty;
 #[cfg(feature = "alloc")]
