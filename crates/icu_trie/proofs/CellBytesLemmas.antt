@@ -2,7 +2,6 @@
 use Rattle.std.proofs.Common.{◌≡◌, ℕ, ◌+◌, ◌-◌, ◌*◌, ◌/◌, ◌<◌, ◌≤◌, List, length, take, drop, slice_get, Option, Some, arith, sym, ◌∙◌, ap}
 use Rattle.std.specs.List.{slice_range}
 use Rattle.std.specs.Option.{option_map}
-use Rattle.std.proofs.lemmas.List.{length-take-le, length-drop}
 use Rattle.std.proofs.lemmas.Nat.{div-add-mod', row_fits}
 use Rattle.icu_zerovec.specs.Canonical.{IsCanonical}
 use Rattle.icu_zerovec.specs.Cells.{cell, values_of, IsPacked}

@@ -12,7 +12,7 @@ use Rattle.std.specs.Bool.{MatchBool}
 use mathlib.Core.Bool.{beq}
 use Rattle.std.specs.List.{All, Any, count_by}
 use Rattle.std.specs.List.Sorted.{IsStrictlyIncreasing}
-use Rattle.icu_invlist.specs.InversionList.{IsValid, holds, is_odd, ends_up_to}
+use Rattle.icu_invlist.specs.InversionList.{holds, is_odd, ends_up_to}
 use Rattle.icu_trie_core.specs.Runs.{AreRunsFrom}
 use Rattle.icu_trie_core.specs.Range.{first_of, last_of, run_of}
 use Rattle.icu_trie.specs.Ranges.{IsInRangeOf}

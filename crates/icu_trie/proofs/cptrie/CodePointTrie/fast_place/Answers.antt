@@ -1,5 +1,5 @@
 -- The cell of the fast index is there, and it names a block inside the data.
-use Rattle.std.proofs.Common.{◌+◌, ◌%◌, ◌/◌, ◌<◌, arith}
+use Rattle.std.proofs.Common.{arith}
 use Rattle.icu_trie.proofs.Positions.{below_limit, fast_inside, fast_position, past_limit, sound_of, whole_of}
 use Rattle.icu_trie.proofs.cptrie.CodePointTrie.fast_place.Goals as goal
 

@@ -1,5 +1,5 @@
 -- The position is inside the data.
-use Rattle.std.proofs.Common.{◌≡◌, ◌+◌, ◌%◌, ◌/◌, ◌<◌, slice_get, Some, arith, ap, sym, ◌∙◌}
+use Rattle.std.proofs.Common.{◌≡◌, ◌+◌, ◌%◌, ◌/◌, slice_get, Some, arith, ap}
 use Rattle.icu_trie.specs.Parts.{Parts}
 use Rattle.icu_trie.proofs.Positions.{fast_inside, fast_position, found_at, sound_of}
 use Rattle.icu_trie.proofs.cptrie.CodePointTrie.fast_value.Goals as goal

@@ -4,11 +4,11 @@ use Rattle.icu_trie.proofs.MappedTrieLemmas.{answers-from_maps, value-from_maps,
 use Rattle.icu_trie.proofs.cptrie.CodePointTrie.try_alloc_map_value.Goals as goal
 
 pub returns-in-Err-clause-maps : goal.returns-in-Err-clause-maps
-returns-in-Err-clause-maps g c = MapsInTurn-seen c.self.view_is (sym c.error_value.ensures) c.null_value-null_value.ensures
+returns-in-Err-clause-maps g c = MapsInTurn-seen refl (sym c.error_value.ensures) c.null_value-null_value.ensures
     [] (Some c.in-Err.error) c.f.new.self c.in-Err.ensures refl
 
 pub returns-in-Err-f-clause-maps : goal.returns-in-Err-f-clause-maps
-returns-in-Err-f-clause-maps g c = MapsInTurn-seen c.self.view_is (sym c.error_value.ensures) c.null_value-null_value.ensures
+returns-in-Err-f-clause-maps g c = MapsInTurn-seen refl (sym c.error_value.ensures) c.null_value-null_value.ensures
     (c.in-Ok.field-0 ∷ []) (Some c.in-Err-f.error) c.f-2.new.self (c.f.new.self, c.in-Ok.ensures, c.in-Err-f.ensures) refl
 
 pub map_cells-requires : goal.map_cells-requires
