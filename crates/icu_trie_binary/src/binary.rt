@@ -51,13 +51,11 @@ pub(crate) fn null_number<T: TrieValue>(header: &BinaryHeader, values: ZeroSlice
     } else {
         header.data_length.saturating_sub(2)
     };
-    match values.get(place as usize) {
-        Some(value) => {
-            value.shown();
-            value.to_u32()
-        }
-        None => 0,
-    }
+    let Some(value) = values.get(place as usize) else {
+        return 0;
+    };
+    value.shown();
+    value.to_u32()
 }
 
 /// Returns the header of a trie with these values.
@@ -68,7 +66,7 @@ fn trie_header<T: TrieValue>(header: &BinaryHeader, values: ZeroSlice<'_, T>) ->
     let high_start = u32::from(header.shifted_high_start) * 0x200;
     CodePointTrieHeader {
         high_start,
-        shifted12_high_start: ((high_start + 0xfff) / 0x1000) as u16,
+        shifted12_high_start: high_start.div_ceil(0x1000) as u16,
         index3_null_offset: header.index3_null_offset,
         data_null_offset: header.data_null_offset,
         null_value: null_number(header, values),

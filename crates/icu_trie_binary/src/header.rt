@@ -135,7 +135,7 @@ pub(crate) fn header_of(bytes: &[u8]) -> Result<BinaryHeader, BinaryError>
     let Some(value_width) = width_of(options) else {
         return Err(BinaryError::UnknownWidth);
     };
-    if options / 8 % 8 != 0 {
+    if !(options / 8).is_multiple_of(8) {
         return Err(BinaryError::Reserved);
     }
     Ok(fields_of(bytes, trie_type, value_width))

@@ -55,7 +55,7 @@ fn header_for<T: TrieValue>(trie: &CodePointTrie<'_, T>) -> Result<BinaryHeader,
     if header.data_null_offset > 0xF_FFFF {
         return Err(WriteError::NullOffset);
     }
-    if header.high_start % 0x200 != 0 || header.high_start > 0x1FF_FFFF {
+    if !header.high_start.is_multiple_of(0x200) || header.high_start > 0x1FF_FFFF {
         return Err(WriteError::HighStart);
     }
     let written = BinaryHeader {
