@@ -12,6 +12,7 @@
     clippy::needless_range_loop,
     clippy::manual_find,
     clippy::manual_range_contains,
+    clippy::manual_is_multiple_of,
     clippy::while_let_on_iterator,
     clippy::collapsible_if,
     clippy::wrong_self_convention
@@ -25,6 +26,7 @@ use core::ffi::c_void;
 mod exports;
 #[forbid(unsafe_code)]
 mod icu_collections_c;
+mod trie;
 
 unsafe extern "C" {
     fn malloc(size: usize) -> *mut c_void;
@@ -99,7 +101,7 @@ unsafe fn slice_mut<'a, T>(first: *mut T, count: usize) -> &'a mut [T] {
 #[inline(never)]
 fn cold() {}
 
-// The modules of rust/bekstaudi. rust/make writes this list.
+// The modules of rust/bekstaudi. `serde_forms` is not among them: there is no feature serde here.
 #[forbid(unsafe_code)]
 #[path = "../../bekstaudi/src/char16trie.rs"]
 mod char16trie;

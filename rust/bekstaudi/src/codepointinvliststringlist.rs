@@ -15,7 +15,9 @@ pub use crate::icu_text_sets::codepointinvliststringlist::{
 };
 pub use crate::strings::{Strings, StringsIter};
 
+use crate::codepointinvlist::CodePointInversionList;
 use crate::plain::plain;
+use crate::support::prelude::{String, Vec};
 
 /// Borrows the code points if the set borrows them, and copies all else.
 ///
@@ -24,6 +26,24 @@ use crate::plain::plain;
 impl Clone for CodePointInversionListAndStringList<'_> {
     fn clone(&self) -> Self {
         plain(self.try_clone_with(self.code_points().clone()))
+    }
+}
+
+impl<'data> CodePointInversionListAndStringList<'data> {
+    /// Returns the set with these code points and strings, which it takes over.
+    ///
+    /// # Errors
+    /// Returns the first fault in `str_list`, with the strings at fault. Each string is tested in
+    /// this order:
+    /// - `InvalidStringLength` if the string has exactly one code point,
+    /// - `StringListNotUnique` if the next string is equal,
+    /// - `StringListNotSorted` with both strings if the next string is less, compared by bytes.
+    #[inline]
+    pub fn try_from(
+        cp_inv_list: CodePointInversionList<'data>,
+        str_list: impl Into<Vec<String>>,
+    ) -> Result<Self, InvalidStringList> {
+        Self::try_from_explained(cp_inv_list, str_list.into())
     }
 }
 

@@ -136,7 +136,6 @@ pub mod zerovec;
 
 pub use plain::iterator_utils;
 
-// rust/make writes the two lists.
 macro_rules! generated {
     ($($name:ident)*) => {
         modules! { all(): $($name)* }
@@ -148,29 +147,33 @@ macro_rules! generated_with_alloc {
     };
 }
 // What is allowed is what the proofs are about: loops over indices, also in searches, bounds that
-// are compared one by one, a `while` over an iterator that is used afterwards, and nested cases.
+// are compared one by one, remainders, a `while` over an iterator that is used afterwards, and
+// nested cases. A module imports what its proved source does, also what only clauses name.
 macro_rules! modules {
     ($on:meta: $($name:ident)*) => {
         $(#[cfg($on)]
         #[allow(
+            unused_imports,
             clippy::needless_range_loop,
             clippy::manual_find,
             clippy::manual_range_contains,
+            clippy::manual_is_multiple_of,
             clippy::while_let_on_iterator,
             clippy::collapsible_if
         )]
         // Without these features nothing uses what they need.
         #[cfg_attr(
             not(all(feature = "alloc", feature = "json")),
-            allow(dead_code, unused_imports)
+            allow(dead_code)
         )]
         mod $name;)*
     };
 }
 
+// The crates of crates.txt, and those of which nothing works without the feature `alloc`.
 generated! {
-    icu_zerovec icu_invlist icu_invlist_binary icu_char16trie icu_trie_core icu_trie
-    icu_trie_formats icu_trie_binary icu_trie_text
+    icu_zerovec icu_invlist icu_invlist_binary icu_char16trie icu_trie_core icu_trie icu_trie_formats
+    icu_trie_binary icu_trie_text
 }
 generated_with_alloc! {
     icu_text_sets icu_frozen_sets icu_char16trie_builder icu_trie_map icu_trie_compaction

@@ -257,9 +257,38 @@ pub mod time {
 #[allow(unused_imports)]
 pub use std::{io, process};
 
+/// What errors of Rattle's crates say of allocations.
+pub trait IsMemory {
+    /// Returns whether an allocation failed, which ends the program.
+    fn is_memory(&self) -> bool {
+        false
+    }
+}
+
+impl<E: core::error::Error> IsMemory for E {}
+
+/// Lists to which another one is appended, if allocation succeeds.
+pub trait Lists {
+    fn try_append(&mut self, other: &mut Self) -> Result<(), AllocError>;
+}
+
+impl<T> Lists for Vec<T> {
+    fn try_append(&mut self, other: &mut Self) -> Result<(), AllocError> {
+        self.try_reserve(other.len()).map_err(|_| AllocError)?;
+        self.append(other);
+        Ok(())
+    }
+}
+
 impl From<AllocError> for io::Error {
     fn from(_: AllocError) -> io::Error {
         io::ErrorKind::OutOfMemory.into()
+    }
+}
+
+impl From<AllocError> for bekstaudi::zerovec::MemoryError {
+    fn from(_: AllocError) -> Self {
+        bekstaudi::zerovec::MemoryError
     }
 }
 

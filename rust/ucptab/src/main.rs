@@ -1,12 +1,13 @@
 //! The program ucptab: crates/ucptab and crates/ucptab_table without their proofs, over
 //! `bekstaudi`.
 #![deny(unsafe_code)]
+#![allow(unused_imports)] // Each module imports the same names of `host` and `support`.
 
 extern crate alloc;
 
 mod host;
 mod ledger;
-#[allow(dead_code, unused_imports, unused_macros)]
+#[allow(dead_code, unused_macros)]
 mod support;
 #[allow(unused_variables)]
 mod ucptab;

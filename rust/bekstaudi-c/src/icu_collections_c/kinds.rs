@@ -6,6 +6,7 @@ use crate::icu_collections_c::short_characters::has_short;
 use crate::icu_collections_c::spans::long_span;
 use crate::icu_collections_c::wide_characters::{Passed, past_threes};
 use crate::icu_zerovec::CODE_POINT_LIMIT;
+use crate::support::prelude::*;
 
 /// After so many bytes a span goes on by tables. Making them takes about as long as passing these.
 pub(crate) const LONG: usize = 64;

@@ -3,6 +3,7 @@
 
 use crate::icu_collections_c::frozen::contains;
 use crate::icu_collections_c::wide_characters::Passed;
+use crate::support::prelude::*;
 
 /// Returns the character of one byte at the start of the bytes, or `None` if there is none.
 #[inline(always)]

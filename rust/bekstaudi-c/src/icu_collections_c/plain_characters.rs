@@ -1,5 +1,6 @@
 //! ASCII, eight bytes at a time: the table of a kind, and how many bytes are ASCII.
 
+use crate::support::prelude::*;
 /// Writes eight bits to the table, each as a byte that is 0 if the bit is.
 #[inline(always)]
 fn write_bits(others: &mut [u8; 256], start: usize, bits: u8) {

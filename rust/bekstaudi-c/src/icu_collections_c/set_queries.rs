@@ -1,5 +1,6 @@
 //! Subsets, and the code points of a set by their index.
 
+use crate::support::prelude::*;
 /// Returns the index of the first boundary from index `from` on that is above `c`, or the number of
 /// boundaries if there is none.
 #[inline]

@@ -3,6 +3,7 @@
 
 use crate::icu_collections_c::frozen::{PLACE_WORDS, place_of, word};
 use crate::icu_collections_c::kinds::turned;
+use crate::support::prelude::*;
 
 /// The bits of the bytes from 0xC0 on: whether they start a character of two bytes.
 const LEADS: u64 = 0xFFFF_FFFC;

@@ -1,5 +1,6 @@
 //! The errors of the functions that return a count.
 
+use crate::support::prelude::*;
 /// Why a function returns no count: `enum bks_refusal` of `c/bekstaudi.h`, which has the same names
 /// and numbers. An error in place of a count leaves the caller's buffers unchanged.
 #[derive(Clone, Copy)]

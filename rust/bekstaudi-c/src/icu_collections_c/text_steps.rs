@@ -2,6 +2,7 @@
 
 use crate::icu_char16trie::char16trie::Char16TrieCursor;
 use crate::icu_trie_text::characters::first_character;
+use crate::support::prelude::*;
 
 /// Returns true if the bytes are not empty and do not start with a character.
 #[inline(always)]

@@ -6,6 +6,7 @@ use crate::icu_collections_c::buffers::write;
 use crate::icu_collections_c::status::Refusal;
 use crate::icu_collections_c::unit_tries::{Cursor, place_of};
 use crate::icu_collections_c::units::trie_in;
+use crate::support::prelude::*;
 
 /// Writes the units that can come next in some key to the start of a buffer, as many as fit.
 /// Returns how many there are, at most 65,536. If the units are a trie, they ascend, each once. If

@@ -3,6 +3,7 @@
 use crate::icu_collections_c::status::Refusal;
 use crate::icu_collections_c::text_steps::{pass_character, starts_ill_formed};
 use crate::icu_collections_c::units::trie_in;
+use crate::support::prelude::*;
 
 /// The most prefixes that can be returned: `i64::MAX`.
 const MOST: usize = 0x7FFF_FFFF_FFFF_FFFF;

@@ -4,6 +4,7 @@ use crate::icu_collections_c::status::Refusal;
 use crate::icu_collections_c::unit_building::{bks_units_build, has_units};
 use crate::icu_collections_c::unit_keys::transcoded;
 use crate::icu_collections_c::units::{give, trie_in};
+use crate::support::prelude::*;
 use core::fmt::Write;
 
 /// Looks up a key in UTF-8, by its UTF-16 units. Returns true and stores its value in `value`.

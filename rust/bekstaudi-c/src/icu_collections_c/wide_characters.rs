@@ -3,6 +3,7 @@
 
 use crate::icu_collections_c::frozen::{PLACE_WORDS, word};
 use crate::icu_collections_c::short_characters::has_short;
+use crate::support::prelude::*;
 
 /// In the table of block offsets: the block has no character of three bytes.
 const NO_PLACE: u16 = 0xFFFF;

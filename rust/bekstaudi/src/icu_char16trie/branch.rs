@@ -7,6 +7,7 @@ use crate::icu_char16trie::impl_const::{
     MAX_BRANCH_LINEAR_SUB_NODE_LENGTH, MIN_TWO_UNIT_DELTA_LEAD, VALUE_IS_FINAL,
 };
 use crate::icu_zerovec::ZeroSlice;
+use crate::support::prelude::*;
 
 /// Returns the index of the child node of `unit` in a row, which has at most five entries.
 #[inline(always)]

@@ -9,3 +9,4 @@ pub use crate::icu_char16trie::listing::Entries;
 pub use crate::icu_char16trie::matches::Matches;
 pub use crate::icu_char16trie::place::CursorPlace;
 pub use crate::icu_char16trie::trie::Char16Trie;
+use crate::support::prelude::*;

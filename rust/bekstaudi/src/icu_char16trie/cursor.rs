@@ -20,8 +20,8 @@ pub struct Char16TrieCursor<'a> {
 
 impl<'a> Char16TrieCursor<'a> {
     /// Creates a cursor at the root of the trie with these units.
-    #[must_use]
     #[inline]
+    #[must_use]
     pub fn new(trie: impl Into<ZeroSlice<'a, u16>>) -> Self {
         Char16TrieCursor {
             units: trie.into(),
@@ -43,8 +43,8 @@ impl<'a> Char16TrieCursor<'a> {
     /// same.step('b');
     /// assert_eq!(same.value(), Some(3));
     /// ```
-    #[must_use]
     #[inline]
+    #[must_use]
     pub fn resume(trie: ZeroSlice<'a, u16>, place: CursorPlace) -> Self {
         Char16TrieCursor {
             units: trie,
@@ -55,8 +55,8 @@ impl<'a> Char16TrieCursor<'a> {
     /// Returns the position of the cursor, from which [`resume`](Self::resume) continues.
     ///
     /// ICU: `saveState`.
-    #[must_use]
     #[inline]
+    #[must_use]
     pub fn place(&self) -> CursorPlace {
         numbers_of(self.place)
     }
@@ -90,16 +90,16 @@ impl<'a> Char16TrieCursor<'a> {
 
     /// Returns the value of the units so far if they are a key. The value is 0 if some of its own
     /// units are missing.
-    #[must_use]
     #[inline]
+    #[must_use]
     pub fn value(&self) -> Option<i32> {
         value_at(self.units, self.place)
     }
 
     /// Returns true if no key continues after the units so far: if they match nothing, if they end
     /// in a final value, or if the lead unit of their node is missing.
-    #[must_use]
     #[inline]
+    #[must_use]
     pub fn is_empty(&self) -> bool {
         is_empty_at(self.units, self.place)
     }
@@ -130,8 +130,8 @@ impl<'a> Char16TrieCursor<'a> {
     /// assert!(!entries.advance());
     /// # Ok::<(), Box<dyn std::error::Error>>(())
     /// ```
-    #[must_use]
     #[inline]
+    #[must_use]
     pub fn entries(&self) -> Entries<'a> {
         Entries::new(self.units, self.place)
     }

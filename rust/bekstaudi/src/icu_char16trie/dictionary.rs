@@ -7,6 +7,7 @@ use crate::icu_char16trie::matches::Matches;
 use crate::icu_char16trie::step::value_by;
 use crate::icu_char16trie::trie::Char16Trie;
 use crate::icu_zerovec::ZeroSlice;
+use crate::support::prelude::*;
 
 /// Returns the match of the first `n` units if they have a value, and otherwise the earlier match.
 #[inline(always)]

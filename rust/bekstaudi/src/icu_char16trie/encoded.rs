@@ -5,13 +5,15 @@ use crate::icu_char16trie::impl_const::{
     THREE_UNIT_DELTA_LEAD, THREE_UNIT_NODE_LEAD, THREE_UNIT_VALUE_LEAD, VALUE_IS_FINAL,
 };
 use crate::icu_zerovec::ZeroSlice;
+use crate::support::prelude::*;
 
 /// Returns the unit at an index, or `None` at or past the end.
 #[inline(always)]
 pub(crate) fn unit_at(units: ZeroSlice<'_, u16>, place: usize) -> Option<u16> {
     // A packed vector has fewer than 2^63 bytes, so adding to an index that was read never wraps.
-    let units = units.as_bytes().as_chunks::<2>().0;
-    Some(u16::from_le_bytes(*units.get(place)?))
+    // One read of both bytes, also if only bits of the low one are used.
+    let cells = units.as_bytes().as_chunks::<2>().0;
+    Some(u16::from_le_bytes(*cells.get(place)?))
 }
 
 /// Returns the units at an index and at the one after it, with a single bounds check. `None` if

@@ -6,6 +6,7 @@ use crate::icu_char16trie::pending::Pending;
 use crate::icu_char16trie::place::Place;
 use crate::icu_char16trie::step::value_by;
 use crate::support::AllocError;
+use crate::support::prelude::*;
 
 /// What comes next, under the key that is spelled so far.
 #[derive(Clone, Copy, Debug)]

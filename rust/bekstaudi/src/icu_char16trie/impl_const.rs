@@ -1,6 +1,7 @@
 //! The constants of the format, with the Rust crate's names, which are those of ICU's
 //! `ucharstrie.h`. The builder uses the same constants.
 
+use crate::support::prelude::*;
 /// The largest number of entries in a row. A part of a branch with more entries is split.
 pub const MAX_BRANCH_LINEAR_SUB_NODE_LENGTH: usize = 5;
 

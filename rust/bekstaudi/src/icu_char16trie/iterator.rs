@@ -2,6 +2,7 @@
 
 use crate::icu_char16trie::cursor::Char16TrieCursor;
 use crate::icu_zerovec::ZeroSlice;
+use crate::support::prelude::*;
 
 /// The result of a step: what the units so far are.
 #[derive(Clone, Copy, Debug, PartialEq, Eq, Hash)]
@@ -24,8 +25,8 @@ pub struct Char16TrieIterator<'a> {
 
 impl<'a> Char16TrieIterator<'a> {
     /// Creates an iterator at the root of the trie with these units.
-    #[must_use]
     #[inline]
+    #[must_use]
     pub fn new(trie: ZeroSlice<'a, u16>) -> Self {
         Char16TrieIterator {
             cursor: Char16TrieCursor::new(trie),

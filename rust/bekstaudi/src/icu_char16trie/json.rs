@@ -1,10 +1,11 @@
 //! Reads and writes a trie as JSON: an object whose key `data` has the units as an array of
 //! numbers.
 
+#![cfg(feature = "json")]
 use crate::icu_char16trie::trie::Char16Trie;
 use crate::icu_zerovec::{MemoryError, ZeroSlice, ZeroVec};
 use crate::support::prelude::*;
-use serde_json::Value;
+use serde_json::{Value, json};
 
 /// Why a JSON value is not a trie.
 #[derive(Clone, Copy, Debug, PartialEq, Eq, Hash)]

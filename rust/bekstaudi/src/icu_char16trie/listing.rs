@@ -3,6 +3,7 @@
 use crate::icu_char16trie::place::Place;
 use crate::icu_char16trie::walk::Walk;
 use crate::icu_zerovec::{MemoryError, ZeroSlice};
+use crate::support::prelude::*;
 
 /// The entries of a trie in unit order, one at a time.
 ///
@@ -64,8 +65,8 @@ impl<'a> Entries<'a> {
     ///
     /// The text is empty before the first [`advance`](Self::advance), and after one that reached no
     /// entry.
-    #[must_use]
     #[inline]
+    #[must_use]
     pub fn key(&self) -> &str {
         self.walk.text()
     }
@@ -74,8 +75,8 @@ impl<'a> Entries<'a> {
     ///
     /// The value is 0 before the first [`advance`](Self::advance), after one that reached no entry,
     /// and if some units of the value are missing.
-    #[must_use]
     #[inline]
+    #[must_use]
     pub const fn value(&self) -> i32 {
         self.walk.value
     }

@@ -1,6 +1,7 @@
 //! All keys that a text starts with.
 
 use crate::icu_char16trie::cursor::Char16TrieCursor;
+use crate::support::prelude::*;
 
 /// An iterator over the keys that a text starts with, the shortest first: the length of each in
 /// units and its value.

@@ -29,6 +29,7 @@
 //! - `place`, `step`, `branch`, `encoded`: positions of a cursor, steps between them, and numbers
 //!   encoded in units
 
+use crate::support::prelude::*;
 mod branch;
 pub mod char16trie;
 mod counted;
@@ -39,7 +40,6 @@ mod entries;
 mod front;
 pub mod impl_const;
 mod iterator;
-#[cfg(feature = "json")]
 mod json;
 mod listing;
 mod matches;

@@ -60,7 +60,7 @@ impl<'a> Pending<'a> {
             self.put_off(short_end(place + 2, value % VALUE_IS_FINAL), count - 1)?;
             child = first;
         }
-        self.spelling.push_one(unit)?;
+        self.spelling.try_push(unit)?;
         self.node = Some(child);
         Ok(())
     }
@@ -87,6 +87,7 @@ impl<'a> Pending<'a> {
     }
 
     /// Moves to the first node of a part, and postpones the rest. Most parts are rows.
+    // rustc calls it, which takes longer than a step.
     #[inline(always)]
     fn enter_part(&mut self, place: usize, count: usize) -> Result<(), AllocError> {
         if count <= MAX_BRANCH_LINEAR_SUB_NODE_LENGTH {

@@ -1,5 +1,6 @@
 //! Positions of a cursor in the units of a trie.
 
+use crate::support::prelude::*;
 /// The position of a cursor.
 #[derive(Clone, Copy, Debug, PartialEq, Eq)]
 pub(crate) enum Place {

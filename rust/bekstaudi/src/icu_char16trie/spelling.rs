@@ -51,13 +51,6 @@ fn pair_char(lead: LeadSurrogate, unit: u16) -> Option<char> {
     char::from_u32(0x1_0000 + (u32::from(lead.unit - 0xD800) << 10) + u32::from(unit - 0xDC00))
 }
 
-/// Appends a character that is not ASCII.
-#[inline(always)]
-fn push_wide(text: &mut String, c: char) -> Result<(), AllocError> {
-    text.try_push(c)?;
-    Ok(())
-}
-
 impl Spelling {
     /// Creates the spelling of the empty key.
     #[inline]
@@ -79,14 +72,14 @@ impl Spelling {
             self.held = Some(lead);
             return Ok(());
         }
-        push_wide(&mut self.text, lone_char(unit))?;
+        self.text.try_push(lone_char(unit))?;
         Ok(())
     }
 
     /// Appends a unit after a held lead surrogate with which it is no pair.
     #[cold]
     #[inline(never)]
-    fn push_apart(&mut self, _: LeadSurrogate, unit: u16) -> Result<(), AllocError> {
+    fn push_apart(&mut self, _lead: LeadSurrogate, unit: u16) -> Result<(), AllocError> {
         self.held = None;
         self.text.try_push(char::REPLACEMENT_CHARACTER)?;
         self.push_next(unit)?;
@@ -98,7 +91,7 @@ impl Spelling {
     fn push_after(&mut self, lead: LeadSurrogate, unit: u16) -> Result<(), AllocError> {
         if let Some(c) = pair_char(lead, unit) {
             self.held = None;
-            push_wide(&mut self.text, c)?;
+            self.text.try_push(c)?;
             return Ok(());
         }
         self.push_apart(lead, unit)?;
@@ -107,19 +100,12 @@ impl Spelling {
 
     /// Appends a unit.
     #[inline(always)]
-    fn try_push(&mut self, unit: u16) -> Result<(), AllocError> {
+    pub(crate) fn try_push(&mut self, unit: u16) -> Result<(), AllocError> {
         let Some(lead) = self.held else {
             self.push_next(unit)?;
             return Ok(());
         };
         self.push_after(lead, unit)?;
-        Ok(())
-    }
-
-    /// Appends one unit.
-    #[inline(always)]
-    pub(crate) fn push_one(&mut self, unit: u16) -> Result<(), AllocError> {
-        self.try_push(unit)?;
         Ok(())
     }
 

@@ -5,6 +5,7 @@ use crate::icu_char16trie::encoded::{node_end, node_number, short_number, unit_a
 use crate::icu_char16trie::impl_const::{MIN_LINEAR_MATCH, MIN_VALUE_LEAD, VALUE_IS_FINAL};
 use crate::icu_char16trie::place::Place;
 use crate::icu_zerovec::ZeroSlice;
+use crate::support::prelude::*;
 
 /// Returns the position after the unit `unit` in a linear match that has `left + 1` units left.
 #[inline(always)]

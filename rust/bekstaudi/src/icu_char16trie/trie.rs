@@ -5,6 +5,7 @@ use crate::icu_char16trie::entries::Iter2;
 use crate::icu_char16trie::iterator::Char16TrieIterator;
 use crate::icu_char16trie::listing::Entries;
 use crate::icu_zerovec::{MemoryError, ZeroVec};
+use crate::support::prelude::*;
 
 /// A map from lists of 16-bit units, mostly texts in UTF-16, to signed 32-bit numbers, in the
 /// format of ICU's `UCharsTrie`.
@@ -31,8 +32,8 @@ pub struct Char16Trie<'data> {
 
 impl<'data> Char16Trie<'data> {
     /// Creates the trie of these units. They are not validated: look-ups return on all units.
-    #[must_use]
     #[inline]
+    #[must_use]
     pub const fn new(data: ZeroVec<'data, u16>) -> Self {
         Char16Trie { data }
     }
@@ -52,8 +53,8 @@ impl<'data> Char16Trie<'data> {
     /// assert_eq!(cursor.value(), Some(3));
     /// # Ok::<(), Box<dyn std::error::Error>>(())
     /// ```
-    #[must_use]
     #[inline]
+    #[must_use]
     pub fn cursor(&self) -> Char16TrieCursor<'_> {
         Char16TrieCursor::new(self.data.as_slice())
     }
@@ -71,8 +72,8 @@ impl<'data> Char16Trie<'data> {
     /// assert_eq!(iterator.next('b'), TrieResult::FinalValue(3));
     /// # Ok::<(), Box<dyn std::error::Error>>(())
     /// ```
-    #[must_use]
     #[inline]
+    #[must_use]
     pub fn iter(&self) -> Char16TrieIterator<'_> {
         Char16TrieIterator::new(self.data.as_slice())
     }
@@ -124,8 +125,8 @@ impl<'data> Char16Trie<'data> {
     /// assert!(!entries.advance());
     /// # Ok::<(), Box<dyn std::error::Error>>(())
     /// ```
-    #[must_use]
     #[inline]
+    #[must_use]
     pub fn entries(&self) -> Entries<'_> {
         self.cursor().entries()
     }

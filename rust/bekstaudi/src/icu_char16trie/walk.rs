@@ -109,6 +109,7 @@ impl<'a> Walk<'a> {
     /// Moves to the next entry and returns it, with a text of its own.
     ///
     /// After an `Err` nothing is left.
+    // rustc calls it, which takes longer than a step.
     #[inline(always)]
     pub(crate) fn next_item(&mut self) -> Option<Result<(String, i32), MemoryError>> {
         let units = self.pending.units;

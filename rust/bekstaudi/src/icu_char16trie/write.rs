@@ -1,6 +1,7 @@
 //! Looks up text that is written to a cursor.
 
 use crate::icu_char16trie::cursor::Char16TrieCursor;
+use crate::support::prelude::*;
 use core::fmt;
 
 /// Advances the cursor by the UTF-16 units of the written text. Every write returns `Ok`.

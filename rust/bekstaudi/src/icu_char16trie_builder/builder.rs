@@ -8,8 +8,8 @@ use crate::icu_char16trie_builder::text::{is_too_long, units_of_text};
 use crate::icu_char16trie_builder::units::units_of;
 use crate::icu_zerovec::{MemoryError, ZeroVec};
 use crate::support::AllocError;
-use crate::support::BTreeMap;
 use crate::support::prelude::*;
+use crate::support::{BTreeMap, btree_map};
 
 /// The largest number of units in a key.
 pub(crate) const LONGEST_KEY: usize = 65_535;
@@ -38,28 +38,33 @@ pub struct Char16TrieBuilder {
     entries: BTreeMap<Vec<u16>, i32>,
 }
 
-/// Adds an entry to a map, which takes ownership of the key. On an error the map is unchanged.
-#[inline]
-fn insert_key(
-    entries: &mut BTreeMap<Vec<u16>, i32>,
-    place: (usize, usize),
-    key: Vec<u16>,
-    value: i32,
-) -> Result<(), AllocError> {
-    entries.try_insert_at(place, key, value)?;
-    Ok(())
+/// Returns why a key cannot be added if there is no memory for a copy of it.
+#[cold]
+fn without_memory(entries: &BTreeMap<Vec<u16>, i32>, key: &[u16]) -> AddError {
+    if entries.contains_key(key) {
+        return AddError::Duplicate;
+    }
+    AddError::Memory
 }
 
-/// Adds an entry to a map. On an error the map is unchanged.
+/// Adds an entry to a map, which takes ownership of the key and is searched once. On an error the
+/// map is unchanged.
 #[inline]
 fn insert(
     entries: &mut BTreeMap<Vec<u16>, i32>,
-    place: (usize, usize),
-    key: &[u16],
+    key: Vec<u16>,
     value: i32,
-) -> Result<(), AllocError> {
-    let key = Vec::from_slice(key)?;
-    insert_key(entries, place, key, value)
+) -> Result<(), AddError> {
+    let Ok(entry) = entries.entry(key) else {
+        return Err(AddError::Memory);
+    };
+    match entry {
+        btree_map::Entry::Vacant(entry) => {
+            entry.insert_entry(value);
+            Ok(())
+        }
+        btree_map::Entry::Occupied(_) => Err(AddError::Duplicate),
+    }
 }
 
 /// Returns the entries of a map, in their order.
@@ -150,13 +155,10 @@ impl Char16TrieBuilder {
         if key.len() > LONGEST_KEY {
             return Err(AddError::KeyTooLong);
         }
-        let Err(place) = self.entries.place_of(key) else {
-            return Err(AddError::Duplicate);
+        let Ok(units) = Vec::from_slice(key) else {
+            return Err(without_memory(&self.entries, key));
         };
-        match insert(&mut self.entries, place, key, value) {
-            Ok(()) => Ok(()),
-            Err(_) => Err(AddError::Memory),
-        }
+        insert(&mut self.entries, units, value)
     }
 
     /// Adds an entry whose key is a text, as its units in UTF-16.
@@ -177,6 +179,7 @@ impl Char16TrieBuilder {
     ///   also happen for a duplicate key.
     ///
     /// On an error the entries are unchanged.
+    #[inline]
     pub fn add_str(&mut self, key: &str, value: i32) -> Result<(), AddError> {
         if is_too_long(key) {
             return Err(AddError::KeyTooLong);
@@ -184,13 +187,7 @@ impl Char16TrieBuilder {
         let Ok(units) = units_of_text(key) else {
             return Err(AddError::Memory);
         };
-        let Err(place) = self.entries.place_of(units.as_slice()) else {
-            return Err(AddError::Duplicate);
-        };
-        match insert_key(&mut self.entries, place, units, value) {
-            Ok(()) => Ok(()),
-            Err(_) => Err(AddError::Memory),
-        }
+        insert(&mut self.entries, units, value)
     }
 
     /// Returns the number of entries.

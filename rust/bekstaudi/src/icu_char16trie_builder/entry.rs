@@ -1,5 +1,6 @@
 //! Entries on their way into a trie.
 
+use crate::support::prelude::*;
 /// A key and its value.
 #[derive(Clone, Copy)]
 pub(crate) struct Entry<'a> {

@@ -1,6 +1,7 @@
 //! Why an entry was rejected, or a trie could not be built.
 
 use crate::icu_zerovec::MemoryError;
+use crate::support::prelude::*;
 use crate::support::{AllocError, AllocFailed};
 
 /// Why an entry was rejected. The entries are then unchanged.

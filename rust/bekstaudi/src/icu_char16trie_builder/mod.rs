@@ -19,6 +19,7 @@
 //!   again
 //! - `level`: one level of a trie; `write`: its numbers
 
+use crate::support::prelude::*;
 mod arms;
 pub mod builder;
 mod entry;

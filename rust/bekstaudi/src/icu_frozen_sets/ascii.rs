@@ -1,6 +1,7 @@
 //! Which ASCII characters a set contains.
 
 use crate::icu_invlist::codepointinvlist::CodePointInversionList;
+use crate::support::prelude::*;
 
 /// Records that the set contains the characters `from..to`.
 #[inline(always)]

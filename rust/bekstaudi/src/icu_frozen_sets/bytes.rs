@@ -1,6 +1,7 @@
 //! Spans of bytes that may not be valid UTF-8.
 
 use crate::icu_frozen_sets::frozen::FrozenCodePointSet;
+use crate::support::prelude::*;
 
 /// Returns the longest prefix of the bytes that is valid UTF-8: all bytes, or those before the
 /// first ill-formed sequence.

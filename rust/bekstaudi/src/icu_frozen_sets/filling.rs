@@ -2,6 +2,7 @@
 
 use crate::icu_frozen_sets::bits::{BLOCKS, CodePointBits};
 use crate::icu_zerovec::MemoryError;
+use crate::support::prelude::*;
 
 /// The bits of the ranges that were added so far, in ascending order.
 ///

@@ -4,7 +4,9 @@ use crate::icu_frozen_sets::ascii::ascii_of;
 use crate::icu_frozen_sets::bits::CodePointBits;
 use crate::icu_frozen_sets::filling::Filling;
 use crate::icu_invlist::codepointinvlist::CodePointInversionList;
+use crate::icu_zerovec::ule::AsULE;
 use crate::icu_zerovec::{CODE_POINT_LIMIT, MemoryError};
+use crate::support::prelude::*;
 
 /// A set of code points for many look-ups, each of which takes two loads and no search (ICU: a
 /// frozen UnicodeSet).
@@ -121,15 +123,15 @@ impl FrozenCodePointSet {
 
     /// Returns true if the set contains the code point `c`. Returns false for any number above
     /// 0x10FFFF.
-    #[must_use]
     #[inline(always)]
+    #[must_use]
     pub fn contains32(&self, c: u32) -> bool {
         c < CODE_POINT_LIMIT && self.bits.contains32(c)
     }
 
     /// Returns true if the set contains the character `c`.
-    #[must_use]
     #[inline(always)]
+    #[must_use]
     pub fn contains(&self, c: char) -> bool {
         self.contains32(u32::from(c))
     }
@@ -145,31 +147,39 @@ impl FrozenCodePointSet {
         (bits >> place) & 1 == 1
     }
 
-    /// Returns whether the set contains the character that starts at offset `start`, and the offset
-    /// of its end. The payload of the lead and trail bytes is the position of the character's bit,
-    /// so the character is not decoded into a `char`.
+    /// Returns whether the set contains the first character of the bytes, and its length in bytes.
+    /// The payload of the lead and trail bytes is the position of the character's bit, so the
+    /// character is not decoded into a `char`.
     #[inline(always)]
-    fn ask_character(&self, bytes: &[u8], start: usize) -> (bool, usize) {
-        let rest = &bytes[start..];
-        let lead = u32::from(rest[0]);
+    fn ask_first(&self, bytes: &[u8]) -> (bool, usize) {
+        let lead = u32::from(bytes[0]);
         if lead < 0x80 {
-            return (self.ascii[lead as usize], start + 1);
+            return (self.ascii[lead as usize], 1);
         }
         if lead < 0xE0 {
-            let second = u32::from(rest[1]) % 64;
-            return (self.contains_short(lead % 32, second), start + 2);
+            let second = u32::from(bytes[1]) % 64;
+            return (self.contains_short(lead % 32, second), 2);
         }
+        // The last byte first: one bounds check is enough for all of them.
         if lead < 0xF0 {
-            let third = u32::from(rest[2]) % 64;
-            let second = u32::from(rest[1]) % 64;
+            let third = u32::from(bytes[2]) % 64;
+            let second = u32::from(bytes[1]) % 64;
             let word = lead % 16 * 64 + second;
-            return (self.bits.contains_in(word, third), start + 3);
+            return (self.bits.contains_in(word, third), 3);
         }
-        let fourth = u32::from(rest[3]) % 64;
-        let third = u32::from(rest[2]) % 64;
-        let second = u32::from(rest[1]) % 64;
+        let fourth = u32::from(bytes[3]) % 64;
+        let third = u32::from(bytes[2]) % 64;
+        let second = u32::from(bytes[1]) % 64;
         let word = lead % 8 * 4096 + second * 64 + third;
-        (self.bits.contains_in(word, fourth), start + 4)
+        (self.bits.contains_in(word, fourth), 4)
+    }
+
+    /// Returns whether the set contains the character that starts at offset `start`, and the offset
+    /// of its end.
+    #[inline(always)]
+    fn ask_character(&self, bytes: &[u8], start: usize) -> (bool, usize) {
+        let (is_held, len) = self.ask_first(&bytes[start..]);
+        (is_held, start + len)
     }
 
     /// Returns the offset of the first byte from `start` on that is not ASCII, or whose membership
@@ -196,8 +206,8 @@ impl FrozenCodePointSet {
     ///
     /// The result is a character boundary, so `&text[set.span(text, true)..]` is the rest of the
     /// text.
-    #[must_use]
     #[inline(never)]
+    #[must_use]
     pub fn span(&self, text: &str, held: bool) -> usize {
         let bytes = text.as_bytes();
         let mut passed = 0;

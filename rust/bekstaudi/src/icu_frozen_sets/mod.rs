@@ -11,6 +11,7 @@
 //! - `filling`: filling the bits of a set, range by range
 //! - `bits`: a bit for each code point, in two stages
 
+use crate::support::prelude::*;
 mod ascii;
 mod bits;
 mod bytes;

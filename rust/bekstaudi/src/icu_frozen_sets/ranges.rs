@@ -3,6 +3,7 @@
 use crate::icu_frozen_sets::frozen::FrozenCodePointSet;
 use crate::icu_invlist::codepointinvlist::RangeOf;
 use crate::icu_zerovec::CODE_POINT_LIMIT;
+use crate::support::prelude::*;
 use core::ops::RangeInclusive;
 
 /// Ranges from this number of code points on are long: their bits take more time than a search.

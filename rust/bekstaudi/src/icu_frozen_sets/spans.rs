@@ -1,6 +1,7 @@
 //! An iterator over the pieces of a text that are in a frozen set and those that are not.
 
 use crate::icu_frozen_sets::frozen::FrozenCodePointSet;
+use crate::support::prelude::*;
 
 /// A piece of a text whose characters are all in a set, or all outside it.
 #[derive(Clone, Copy, Debug, PartialEq, Eq, Hash)]

@@ -3,6 +3,7 @@
 use crate::icu_frozen_sets::frozen::FrozenCodePointSet;
 use crate::icu_text_sets::codepointinvliststringlist::CodePointInversionListAndStringList;
 use crate::icu_zerovec::MemoryError;
+use crate::support::prelude::*;
 
 /// A set of code points and strings for many look-ups (ICU: a frozen UnicodeSet with strings). It
 /// stores the set and a frozen set of its code points.
@@ -77,15 +78,15 @@ impl FrozenCodePointSetAndStrings {
 
     /// Returns true if the set contains the code point `cp`. Returns false for any number above
     /// 0x10FFFF.
-    #[must_use]
     #[inline(always)]
+    #[must_use]
     pub fn contains32(&self, cp: u32) -> bool {
         self.code_points.contains32(cp)
     }
 
     /// Returns true if the set contains the character `ch`.
-    #[must_use]
     #[inline(always)]
+    #[must_use]
     pub fn contains(&self, ch: char) -> bool {
         self.code_points.contains(ch)
     }

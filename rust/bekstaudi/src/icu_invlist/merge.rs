@@ -8,13 +8,14 @@
 //! Up to the next boundary of the other list, the boundaries of one list are either all written or
 //! all skipped. When one list is used up, the rest of the other is either copied or dropped.
 
+use crate::icu_invlist::boundaries::Boundaries;
 use crate::icu_invlist::codepointinvlist::CodePointInversionList;
 use crate::icu_invlist::fill;
 use crate::icu_zerovec::{MemoryError, PotentialCodePoint, ZeroSlice};
 use crate::support::prelude::*;
 
 /// An operation on two sets, code point by code point.
-pub(crate) trait SetOperation {
+pub trait SetOperation {
     /// Returns whether a code point is in the result, from its membership in the two sets.
     fn of(first: bool, second: bool) -> bool;
 
@@ -24,7 +25,7 @@ pub(crate) trait SetOperation {
 }
 
 /// Code points in at least one of the sets.
-pub(crate) struct Union;
+pub struct Union;
 
 impl SetOperation for Union {
     #[inline]
@@ -39,7 +40,7 @@ impl SetOperation for Union {
 }
 
 /// Code points in the first set but not in the second.
-pub(crate) struct Difference;
+pub struct Difference;
 
 impl SetOperation for Difference {
     #[inline]
@@ -54,7 +55,7 @@ impl SetOperation for Difference {
 }
 
 /// Code points in both sets.
-pub(crate) struct Intersection;
+pub struct Intersection;
 
 impl SetOperation for Intersection {
     #[inline]
@@ -70,7 +71,7 @@ impl SetOperation for Intersection {
 }
 
 /// Code points in exactly one of the sets.
-pub(crate) struct SymmetricDifference;
+pub struct SymmetricDifference;
 
 impl SetOperation for SymmetricDifference {
     #[inline]
@@ -93,24 +94,41 @@ struct Walk {
     written: usize,
 }
 
+/// Puts a boundary at index `written` of the buffer if it is wanted and there is room. Returns the
+/// next index.
+#[inline(always)]
+fn put(out: &mut [u32], written: usize, end: u32, wanted: bool) -> usize {
+    if !wanted {
+        return written;
+    }
+    if written < out.len() {
+        out[written] = end;
+    }
+    written + 1
+}
+
 /// Passes the boundaries of the first list that are below the next one of the second. The result
 /// changes at all of them or at none.
 #[inline(always)]
-fn pass_first<O: SetOperation>(
+fn pass_first<O: SetOperation, A: Boundaries, B: Boundaries>(
+    a: A,
+    b: B,
     out: &mut [u32],
-    a: &[u32],
-    b: ZeroSlice<'_, PotentialCodePoint>,
     walk: Walk,
 ) -> Walk {
-    let end = u32::from(b.at(walk.second));
+    let end = b.at(walk.second);
     let second = walk.second % 2 == 1;
     let changes = O::of(true, second) != O::of(false, second);
+    let count = a.count();
     let mut first = walk.first;
     let mut written = walk.written;
-    while first < a.len() && a[first] < end {
-        out[written] = a[first];
+    while first < count {
+        let next = a.at(first);
+        if end <= next {
+            break;
+        }
+        written = put(out, written, next, changes);
         first += 1;
-        written += changes as usize;
     }
     Walk {
         first,
@@ -122,26 +140,25 @@ fn pass_first<O: SetOperation>(
 /// Passes the boundaries of the second list that are below the next one of the first. The result
 /// changes at all of them or at none.
 #[inline(always)]
-fn pass_second<O: SetOperation>(
+fn pass_second<O: SetOperation, A: Boundaries, B: Boundaries>(
+    a: A,
+    b: B,
     out: &mut [u32],
-    a: &[u32],
-    b: ZeroSlice<'_, PotentialCodePoint>,
     walk: Walk,
 ) -> Walk {
-    let end = a[walk.first];
+    let end = a.at(walk.first);
     let first = walk.first % 2 == 1;
     let changes = O::of(first, true) != O::of(first, false);
-    let count = b.len();
+    let count = b.count();
     let mut second = walk.second;
     let mut written = walk.written;
     while second < count {
-        let next = u32::from(b.at(second));
+        let next = b.at(second);
         if end <= next {
             break;
         }
-        out[written] = next;
+        written = put(out, written, next, changes);
         second += 1;
-        written += changes as usize;
     }
     Walk {
         first: walk.first,
@@ -152,27 +169,27 @@ fn pass_second<O: SetOperation>(
 
 /// Passes the boundaries that are next in both lists. The result changes at all of them or at none.
 #[inline(always)]
-fn pass_both<O: SetOperation>(
+fn pass_both<O: SetOperation, A: Boundaries, B: Boundaries>(
+    a: A,
+    b: B,
     out: &mut [u32],
-    a: &[u32],
-    b: ZeroSlice<'_, PotentialCodePoint>,
     walk: Walk,
 ) -> Walk {
     let first = walk.first % 2 == 1;
     let second = walk.second % 2 == 1;
     let changes = O::of(first, second) != O::of(!first, !second);
-    let count = b.len();
+    let first_count = a.count();
+    let second_count = b.count();
     let mut passed = walk;
-    while passed.first < a.len() && passed.second < count {
-        let end = a[passed.first];
-        if end != u32::from(b.at(passed.second)) {
+    while passed.first < first_count && passed.second < second_count {
+        let end = a.at(passed.first);
+        if end != b.at(passed.second) {
             break;
         }
-        out[passed.written] = end;
         passed = Walk {
+            written: put(out, passed.written, end, changes),
             first: passed.first + 1,
             second: passed.second + 1,
-            written: passed.written + changes as usize,
         };
     }
     passed
@@ -181,60 +198,83 @@ fn pass_both<O: SetOperation>(
 /// Passes boundaries of the first list only, then common ones, then boundaries of the second list
 /// only: at least one in total.
 #[inline(always)]
-fn pass_some<O: SetOperation>(
+fn pass_some<O: SetOperation, A: Boundaries, B: Boundaries>(
+    a: A,
+    b: B,
     out: &mut [u32],
-    a: &[u32],
-    b: ZeroSlice<'_, PotentialCodePoint>,
     walk: Walk,
 ) -> Walk {
-    let before = pass_first::<O>(out, a, b, walk);
-    let passed = pass_both::<O>(out, a, b, before);
-    if passed.first < a.len() {
-        pass_second::<O>(out, a, b, passed)
+    let before = pass_first::<O, A, B>(a, b, out, walk);
+    let passed = pass_both::<O, A, B>(a, b, out, before);
+    if passed.first < a.count() {
+        pass_second::<O, A, B>(a, b, out, passed)
     } else {
         passed
     }
 }
 
-/// Merges until one of the lists is used up, and writes the boundaries of the result to the start
-/// of `out`.
-fn walk_both<O: SetOperation>(
-    out: &mut [u32],
-    a: &[u32],
-    b: ZeroSlice<'_, PotentialCodePoint>,
-) -> Walk {
+/// Merges until one of the lists is used up.
+#[inline]
+fn pass_all<O: SetOperation, A: Boundaries, B: Boundaries>(a: A, b: B, out: &mut [u32]) -> Walk {
     let mut walk = Walk {
         first: 0,
         second: 0,
         written: 0,
     };
-    let count = b.len();
-    while walk.first < a.len() && walk.second < count {
-        walk = pass_some::<O>(out, a, b, walk);
+    let first_count = a.count();
+    let second_count = b.count();
+    while walk.first < first_count && walk.second < second_count {
+        walk = pass_some::<O, A, B>(a, b, out, walk);
     }
     walk
 }
 
-/// Returns the index from which the rest of a list is copied: `place` if the rest is wanted, and
-/// otherwise `len`, so that nothing is copied.
+/// Returns the index from which the rest of a list is written: `index` if the rest is wanted, and
+/// otherwise `len`, so that nothing is written.
 #[inline]
-fn rest_from(wanted: bool, place: usize, len: usize) -> usize {
-    if wanted { place } else { len }
+fn rest_from(wanted: bool, index: usize, len: usize) -> usize {
+    if wanted { index } else { len }
 }
 
-/// Returns the boundaries of the result of the operation. It allocates once, before the merge.
+/// Puts the boundaries from index `from` on into the buffer, and returns the next index.
+#[inline(always)]
+fn put_rest<A: Boundaries>(a: A, from: usize, out: &mut [u32], written: usize) -> usize {
+    let count = a.count();
+    let mut i = from;
+    let mut next = written;
+    while i < count {
+        next = put(out, next, a.at(i), true);
+        i += 1;
+    }
+    next
+}
+
+/// Writes the boundaries of the result of an operation on two sets into a buffer, as many as fit,
+/// and returns how many there are.
 #[inline]
-fn merge<O: SetOperation>(
+pub(crate) fn merge<O: SetOperation, A: Boundaries, B: Boundaries>(
+    a: A,
+    b: B,
+    out: &mut [u32],
+) -> usize {
+    let walk = pass_all::<O, A, B>(a, b, out);
+    let first = rest_from(O::of(true, false), walk.first, a.count());
+    let written = put_rest(a, first, out, walk.written);
+    let second = rest_from(O::of(false, true), walk.second, b.count());
+    put_rest(b, second, out, written)
+}
+
+/// Returns the boundaries of the result of an operation on the set with the boundaries `a` and another
+/// set. It allocates once, before the merge.
+#[inline]
+fn merged<O: SetOperation>(
     a: &[u32],
     b: &CodePointInversionList<'_>,
 ) -> Result<Vec<u32>, MemoryError> {
     let mut ends = Vec::from_elem(0, a.len() + b.count())?;
-    let walk = walk_both::<O>(&mut ends, a, b.packed().as_slice());
-    ends.truncate(walk.written);
-    let first = rest_from(O::of(true, false), walk.first, a.len());
-    ends.try_extend_from_slice(&a[first..])?;
-    let second = rest_from(O::of(false, true), walk.second, b.count());
-    b.push_ends(&mut ends, second)?;
+    let count =
+        merge::<O, &[u32], ZeroSlice<'_, PotentialCodePoint>>(a, b.packed().as_slice(), &mut ends);
+    ends.truncate(count);
     Ok(ends)
 }
 
@@ -293,6 +333,6 @@ pub(crate) fn change<O: SetOperation>(
     if set.count() == 2 {
         return O::of_range(ends, set.end_at(0), set.end_at(1));
     }
-    *ends = merge::<O>(ends, set)?;
+    *ends = merged::<O>(ends, set)?;
     Ok(())
 }

@@ -16,11 +16,13 @@
 //!   - `conversions`: sets made from ranges
 //!   - `json`: conversion to and from JSON
 //!   - `error`: errors for invalid lists, ranges and JSON values
+//! - `boundaries`: a list of boundaries, wherever it is stored
 //! - `fill`, `merge`: changes of a list of boundaries, by a range and by another set
 //! - `spelling`: how ranges are spelled in JSON
 
+use crate::support::prelude::*;
+pub mod boundaries;
 pub mod codepointinvlist;
 mod fill;
-mod merge;
-#[cfg(any(feature = "json", feature = "serde"))]
+pub mod merge;
 pub(crate) mod spelling;

@@ -1,5 +1,6 @@
 //! How the ranges of a set are spelled in JSON.
 
+#![cfg(any(feature = "json", feature = "serde"))]
 use crate::icu_zerovec::MemoryError;
 use crate::support::prelude::*;
 

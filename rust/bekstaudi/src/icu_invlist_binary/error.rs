@@ -2,6 +2,7 @@
 
 use crate::icu_zerovec::MemoryError;
 use crate::support::AllocError;
+use crate::support::prelude::*;
 
 /// The error of [`to_serialized`](crate::icu_invlist_binary::serialized::to_serialized).
 #[derive(Clone, Copy, Debug, PartialEq, Eq, Hash)]

@@ -5,6 +5,7 @@
 //! - `lent_ends`: the boundaries in serialized units, read in place
 //! - `error`: errors of writing and reading
 
+use crate::support::prelude::*;
 mod error;
 mod lent_ends;
 pub mod serialized;

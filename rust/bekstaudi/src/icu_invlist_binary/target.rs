@@ -1,6 +1,7 @@
 //! Writing units into a caller's slice.
 
 use crate::icu_zerovec::{CODE_POINT_LIMIT, PotentialCodePoint, ZeroSlice};
+use crate::support::prelude::*;
 
 /// Writes the unit at index `at`, and returns the index after it.
 #[inline]

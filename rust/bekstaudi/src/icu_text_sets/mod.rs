@@ -8,4 +8,5 @@
 //!   - `json`: conversion to and from JSON
 //!   - `error`: errors for invalid lists of strings and JSON values
 
+use crate::support::prelude::*;
 pub mod codepointinvliststringlist;

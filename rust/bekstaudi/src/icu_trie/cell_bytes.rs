@@ -6,6 +6,19 @@ use crate::icu_trie_core::header::CodePointTrieHeader;
 use crate::icu_trie_core::lookup::cell_of;
 use crate::icu_trie_core::value::TrieValue;
 use crate::icu_zerovec::{ZeroSlice, ZeroVec};
+use crate::support::prelude::*;
+
+/// `cell_of` over packed vectors.
+#[inline]
+fn cell_counted<T: TrieValue>(
+    header: &CodePointTrieHeader,
+    index: ZeroSlice<'_, u16>,
+    values: ZeroSlice<'_, T>,
+    c: u32,
+) -> Option<usize> {
+    let mut cells = PackedCells { index, values };
+    cell_of(header, &mut cells, c)
+}
 
 /// `cell_of` over packed vectors.
 #[inline]
@@ -15,8 +28,7 @@ fn cell_in<T: TrieValue>(
     values: ZeroSlice<'_, T>,
     c: u32,
 ) -> Option<usize> {
-    let mut cells = PackedCells { index, values };
-    cell_of(header, &mut cells, c)
+    cell_counted::<T>(header, index, values, c)
 }
 
 /// Returns the packed bytes of the value at index `i`, or `None` if `i` is past the end.

@@ -6,6 +6,18 @@ use crate::icu_trie_core::coherent::is_coherent;
 use crate::icu_trie_core::header::CodePointTrieHeader;
 use crate::icu_trie_core::value::TrieValue;
 use crate::icu_zerovec::ZeroSlice;
+use crate::support::prelude::*;
+
+/// `is_coherent` over packed vectors.
+#[inline]
+fn is_coherent_counted<T: TrieValue>(
+    header: &CodePointTrieHeader,
+    index: ZeroSlice<'_, u16>,
+    values: ZeroSlice<'_, T>,
+) -> bool {
+    let mut cells = PackedCells { index, values };
+    is_coherent(header, &mut cells)
+}
 
 /// `is_coherent` over packed vectors.
 #[inline]
@@ -14,8 +26,7 @@ fn is_coherent_in<T: TrieValue>(
     index: ZeroSlice<'_, u16>,
     values: ZeroSlice<'_, T>,
 ) -> bool {
-    let mut cells = PackedCells { index, values };
-    is_coherent(header, &mut cells)
+    is_coherent_counted::<T>(header, index, values)
 }
 
 impl<'trie, T: TrieValue> CodePointTrie<'trie, T> {

@@ -6,6 +6,7 @@ use crate::icu_trie_core::header::CodePointTrieHeader;
 use crate::icu_trie_core::value::TrieValue;
 use crate::icu_zerovec::ZeroVec;
 use crate::icu_zerovec::ule::{AsULE, UleError};
+use crate::support::prelude::*;
 
 /// Returns the value of the other type that has the same packed bytes, or `None` if there is none.
 #[inline]

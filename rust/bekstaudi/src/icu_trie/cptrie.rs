@@ -1,16 +1,15 @@
 //! The trie over packed vectors.
 
 use crate::icu_trie::error::PartsError;
-use crate::icu_trie::packed_cells::{fast_place_in, high_place_in, small_place_in};
+use crate::icu_trie::packed_cells::small_place_in;
 use crate::icu_trie_core::error::CodePointTrieError;
 use crate::icu_trie_core::header::{CodePointTrieHeader, TrieType};
-use crate::icu_trie_core::impl_const::{CODE_POINT_MAX, FAST_TYPE_DATA_BLOCK_LENGTH};
-#[cfg(not(feature = "proved-reads"))]
-use crate::icu_trie_core::impl_const::{FAST_TYPE_DATA_MASK, FAST_TYPE_SHIFT};
+use crate::icu_trie_core::impl_const::{
+    CODE_POINT_MAX, FAST_TYPE_DATA_BLOCK_LENGTH, FAST_TYPE_SHIFT, HIGH_VALUE_NEG_DATA_OFFSET,
+};
 use crate::icu_trie_core::value::TrieValue;
 use crate::icu_zerovec::{MemoryError, ZeroSlice, ZeroVec};
-#[cfg(not(feature = "proved-reads"))]
-use crate::support::cells::usual_cell;
+use crate::support::prelude::*;
 
 /// Returns true if the fast index names a block of 64 that ends outside data of length `len`. The
 /// index must have all cells of the fast index.
@@ -100,9 +99,9 @@ impl<'trie, T: TrieValue> CodePointTrie<'trie, T> {
         index: ZeroVec<'trie, u16>,
         data: ZeroVec<'trie, T>,
     ) -> Result<Self, CodePointTrieError> {
-        let Some(_) = data.last() else {
+        if data.is_empty() {
             return Err(CodePointTrieError::EmptyDataVector);
-        };
+        }
         if !is_number_of_value::<T>(header.null_value) {
             return Err(CodePointTrieError::InvalidNullValue);
         }
@@ -138,119 +137,114 @@ impl<'trie, T: TrieValue> CodePointTrie<'trie, T> {
         Ok(trie)
     }
 
-    /// Returns the position of the error value, the last cell, for a number above 0x10FFFF.
+    /// Returns the position of the last of `cells` cells, the error value. It takes the number by
+    /// value, so that a trie on the stack need not be stored for the call.
     #[cold]
     #[inline(never)]
     fn outside_place(cells: usize) -> usize {
         cells - 1
     }
 
+    /// Returns the position of the value of a code point below the fast limit of this type, in one
+    /// read of the index and with one test. Returns `None` from the fast limit on.
+    #[inline(always)]
+    fn fast_place(&self, trie_type: TrieType, index: ZeroSlice<'_, u16>, c: u32) -> Option<usize> {
+        let blocks = trie_type.fast_index_len();
+        match index.get_below(blocks, (c >> FAST_TYPE_SHIFT) as usize) {
+            Some(offset) => Some(offset as usize + (c % FAST_TYPE_DATA_BLOCK_LENGTH) as usize),
+            None => None,
+        }
+    }
+
     /// Returns the position of the value of `c` through the three stages of the index, with a
-    /// bounds check for each read.
+    /// bounds check for each read. An untrusted index may lead outside the data.
     ///
     /// It takes the index, since LLVM reads an address once before a loop only if two paths use it.
     /// A call would cost a loop over code points above the fast limit half as much time again.
     #[inline(always)]
     fn small_place(&self, index: ZeroSlice<'_, u16>, c: u32) -> usize {
         let data = self.data.as_slice();
-        let Some(place) = small_place_in(self.header.trie_type, index, data, c) else {
-            return data.len() - 1;
-        };
-        if cfg!(not(feature = "proved-reads")) || place < data.len() {
-            place
-        } else {
-            data.len() - 1
+        match small_place_in(self.header.trie_type, index, data, c) {
+            Some(place) => place,
+            None => data.len() - 1,
         }
     }
 
-    /// Returns the position of the value of a code point from the fast limit on.
+    /// Returns the position of the value of a code point from the fast limit on, and whether it is
+    /// known to be inside the data.
     #[inline(always)]
-    fn far_place(&self, index: ZeroSlice<'_, u16>, c: u32) -> usize {
+    fn far_place(&self, index: ZeroSlice<'_, u16>, c: u32) -> (usize, bool) {
         if c >= self.header.high_start {
-            return high_place_in(&self.header, index, self.data.as_slice(), c);
+            return (self.data.len() - HIGH_VALUE_NEG_DATA_OFFSET as usize, true);
         }
-        self.small_place(index, c)
+        (self.small_place(index, c), false)
     }
 
-    /// Returns the position of the value of `c` in a trie of this type. All cases share the read of
-    /// the value that follows, so that the compiler keeps the address of the data in a register.
+    /// Returns the position of the value of `c` in a trie of this type, and whether it is known to
+    /// be inside the data. All cases share the read of the value that follows, so that the compiler
+    /// keeps the address of the data in a register.
     #[inline(always)]
-    fn place_by_type(&self, trie_type: TrieType, c: u32) -> usize {
+    fn place_by_type(&self, trie_type: TrieType, c: u32) -> (usize, bool) {
         let index = self.index.as_slice();
-        #[cfg(not(feature = "proved-reads"))]
-        if let Some(offset) = usual_cell(
-            T::WIDTH,
-            index.as_bytes(),
-            0x1000 << (4 * u32::from(trie_type == TrieType::Fast)),
-            FAST_TYPE_SHIFT,
-            c,
-        ) {
-            return offset as usize + (c & FAST_TYPE_DATA_MASK) as usize;
-        }
-        #[cfg(feature = "proved-reads")]
-        if c < trie_type.fast_limit() {
-            return fast_place_in(&self.header, index, self.data.as_slice(), c);
+        if let Some(place) = self.fast_place(trie_type, index, c) {
+            return (place, true);
         }
         if c > CODE_POINT_MAX {
-            return Self::outside_place(self.data.len());
+            return (Self::outside_place(self.data.len()), true);
         }
         self.far_place(index, c)
     }
 
-    /// Returns the position of the value of the character `c` in a trie of this type. No character
-    /// is above 0x10FFFF.
+    /// Returns the position of the value of the character `c` in a trie of this type, and whether it
+    /// is known to be inside the data. No character is above 0x10FFFF.
     #[inline(always)]
-    fn character_place(&self, trie_type: TrieType, c: char) -> usize {
+    fn character_place(&self, trie_type: TrieType, c: char) -> (usize, bool) {
         let c = c as u32;
         let index = self.index.as_slice();
-        #[cfg(not(feature = "proved-reads"))]
-        if let Some(offset) = usual_cell(
-            T::WIDTH,
-            index.as_bytes(),
-            0x1000 << (4 * u32::from(trie_type == TrieType::Fast)),
-            FAST_TYPE_SHIFT,
-            c,
-        ) {
-            return offset as usize + (c & FAST_TYPE_DATA_MASK) as usize;
-        }
-        #[cfg(feature = "proved-reads")]
-        if c < trie_type.fast_limit() {
-            return fast_place_in(&self.header, index, self.data.as_slice(), c);
+        if let Some(place) = self.fast_place(trie_type, index, c) {
+            return (place, true);
         }
         self.far_place(index, c)
+    }
+
+    /// Returns the value at a position, or the error value if it is outside the data. A position
+    /// that is known to be inside needs no test.
+    #[inline(always)]
+    fn value_at(&self, place: (usize, bool)) -> T {
+        let data = self.data.as_slice();
+        if let Some(value) = data.get_known(place.0, place.1) {
+            return value;
+        }
+        data.at(Self::outside_place(data.len()))
     }
 
     /// Returns the value of a code point below the fast limit, in two reads.
     #[inline(always)]
-    pub(crate) fn fast_value(&self, c: u32) -> T {
-        let (index, data) = (self.index.as_slice(), self.data.as_slice());
-        data.at(fast_place_in(&self.header, index, data, c))
+    fn fast_value(&self, c: u32) -> T {
+        let offset = self.index.as_slice().at((c >> FAST_TYPE_SHIFT) as usize);
+        let place = offset as usize + (c % FAST_TYPE_DATA_BLOCK_LENGTH) as usize;
+        self.data.as_slice().at(place)
+    }
+
+    /// Returns the value of `c` in a trie of this type if `c` is below the fast limit, in two reads.
+    #[inline(always)]
+    pub(crate) fn fast_value_by_type(&self, trie_type: TrieType, c: u32) -> Option<T> {
+        match self.fast_place(trie_type, self.index.as_slice(), c) {
+            Some(place) => Some(self.data.as_slice().at(place)),
+            None => None,
+        }
     }
 
     /// Returns the value of `c` in a trie of this type.
     #[inline(always)]
     pub(crate) fn value_by_type(&self, trie_type: TrieType, c: u32) -> T {
-        let place = self.place_by_type(trie_type, c);
-        #[cfg(not(feature = "proved-reads"))]
-        if let Some(value) = self.data.get(place) {
-            return value;
-        }
-        #[cfg(not(feature = "proved-reads"))]
-        let place = Self::outside_place(self.data.len());
-        self.data.as_slice().at(place)
+        self.value_at(self.place_by_type(trie_type, c))
     }
 
     /// Returns the value of the character `c` in a trie of this type.
     #[inline(always)]
     pub(crate) fn character_by_type(&self, trie_type: TrieType, c: char) -> T {
-        let place = self.character_place(trie_type, c);
-        #[cfg(not(feature = "proved-reads"))]
-        if let Some(value) = self.data.get(place) {
-            return value;
-        }
-        #[cfg(not(feature = "proved-reads"))]
-        let place = Self::outside_place(self.data.len());
-        self.data.as_slice().at(place)
+        self.value_at(self.character_place(trie_type, c))
     }
 
     /// Returns the value of the code point `c`, or the error value if `c` is above 0x10FFFF or if
@@ -263,39 +257,43 @@ impl<'trie, T: TrieValue> CodePointTrie<'trie, T> {
     /// assert_eq!(trie.get32(0x10FFFF), 0);
     /// assert_eq!(trie.get32(u32::MAX), 9);
     /// ```
-    #[must_use]
     #[inline(always)]
+    #[must_use]
     pub fn get32(&self, c: u32) -> T {
         self.value_by_type(self.header.trie_type, c)
     }
 
     /// Returns the value of the character `c`.
-    #[must_use]
     #[inline(always)]
+    #[must_use]
     pub fn get(&self, c: char) -> T {
         self.character_by_type(self.header.trie_type, c)
     }
 
     /// Returns the value of a code point in the Basic Multilingual Plane (0..=0xFFFF), which may be
     /// a surrogate.
+    #[inline(always)]
     #[must_use]
-    #[inline]
     pub fn get16(&self, bmp: u16) -> T {
-        self.get32(u32::from(bmp))
+        let c = u32::from(bmp);
+        match self.header.trie_type {
+            TrieType::Fast => self.fast_value(c),
+            TrieType::Small => self.value_by_type(TrieType::Small, c),
+        }
     }
 
     /// Returns the value of a supplementary code point (0x10000..=0x10FFFF). For any other argument
     /// it returns what [`get32`](Self::get32) returns.
-    #[must_use]
     #[inline]
+    #[must_use]
     pub fn get32_supplementary(&self, supplementary: u32) -> T {
         self.get32(supplementary)
     }
 
     /// Returns the number of the value of the code point `c`: the `to_u32` of what
     /// [`get32`](Self::get32) returns.
-    #[must_use]
     #[inline]
+    #[must_use]
     pub fn get32_u32(&self, c: u32) -> u32 {
         self.get32(c).to_u32()
     }
@@ -323,8 +321,8 @@ impl<'trie, T: TrieValue> CodePointTrie<'trie, T> {
 
     /// Returns the error value, which is the value of all numbers above 0x10FFFF: the last cell of
     /// the data.
-    #[must_use]
     #[inline]
+    #[must_use]
     pub fn error_value(&self) -> T {
         self.data.as_slice().at(self.data.len() - 1)
     }

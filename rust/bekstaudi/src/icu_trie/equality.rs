@@ -1,7 +1,9 @@
 //! Two tries are equal if their headers, indices and data are, whether they borrow or own them.
 
 use crate::icu_trie::cptrie::CodePointTrie;
+use crate::icu_trie_core::header::CodePointTrieHeader;
 use crate::icu_trie_core::value::TrieValue;
+use crate::support::prelude::*;
 
 impl<'trie, T: TrieValue> PartialEq for CodePointTrie<'trie, T> {
     #[inline]

@@ -2,6 +2,7 @@
 
 pub use crate::icu_trie_core::error::CodePointTrieError;
 use crate::icu_zerovec::MemoryError;
+use crate::support::prelude::*;
 
 /// The error of a function that makes a trie of copied parts.
 #[derive(Clone, Copy, Debug, PartialEq, Eq, Hash)]

@@ -1,6 +1,7 @@
 //! Iterators over ranges with values.
 
 use crate::icu_trie_core::range::CodePointMapRange;
+use crate::support::prelude::*;
 use core::iter::Fuse;
 
 /// An iterator over ranges with values that joins adjacent ranges with equal values.

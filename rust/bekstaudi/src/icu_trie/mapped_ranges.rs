@@ -4,6 +4,7 @@ use crate::icu_trie::iterator_utils::RangeListIteratorCoalescer;
 use crate::icu_trie::ranges::CodePointMapRangeIterator;
 use crate::icu_trie_core::range::CodePointMapRange;
 use crate::icu_trie_core::value::TrieValue;
+use crate::support::prelude::*;
 
 impl<'trie, T: TrieValue> CodePointTrie<'trie, T> {
     /// Returns an iterator over the ranges whose values are equal under `map`. It replaces the

@@ -15,6 +15,7 @@
 //! The modules `cells`, `coherent`, `header`, `impl_const`, `lookup`, `value` and `walk` are from
 //! the crate `icu_trie_core`, which has the format for any index and data.
 
+use crate::support::prelude::*;
 mod cell_bytes;
 mod coherence;
 mod convert;
@@ -29,5 +30,5 @@ pub mod ranges;
 pub mod ranges_of_value;
 pub mod typed;
 
-#[allow(unused_imports)] // Tests use them.
+#[allow(unused_imports)]
 pub use crate::icu_trie_core::{cells, coherent, header, impl_const, lookup, value, walk};

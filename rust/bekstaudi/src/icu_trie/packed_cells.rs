@@ -2,11 +2,12 @@
 
 use crate::icu_trie_core::cells::Cells;
 use crate::icu_trie_core::header::{CodePointTrieHeader, TrieType};
-use crate::icu_trie_core::lookup::{fast_place_of, high_place_of, small_place_of};
+use crate::icu_trie_core::lookup::small_place_of;
 use crate::icu_trie_core::range::CodePointMapRange;
 use crate::icu_trie_core::value::TrieValue;
 use crate::icu_trie_core::walk::walk;
 use crate::icu_zerovec::ZeroSlice;
+use crate::support::prelude::*;
 
 /// The cells of two packed vectors.
 pub(crate) struct PackedCells<'a, T: TrieValue> {
@@ -46,28 +47,16 @@ impl<'a, T: TrieValue> Cells<T> for PackedCells<'a, T> {
     }
 }
 
-/// `fast_place_of` over packed vectors.
+/// `small_place_of` over packed vectors.
 #[inline(always)]
-pub(crate) fn fast_place_in<T: TrieValue>(
-    header: &CodePointTrieHeader,
+fn small_place_counted<T: TrieValue>(
+    trie_type: TrieType,
     index: ZeroSlice<'_, u16>,
     values: ZeroSlice<'_, T>,
     c: u32,
-) -> usize {
+) -> Option<usize> {
     let mut cells = PackedCells { index, values };
-    fast_place_of(header, &mut cells, c)
-}
-
-/// `high_place_of` over packed vectors.
-#[inline(always)]
-pub(crate) fn high_place_in<T: TrieValue>(
-    header: &CodePointTrieHeader,
-    index: ZeroSlice<'_, u16>,
-    values: ZeroSlice<'_, T>,
-    c: u32,
-) -> usize {
-    let cells = PackedCells { index, values };
-    high_place_of(header, &cells, c)
+    small_place_of(trie_type, &mut cells, c)
 }
 
 /// `small_place_of` over packed vectors.
@@ -78,8 +67,19 @@ pub(crate) fn small_place_in<T: TrieValue>(
     values: ZeroSlice<'_, T>,
     c: u32,
 ) -> Option<usize> {
+    small_place_counted::<T>(trie_type, index, values, c)
+}
+
+/// `walk` over packed vectors.
+#[inline(always)]
+fn walk_counted<T: TrieValue>(
+    header: &CodePointTrieHeader,
+    index: ZeroSlice<'_, u16>,
+    values: ZeroSlice<'_, T>,
+    c: u32,
+) -> Option<CodePointMapRange<T>> {
     let mut cells = PackedCells { index, values };
-    small_place_of(trie_type, &mut cells, c)
+    walk(header, &mut cells, c)
 }
 
 /// `walk` over packed vectors.
@@ -90,6 +90,5 @@ pub(crate) fn walk_in<T: TrieValue>(
     values: ZeroSlice<'_, T>,
     c: u32,
 ) -> Option<CodePointMapRange<T>> {
-    let mut cells = PackedCells { index, values };
-    walk(header, &mut cells, c)
+    walk_counted::<T>(header, index, values, c)
 }

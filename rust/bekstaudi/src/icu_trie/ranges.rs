@@ -16,8 +16,8 @@ impl<'trie, T: TrieValue> CodePointTrie<'trie, T> {
     /// `c` on. Otherwise the header decides: [`is_coherent`](Self::is_coherent) says how.
     ///
     /// Returns `None` if `c` is above 0x10FFFF, or if the trie lacks a cell that is needed.
-    #[must_use]
     #[inline(always)]
+    #[must_use]
     pub fn get_range(&self, c: u32) -> Option<CodePointMapRange<T>> {
         walk_in(&self.header, self.index.as_slice(), self.data.as_slice(), c)
     }

@@ -2,6 +2,7 @@
 use crate::icu_trie::cptrie::CodePointTrie;
 use crate::icu_trie::ranges::CodePointMapRangeIterator;
 use crate::icu_trie_core::value::TrieValue;
+use crate::support::prelude::*;
 use core::ops::RangeInclusive;
 
 impl<'trie, T: TrieValue> CodePointTrie<'trie, T> {

@@ -7,6 +7,7 @@
 use crate::icu_trie::cptrie::CodePointTrie;
 use crate::icu_trie_core::header::TrieType;
 use crate::icu_trie_core::value::TrieValue;
+use crate::support::prelude::*;
 
 /// A trie whose type is known at compile time, so that look-ups do not test it.
 ///
@@ -72,21 +73,6 @@ pub trait TypedCodePointTrie<'trie, T: TrieValue> {
     fn get32_by_fast_index(&self, c: u32) -> Option<T>;
 }
 
-/// Returns the value of `c`, in a trie of this type, if `c` is below the fast limit. Otherwise
-/// returns `None`.
-#[inline(always)]
-fn fast_value_of<T: TrieValue>(
-    trie: &CodePointTrie<'_, T>,
-    trie_type: TrieType,
-    c: u32,
-) -> Option<T> {
-    if c < trie_type.fast_limit() {
-        Some(trie.fast_value(c))
-    } else {
-        None
-    }
-}
-
 /// A trie of the type `Fast`: look-ups in the whole Basic Multilingual Plane take two reads.
 #[derive(Debug, PartialEq, Eq)]
 pub struct FastCodePointTrie<'trie, T: TrieValue> {
@@ -95,15 +81,15 @@ pub struct FastCodePointTrie<'trie, T: TrieValue> {
 
 impl<'trie, T: TrieValue> FastCodePointTrie<'trie, T> {
     /// Returns a reference to the trie as a [`CodePointTrie`].
-    #[must_use]
     #[inline(always)]
+    #[must_use]
     pub const fn as_untyped_ref(&self) -> &CodePointTrie<'trie, T> {
         &self.inner
     }
 
     /// Converts the trie into a [`CodePointTrie`].
-    #[must_use]
     #[inline(always)]
+    #[must_use]
     pub fn to_untyped(self) -> CodePointTrie<'trie, T> {
         self.inner
     }
@@ -134,7 +120,7 @@ impl<'trie, T: TrieValue> TypedCodePointTrie<'trie, T> for FastCodePointTrie<'tr
 
     #[inline(always)]
     fn get32_by_fast_index(&self, c: u32) -> Option<T> {
-        fast_value_of(&self.inner, TrieType::Fast, c)
+        self.inner.fast_value_by_type(TrieType::Fast, c)
     }
 }
 
@@ -146,15 +132,15 @@ pub struct SmallCodePointTrie<'trie, T: TrieValue> {
 
 impl<'trie, T: TrieValue> SmallCodePointTrie<'trie, T> {
     /// Returns a reference to the trie as a [`CodePointTrie`].
-    #[must_use]
     #[inline(always)]
+    #[must_use]
     pub const fn as_untyped_ref(&self) -> &CodePointTrie<'trie, T> {
         &self.inner
     }
 
     /// Converts the trie into a [`CodePointTrie`].
-    #[must_use]
     #[inline(always)]
+    #[must_use]
     pub fn to_untyped(self) -> CodePointTrie<'trie, T> {
         self.inner
     }
@@ -185,7 +171,7 @@ impl<'trie, T: TrieValue> TypedCodePointTrie<'trie, T> for SmallCodePointTrie<'t
 
     #[inline(always)]
     fn get32_by_fast_index(&self, c: u32) -> Option<T> {
-        fast_value_of(&self.inner, TrieType::Small, c)
+        self.inner.fast_value_by_type(TrieType::Small, c)
     }
 }
 

@@ -24,6 +24,7 @@ pub use crate::icu_trie_binary::swapped::from_binary_swapped;
 pub use crate::icu_trie_binary::write::{binary_len, to_binary, write_binary};
 use crate::icu_zerovec::ule::UleError;
 use crate::icu_zerovec::{ZeroSlice, ZeroVec};
+use crate::support::prelude::*;
 
 /// Returns the index, read in place.
 #[inline]
@@ -52,10 +53,10 @@ pub(crate) fn null_number<T: TrieValue>(header: &BinaryHeader, values: ZeroSlice
     } else {
         header.data_length.saturating_sub(2)
     };
-    match values.get(place as usize) {
-        Some(value) => value.to_u32(),
-        None => 0,
-    }
+    let Some(value) = values.get(place as usize) else {
+        return 0;
+    };
+    value.to_u32()
 }
 
 /// Returns the header of a trie with these values.

@@ -3,6 +3,7 @@
 use crate::icu_trie::error::CodePointTrieError;
 use crate::icu_zerovec::MemoryError;
 use crate::support::AllocError;
+use crate::support::prelude::*;
 
 /// Why bytes are not a trie in the binary form. If several variants apply, the first one is
 /// returned.

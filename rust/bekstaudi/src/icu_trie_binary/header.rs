@@ -2,6 +2,7 @@
 
 use crate::icu_trie::header::TrieType;
 use crate::icu_trie_binary::error::BinaryError;
+use crate::support::prelude::*;
 
 /// The size of the header in bytes.
 pub(crate) const HEADER_SIZE: usize = 16;

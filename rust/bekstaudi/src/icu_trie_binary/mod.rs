@@ -7,6 +7,7 @@
 //! - `swapped`: reads tries in the other byte order
 //! - `write`: writes the form
 
+use crate::support::prelude::*;
 pub mod binary;
 mod error;
 mod header;

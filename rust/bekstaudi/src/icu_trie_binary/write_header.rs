@@ -2,6 +2,7 @@
 
 use crate::icu_trie::header::TrieType;
 use crate::icu_trie_binary::header::{BinaryHeader, HEADER_SIZE, SIGNATURE, ValueWidth};
+use crate::support::prelude::*;
 
 /// Returns the code of a type in the options.
 #[inline]

@@ -7,6 +7,7 @@ use crate::icu_trie::value::TrieValue;
 use crate::icu_trie_builder::builder::CodePointTrieBuilder;
 use crate::icu_trie_core::walk::is_same;
 use crate::icu_zerovec::{CODE_POINT_LIMIT, MemoryError};
+use crate::support::prelude::*;
 
 /// Returns the value with this number, which must exist.
 #[inline]

@@ -5,6 +5,7 @@ use crate::icu_trie::value::TrieValue;
 use crate::icu_trie_builder::writes::{ApplyRefused, Write};
 use crate::icu_trie_map::number_map::NumberMap;
 use crate::icu_zerovec::{CODE_POINT_LIMIT, MemoryError};
+use crate::support::prelude::*;
 use core::ops::RangeInclusive;
 
 /// A map from code points to values that can be changed, and then built into a trie.

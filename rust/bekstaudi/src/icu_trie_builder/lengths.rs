@@ -1,6 +1,7 @@
 //! The lengths of data blocks, as `usize`.
 
 use crate::icu_trie_core::impl_const::{FAST_TYPE_DATA_BLOCK_LENGTH, SMALL_DATA_BLOCK_LENGTH};
+use crate::support::prelude::*;
 
 /// The number of cells in a block of the fast index: 64.
 pub(crate) const FAST_BLOCK: usize = FAST_TYPE_DATA_BLOCK_LENGTH as usize;

@@ -19,6 +19,7 @@
 //!
 //! The crate `icu_trie_compaction` places blocks and makes the index.
 
+use crate::support::prelude::*;
 mod amend;
 mod build;
 pub mod builder;

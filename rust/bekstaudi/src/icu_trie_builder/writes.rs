@@ -1,6 +1,7 @@
 //! Writes to a map from code points.
 
 pub use crate::icu_zerovec::memory::ApplyRefused;
+use crate::support::prelude::*;
 use core::ops::RangeInclusive;
 
 /// One write to a map from code points.

@@ -1,5 +1,6 @@
 //! Blocks of cells, and how far a block overlaps the end of other cells.
 
+use crate::support::prelude::*;
 /// Returns block number `number` of `size` cells.
 #[inline]
 pub(crate) fn block_at(cells: &[u32], size: usize, number: usize) -> &[u32] {

@@ -2,6 +2,7 @@
 
 use crate::icu_zerovec::MemoryError;
 use crate::icu_zerovec::memory::ApplyRefused;
+use crate::support::prelude::*;
 use crate::support::{AllocError, AllocFailed};
 
 /// The reasons why a trie could not be built.

@@ -1,6 +1,7 @@
 //! Rolling hashes of windows of cells: the hash of a window is computed from that of the previous
 //! one, in constant time for any length.
 
+use crate::support::prelude::*;
 /// The base of the hash: an odd number near 2^64 divided by the golden ratio.
 const FACTOR: u64 = 0x9e37_79b9_7f4a_7c15;
 

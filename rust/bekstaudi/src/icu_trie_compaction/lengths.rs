@@ -1,6 +1,7 @@
 //! The lengths of index blocks, as `usize`.
 
 use crate::icu_trie_core::impl_const::{INDEX_2_BLOCK_LENGTH, INDEX_3_BLOCK_LENGTH};
+use crate::support::prelude::*;
 
 /// The number of cells in an index-2 block.
 pub(crate) const INDEX_2_BLOCK: usize = INDEX_2_BLOCK_LENGTH as usize;

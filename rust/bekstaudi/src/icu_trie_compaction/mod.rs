@@ -10,6 +10,7 @@
 //!   blocks
 //! - `error`: why a trie could not be built
 
+use crate::support::prelude::*;
 mod blocks;
 pub mod cell_store;
 pub mod error;

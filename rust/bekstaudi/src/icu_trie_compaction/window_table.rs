@@ -67,6 +67,7 @@ impl WindowTable {
 
     /// Returns the first position at which `wanted` occurs in `cells`, or `None` if the table has
     /// no such window. `hash` is the hash of `wanted`.
+    // Few searches go past the first test, and a call would take longer than that.
     #[inline(always)]
     pub(crate) fn find(&self, cells: &[u32], wanted: &[u32], hash: u64) -> Option<usize> {
         let mut at = self.heads[self.bucket_of(hash)] as usize;

@@ -1,5 +1,6 @@
 //! The index and the data of a trie, cell by cell, with a count of the reads.
 
+use crate::support::prelude::*;
 /// The index and the data of a trie, wherever they are stored.
 ///
 /// [`look_up`](crate::icu_trie_core::lookup::look_up) reads a trie only through these methods, so their count is
@@ -7,7 +8,6 @@
 /// costs no bytes and no time. [`Steps`] implements it.
 pub trait Cells<T> {
     /// Returns the number of cells in the index. Does not count as a read.
-    // Tests call it.
     #[allow(dead_code)]
     fn index_len(&self) -> usize;
 

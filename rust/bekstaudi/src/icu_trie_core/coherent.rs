@@ -14,6 +14,7 @@ use crate::icu_trie_core::lookup::{high_cell_of, index2_cell_of, offset_of};
 use crate::icu_trie_core::value::TrieValue;
 use crate::icu_trie_core::walk::is_same;
 use crate::icu_zerovec::CODE_POINT_LIMIT;
+use crate::support::prelude::*;
 
 /// Returns true if the `len` data cells from `offset` on all exist and equal `value`.
 #[inline]
@@ -236,9 +237,7 @@ fn has_coherent_blocks<T: TrieValue, C: Cells<T>>(
 /// not checked again.
 #[inline]
 pub fn is_coherent<T: TrieValue, C: Cells<T>>(header: &CodePointTrieHeader, cells: &mut C) -> bool {
-    if !header.high_start.is_multiple_of(CP_PER_INDEX_2_ENTRY)
-        || header.high_start > CODE_POINT_LIMIT
-    {
+    if header.high_start % CP_PER_INDEX_2_ENTRY != 0 || header.high_start > CODE_POINT_LIMIT {
         return false;
     }
     has_coherent_blocks(header, cells)

@@ -1,5 +1,6 @@
 //! Why the parts of a trie are rejected.
 
+use crate::support::prelude::*;
 /// The reasons why parts do not form a trie.
 #[derive(Clone, Copy, Debug, PartialEq, Eq, Hash)]
 #[non_exhaustive]

@@ -14,6 +14,7 @@ use crate::icu_trie_core::lookup::{high_cell_of, index2_cell_of, offset_of};
 use crate::icu_trie_core::value::TrieValue;
 use crate::icu_trie_core::walk::is_same;
 use crate::icu_zerovec::CODE_POINT_LIMIT;
+use crate::support::prelude::*;
 use core::ops::Range;
 
 /// Returns the code point at which the blocks of a trie end: the high start, or 0x110000 if that is

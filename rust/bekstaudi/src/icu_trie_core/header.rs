@@ -4,6 +4,7 @@ use crate::icu_trie_core::error::CodePointTrieError;
 use crate::icu_trie_core::impl_const::{
     BMP_INDEX_LENGTH, FAST_TYPE_FAST_INDEXING_MAX, SMALL_INDEX_LENGTH, SMALL_LIMIT,
 };
+use crate::support::prelude::*;
 
 /// The part of the code space that the fast index covers.
 #[derive(Clone, Copy, Debug, PartialEq, Eq, Hash)]
@@ -17,8 +18,8 @@ pub enum TrieType {
 impl TrieType {
     /// Returns the fast limit: the first code point that the fast index does not cover, 0x10000 or
     /// 0x1000.
-    #[must_use]
     #[inline(always)]
+    #[must_use]
     pub const fn fast_limit(self) -> u32 {
         match self {
             TrieType::Fast => FAST_TYPE_FAST_INDEXING_MAX + 1,
@@ -28,8 +29,8 @@ impl TrieType {
 
     /// Returns the number of cells in the fast index, one for each block of 64 below the fast
     /// limit: 1,024 or 64.
-    #[must_use]
     #[inline(always)]
+    #[must_use]
     pub const fn fast_index_len(self) -> usize {
         match self {
             TrieType::Fast => BMP_INDEX_LENGTH as usize,

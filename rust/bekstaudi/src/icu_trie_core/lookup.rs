@@ -8,6 +8,7 @@ use crate::icu_trie_core::impl_const::{
     SHIFT_2, SHIFT_3, SMALL_DATA_MASK, SMALL_INDEX_LENGTH,
 };
 use crate::icu_zerovec::CODE_POINT_LIMIT;
+use crate::support::prelude::*;
 
 /// Returns the index-2 cell of a code point, in at most two reads.
 #[inline]
@@ -105,42 +106,6 @@ pub fn look_up<T, C: Cells<T>>(header: &CodePointTrieHeader, cells: &mut C, c: u
     look_up_far(header, cells, c)
 }
 
-/// Returns the data position of the cell of `c`, in one read. `c` must be below the fast limit, and
-/// the fast index must be whole.
-///
-/// The fast index is whole if it has a cell for each block of 64 below the fast limit, and all
-/// these blocks are inside the data. Then no bounds check is needed, and there always is a cell.
-/// Every trie whose parts were checked when it was made has a whole fast index.
-///
-/// Public for the crates that build on this one.
-#[inline(always)]
-pub(crate) fn fast_place_of<T, C: Cells<T>>(
-    _: &CodePointTrieHeader,
-    cells: &mut C,
-    c: u32,
-) -> usize {
-    let offset = cells.index_at((c >> FAST_TYPE_SHIFT) as usize);
-    offset as usize + (c & FAST_TYPE_DATA_MASK) as usize
-}
-
-/// Returns the cell of `c`, in two reads. `c` must be below the fast limit, and the fast index must
-/// be whole, as for [`fast_place_of`].
-#[inline(always)]
-fn look_up_fast<T, C: Cells<T>>(header: &CodePointTrieHeader, cells: &mut C, c: u32) -> T {
-    let place = fast_place_of(header, cells, c);
-    cells.data_at(place)
-}
-
-/// Returns the data position of the high value, which is the cell of `c`. `c` must be at or above
-/// the fast limit and the high start, and at most 0x10FFFF.
-///
-/// The fast index must be whole, which implies that the data have a high value. Reads nothing.
-/// Public for the crates that build on this one.
-#[inline(always)]
-pub(crate) fn high_place_of<T, C: Cells<T>>(_: &CodePointTrieHeader, cells: &C, _: u32) -> usize {
-    cells.data_len() - HIGH_VALUE_NEG_DATA_OFFSET as usize
-}
-
 /// Returns what [`look_up`] returns for `c`, which is at or above the fast limit.
 ///
 /// Each case reads its own data cell, since one shared read at the end would cost each case an
@@ -169,17 +134,18 @@ fn look_up_small<T, C: Cells<T>>(header: &CodePointTrieHeader, cells: &mut C, c:
 /// needs no bounds checks.
 ///
 /// The fast index is whole if it has a cell for each block of 64 below the fast limit, and all
-/// these blocks are inside the data.
-#[inline(always)]
-// Tests call it.
+/// these blocks are inside the data. Every trie whose parts were checked when it was made has a
+/// whole fast index.
 #[allow(dead_code)]
+#[inline(always)]
 pub(crate) fn look_up_whole<T, C: Cells<T>>(
     header: &CodePointTrieHeader,
     cells: &mut C,
     c: u32,
 ) -> Option<T> {
     if c < header.trie_type.fast_limit() {
-        return Some(look_up_fast(header, cells, c));
+        let offset = cells.index_at((c >> FAST_TYPE_SHIFT) as usize);
+        return Some(cells.data_at(offset as usize + (c & FAST_TYPE_DATA_MASK) as usize));
     }
     look_up_far(header, cells, c)
 }

@@ -14,6 +14,7 @@
 //! This crate leaves open how the cells are stored. The crate `icu_trie` has the trie over packed
 //! vectors.
 
+use crate::support::prelude::*;
 pub mod cells;
 pub mod coherent;
 pub mod error;

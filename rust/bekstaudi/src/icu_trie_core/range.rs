@@ -1,4 +1,5 @@
 //! A range of code points that have the same value.
+use crate::support::prelude::*;
 use core::ops::RangeInclusive;
 
 /// A range of code points and the value that each of them has in a trie.

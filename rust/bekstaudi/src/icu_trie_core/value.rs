@@ -1,6 +1,7 @@
 //! The values of a trie.
 
 use crate::icu_zerovec::ule::AsULE;
+use crate::support::prelude::*;
 
 /// A value that a trie can store: a packed value that has a 32-bit number.
 ///

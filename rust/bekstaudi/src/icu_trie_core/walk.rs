@@ -14,6 +14,7 @@ use crate::icu_trie_core::lookup::{index2_cell_of, look_up, offset_of};
 use crate::icu_trie_core::range::CodePointMapRange;
 use crate::icu_trie_core::value::TrieValue;
 use crate::icu_zerovec::CODE_POINT_LIMIT;
+use crate::support::prelude::*;
 
 /// Returns true if two values are equal. Public for the crates that build on this one.
 #[must_use]

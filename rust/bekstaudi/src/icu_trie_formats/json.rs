@@ -11,13 +11,14 @@
 //! # Ok::<(), Box<dyn std::error::Error>>(())
 //! ```
 
+#![cfg(feature = "json")]
 use crate::icu_trie::cptrie::CodePointTrie;
 use crate::icu_trie::error::{CodePointTrieError, PartsError};
 use crate::icu_trie::header::{CodePointTrieHeader, TrieType};
 use crate::icu_trie::value::TrieValue;
 use crate::icu_zerovec::{MemoryError, ZeroSlice};
 use crate::support::prelude::*;
-use serde_json::Value;
+use serde_json::{Value, json};
 
 /// Why a JSON value is not a trie.
 #[derive(Clone, Copy, Debug, PartialEq, Eq, Hash)]

@@ -7,8 +7,7 @@
 //! - `planes`: the trie that maps each code point to the number of its plane
 //! - `trie_toml`: reads tries from TOML
 
-#[cfg(feature = "json")]
+use crate::support::prelude::*;
 pub mod json;
 pub mod planes;
-#[cfg(any(feature = "toml", feature = "serde"))]
 pub mod trie_toml;

@@ -1,5 +1,6 @@
 //! The trie of the planes: the value of the code point `c` is the number of its plane, `c >> 16`.
 
+use crate::support::prelude::*;
 mod table;
 
 use crate::icu_trie::cptrie::CodePointTrie;

@@ -1,13 +1,15 @@
 //! Reads a trie from TOML in the form that ICU4C exports: a table with the header, the index, and
 //! the data in one of three widths.
 
+#![cfg(any(feature = "toml", feature = "serde"))]
 use crate::icu_trie::cptrie::CodePointTrie;
 use crate::icu_trie::error::{CodePointTrieError, PartsError};
 use crate::icu_trie::header::{CodePointTrieHeader, TrieType};
 use crate::icu_trie::value::TrieValue;
 use crate::icu_zerovec::MemoryError;
-use crate::support::prelude::*;
 #[cfg(feature = "toml")]
+use crate::support::AllocError;
+use crate::support::prelude::*;
 #[cfg(feature = "toml")]
 use toml::value::{Table, Value};
 

@@ -109,7 +109,7 @@ impl Blocks {
     /// that these are next to each other.
     fn mix_around(&mut self, c: usize) -> Result<(), AllocError> {
         let number = c / 16;
-        if c.is_multiple_of(16) || self.mixed[number] {
+        if c % 16 == 0 || self.mixed[number] {
             return Ok(());
         }
         if number >= FIRST_SINGLE {

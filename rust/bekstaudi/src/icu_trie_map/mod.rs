@@ -3,5 +3,6 @@
 //! - `number_map`: [`NumberMap`](number_map::NumberMap), the map as the trie builder uses it
 //! - `blocks`: the numbers in blocks of 16 code points
 
+use crate::support::prelude::*;
 mod blocks;
 pub mod number_map;

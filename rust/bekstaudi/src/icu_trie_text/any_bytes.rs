@@ -4,6 +4,7 @@ use crate::icu_trie_text::first_utf8::{
     ill_formed_size, is_high_of_four, is_high_of_three, of_four, of_three, of_two, trail_of,
 };
 use crate::icu_trie_text::part_values::{PartValues, Reading};
+use crate::support::prelude::*;
 
 /// Returns the character at the start of the bytes, which are not empty, and its size in bytes.
 /// `None` if they do not start with a character.
@@ -46,10 +47,9 @@ fn near_two<T, V: PartValues<T>>(trie: &V, bytes: &[u8]) -> Option<T> {
 }
 
 /// Returns the value of the three-byte character at the start of the bytes, in two reads.
-/// `None` if there is none, or if its value takes more reads. The first `NEAR` blocks are known to
-/// be near.
+/// `None` if there is none, or if its value takes more reads.
 #[inline(always)]
-fn near_three<T, V: PartValues<T>, const NEAR: u32>(trie: &V, bytes: &[u8]) -> Option<T> {
+fn near_three<T, V: PartValues<T>>(trie: &V, bytes: &[u8]) -> Option<T> {
     let second = trail_of(bytes[1]);
     let third = trail_of(bytes[2]);
     if second | third >= 0x40 {
@@ -81,7 +81,7 @@ fn near_four<T, V: PartValues<T>>(trie: &V, bytes: &[u8]) -> Option<T> {
 /// Returns the value of the character at the start of the bytes, and its size in bytes. `None` if
 /// there is none, or if its value takes a call. There are at least four bytes.
 #[inline(always)]
-fn near_value<T, V: PartValues<T>, const NEAR: u32>(trie: &V, bytes: &[u8]) -> Option<(T, usize)> {
+fn near_value<T, V: PartValues<T>>(trie: &V, bytes: &[u8]) -> Option<(T, usize)> {
     let lead = bytes[0];
     if lead < 0xE0 {
         if lead < 0x80 {
@@ -92,19 +92,19 @@ fn near_value<T, V: PartValues<T>, const NEAR: u32>(trie: &V, bytes: &[u8]) -> O
         }
         Some((near_two(trie, bytes)?, 2))
     } else if lead < 0xF0 {
-        Some((near_three::<T, V, NEAR>(trie, bytes)?, 3))
+        Some((near_three(trie, bytes)?, 3))
     } else {
         Some((near_four(trie, bytes)?, 4))
     }
 }
 
-/// Bytes that may be ill-formed. The first `NEAR` blocks are known to be near.
-pub(crate) struct AnyBytes<const NEAR: u32>;
+/// Bytes that may be ill-formed.
+pub(crate) struct AnyBytes;
 
-impl<T, V: PartValues<T>, const NEAR: u32> Reading<T, V> for AnyBytes<NEAR> {
+impl<T, V: PartValues<T>> Reading<T, V> for AnyBytes {
     #[inline(always)]
     fn first_value(trie: &V, bytes: &[u8]) -> (T, usize) {
-        match near_value::<T, V, NEAR>(trie, bytes) {
+        match near_value(trie, bytes) {
             Some(found) => found,
             None => value_apart(trie, bytes),
         }

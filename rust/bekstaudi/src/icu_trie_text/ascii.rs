@@ -3,7 +3,7 @@
 use crate::icu_trie::cptrie::CodePointTrie;
 use crate::icu_trie_core::value::TrieValue;
 use crate::icu_zerovec::ZeroSlice;
-use crate::support::cells::{cell_of_first, first_cells, usual_cell};
+use crate::support::prelude::*;
 
 /// The number of ASCII code points.
 const ASCII_END: u32 = 0x80;
@@ -44,6 +44,17 @@ pub(crate) fn ascii_end<T: TrieValue>(index: ZeroSlice<'_, u16>, values: ZeroSli
     ASCII_END
 }
 
+/// Returns the first 32 cells of an index, or zeros if there are fewer.
+#[inline]
+fn first_cells<'a>(index: ZeroSlice<'a, u16>) -> &'a [[u8; 2]; 32] {
+    index
+        .as_bytes()
+        .as_chunks::<2>()
+        .0
+        .first_chunk::<32>()
+        .unwrap_or(&[[0; 2]; 32])
+}
+
 impl<'a, T: TrieValue> AsciiInPlace<'a, T> {
     /// Borrows the trie.
     #[inline]
@@ -55,28 +66,31 @@ impl<'a, T: TrieValue> AsciiInPlace<'a, T> {
             values,
             end: ascii_end(index, values),
             blocks: header.trie_type.fast_index_len() as u32,
-            two_bytes: first_cells(index.as_bytes()),
+            two_bytes: first_cells(index),
         }
     }
 
     /// Returns the value of an ASCII code point if it is known to be at its own index in the data.
     #[inline(always)]
     pub(crate) fn ascii(&self, c: u32) -> Option<T> {
-        T::from_unaligned(cell_of_first(
-            self.values.as_bytes(),
-            T::WIDTH,
-            self.end as usize,
-            c as usize,
-        )?)
+        self.values.get_below(self.end as usize, c as usize)
     }
 
     /// Returns the value of the code point at index `place` in a block of 64.
     #[inline(always)]
     pub(crate) fn at(&self, block: u32, place: u32) -> T {
-        if let Some(offset) = usual_cell(T::WIDTH, self.index.as_bytes(), self.blocks, 0, block) {
+        if let Some(offset) = self.index.get_below(self.blocks as usize, block as usize) {
             return self.values.at(offset as usize + place as usize);
         }
         self.trie.get32(block * 64 + place)
+    }
+
+    /// Returns what [`at`](Self::at) returns, for a block of characters of two bytes.
+    #[inline(always)]
+    pub(crate) fn at_two(&self, block: u32, place: u32) -> T {
+        // The remainder is the block itself: the compiler then knows that there is an offset.
+        let offset = u16::from_le_bytes(self.two_bytes[block as usize % 32]);
+        self.values.at(usize::from(offset) + place as usize)
     }
 
     /// Returns the value of a character.
@@ -84,13 +98,6 @@ impl<'a, T: TrieValue> AsciiInPlace<'a, T> {
     pub(crate) fn get(&self, c: char) -> T {
         let c = u32::from(c);
         self.at(c / 64, c % 64)
-    }
-
-    /// Returns what `at` returns, for a block of characters of two bytes.
-    #[inline(always)]
-    pub(crate) fn at_two(&self, block: u32, place: u32) -> T {
-        let offset = u16::from_le_bytes(self.two_bytes[block as usize % 32]);
-        self.values.at(usize::from(offset) + place as usize)
     }
 
     /// Returns the value of a character, for those of four bytes: no fast index has their blocks.

@@ -1,11 +1,12 @@
 //! The first and the last character of bytes that may be ill-formed UTF-8.
 
 use crate::icu_trie_text::first_utf8::{of_four, of_three, of_two};
+use crate::support::prelude::*;
 
 /// Returns the character at the start of the bytes, and its size in bytes. `None` if they are empty
 /// or do not start with a character.
-#[must_use]
 #[inline(always)]
+#[must_use]
 pub fn first_character(bytes: &[u8]) -> Option<(char, usize)> {
     if bytes.is_empty() {
         return None;
@@ -40,8 +41,8 @@ fn last_lead(bytes: &[u8]) -> usize {
 
 /// Returns the character at the end of the bytes, and its size in bytes. `None` if they are empty
 /// or do not end with a character.
-#[must_use]
 #[inline(always)]
+#[must_use]
 pub fn last_character(bytes: &[u8]) -> Option<(char, usize)> {
     if bytes.is_empty() {
         return None;

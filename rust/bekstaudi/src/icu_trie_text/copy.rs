@@ -6,17 +6,16 @@ use crate::icu_trie_text::ascii::ascii_end;
 use crate::icu_trie_text::copy_parts::{Copied, copy_parts};
 use crate::icu_trie_text::part_values::PartValues;
 use crate::icu_zerovec::ZeroSlice;
-#[cfg(not(feature = "proved-reads"))]
-use crate::support::cells::cell_below;
-use crate::support::cells::{byte_cell, first_bytes};
+use crate::support::AllocError;
+use crate::support::prelude::*;
 
 /// A trie with its cells at hand.
 struct TrieCells<'a, T: TrieValue> {
     trie: &'a CodePointTrie<'a, T>,
     index: ZeroSlice<'a, u16>,
     values: ZeroSlice<'a, T>,
-    /// The first bytes of the data, which are the values of ASCII if `ascii_end` is not 0 and
-    /// each takes one byte.
+    /// The first bytes of the data, which are the values of ASCII if `ascii_end` is not 0 and each
+    /// takes one byte.
     ascii: &'a [u8; 0x80],
     /// 0x80 if the data start with the values of ASCII, and otherwise 0.
     ascii_end: u8,
@@ -33,6 +32,15 @@ impl<'a, T: TrieValue> Clone for TrieCells<'a, T> {
 
 impl<'a, T: TrieValue> Copy for TrieCells<'a, T> {}
 
+/// Returns the first 128 bytes of values, or zeros if there are fewer.
+#[inline(always)]
+fn first_bytes<'a, T: TrieValue>(values: ZeroSlice<'a, T>) -> &'a [u8; 0x80] {
+    values
+        .as_bytes()
+        .first_chunk::<0x80>()
+        .unwrap_or(&[0; 0x80])
+}
+
 impl<'a, T: TrieValue> TrieCells<'a, T> {
     /// Borrows the trie.
     #[inline(always)]
@@ -42,7 +50,7 @@ impl<'a, T: TrieValue> TrieCells<'a, T> {
             trie,
             index,
             values,
-            ascii: first_bytes(values.as_bytes()),
+            ascii: first_bytes(values),
             ascii_end: ascii_end(index, values) as u8,
             blocks: header.trie_type.fast_index_len() as u32,
         }
@@ -62,8 +70,9 @@ impl<'a, T: TrieValue> PartValues<T> for TrieCells<'a, T> {
 
     #[inline(always)]
     fn ascii(&self, c: u8) -> T {
+        // The remainder is `c` itself: the compiler then knows that there is such a byte.
         if T::WIDTH == 1
-            && let Some(value) = byte_cell(self.ascii, c).and_then(T::from_unaligned)
+            && let Some(value) = T::from_unaligned(&[self.ascii[usize::from(c) % 0x80]])
         {
             return value;
         }
@@ -76,10 +85,9 @@ impl<'a, T: TrieValue> PartValues<T> for TrieCells<'a, T> {
         self.values.at(offset as usize + place as usize)
     }
 
-    #[cfg(not(feature = "proved-reads"))]
     #[inline(always)]
     fn near_below(&self, block: u32, place: u32) -> Option<T> {
-        let offset = cell_below(self.index.as_bytes(), self.blocks, 0, block)?;
+        let offset = self.index.get_below(self.blocks as usize, block as usize)?;
         Some(self.values.at(offset as usize + place as usize))
     }
 

@@ -3,6 +3,7 @@
 use crate::icu_trie_text::any_bytes::{AnyBytes, value_apart};
 use crate::icu_trie_text::part_values::{PartValues, Reading, THREE_BYTE_BLOCKS, TWO_BYTE_BLOCKS};
 use crate::icu_trie_text::well_formed::WellFormed;
+use crate::support::prelude::*;
 
 /// How many values a function copied to a buffer, and how many bytes of the text they stand for.
 #[derive(Clone, Copy, Debug, PartialEq, Eq, Hash)]
@@ -28,7 +29,7 @@ const HIGH_BITS: u64 = 0x8080_8080_8080_8080;
 fn word_of(bytes: &[u8]) -> u64 {
     match bytes.first_chunk::<8>() {
         Some(eight) => u64::from_le_bytes(*eight),
-        None => 0,
+        None => unreachable!(),
     }
 }
 
@@ -49,8 +50,10 @@ fn copy_sixteen<T: Copy, V: PartValues<T>>(
     front: Copied,
 ) -> Copied {
     let (i, j) = (front.bytes, front.values);
-    for (value, byte) in values[j..j + 16].iter_mut().zip(&bytes[i..i + 16]) {
-        *value = trie.ascii(*byte);
+    let ascii = &bytes[i..i + 16];
+    let target = &mut values[j..j + 16];
+    for k in 0..16 {
+        target[k] = trie.ascii(ascii[k]);
     }
     Copied {
         values: j + 16,
@@ -156,13 +159,12 @@ fn copy_by<T: Copy, V: PartValues<T>, R: Reading<T, V>>(
 /// Public for the crates that build on this one.
 #[inline(always)]
 pub fn copy_parts<T: Copy, V: PartValues<T>>(trie: &V, bytes: &[u8], values: &mut [T]) -> Copied {
-    copy_by::<T, V, AnyBytes<0>>(trie, bytes, values)
+    copy_by::<T, V, AnyBytes>(trie, bytes, values)
 }
 
 /// Writes the values of the characters of well-formed UTF-8 as [`copy_parts`] does, in less time.
 ///
 /// Public for the crates that build on this one.
-#[allow(dead_code)] // The C library uses it.
 #[inline(always)]
 pub(crate) fn copy_characters<T: Copy, V: PartValues<T>>(
     trie: &V,

@@ -4,6 +4,7 @@ use crate::icu_trie::cptrie::CodePointTrie;
 use crate::icu_trie_core::value::TrieValue;
 use crate::icu_trie_text::found::Found;
 use crate::icu_trie_text::indices::value_indices_of;
+use crate::support::prelude::*;
 
 /// Returns the first character of the text whose value the closure accepts, with its byte offset
 /// and its value. Returns `None` if and only if the closure accepts no character's value.

@@ -1,14 +1,16 @@
-//! The first character of a text with its value, and what follows it.
+//! The first of the characters that are left of a text, with its value.
 
 use crate::icu_trie_core::value::TrieValue;
 use crate::icu_trie_text::ascii::AsciiInPlace;
+use crate::support::prelude::*;
 use core::str::Chars;
 
-/// Returns the first of these characters with its value, and passes it.
+/// Returns the first of the characters with its value, and removes it from them. `None` if and only
+/// if none are left.
 #[inline(always)]
-pub(crate) fn first_value<'t, T: TrieValue>(
+pub(crate) fn first_value<T: TrieValue>(
     trie: &AsciiInPlace<'_, T>,
-    text: &mut Chars<'t>,
+    text: &mut Chars<'_>,
 ) -> Option<(char, T)> {
     let first = text.next()?;
     match trie.ascii(u32::from(first)) {

@@ -1,5 +1,6 @@
 //! The first code point of 16-bit units.
 
+use crate::support::prelude::*;
 /// Returns true if the unit is a high surrogate, the first unit of a pair.
 #[inline(always)]
 fn is_high_surrogate(unit: u32) -> bool {
@@ -16,8 +17,8 @@ fn is_low_surrogate(unit: u32) -> bool {
 /// no units.
 ///
 /// A surrogate that is not part of a pair is a code point of its own. ICU: `U16_NEXT`.
-#[must_use]
 #[inline(always)]
+#[must_use]
 pub fn first_code_point(units: &[u16]) -> Option<(u32, &[u16])> {
     let (first, rest) = units.split_first()?;
     let unit = u32::from(*first);

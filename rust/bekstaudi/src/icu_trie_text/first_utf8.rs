@@ -1,5 +1,6 @@
 //! The first part of bytes that may be ill-formed UTF-8.
 
+use crate::support::prelude::*;
 /// Returns the six bits of a trail byte. For any other byte it returns 64 or more.
 #[inline(always)]
 pub(crate) fn trail_of(byte: u8) -> u32 {

@@ -20,6 +20,7 @@
 //! - `places`: the block of the first character of a text, and the index in it
 //! - `ascii`: tries whose data start with the values of ASCII
 
+use crate::support::prelude::*;
 mod any_bytes;
 mod ascii;
 #[allow(dead_code)] // The C library uses it.

@@ -1,5 +1,6 @@
 //! Values of the parts of bytes, and how they are read.
 
+use crate::support::prelude::*;
 /// The values of characters and of ill-formed parts, for
 /// [`copy_parts`](crate::icu_trie_text::copy_parts::copy_parts).
 ///
@@ -19,7 +20,8 @@ pub trait PartValues<T>: Copy {
     /// Returns the value of the code point at a position in a block of 64 code points.
     fn near(&self, block: u32, place: u32) -> T;
 
-    /// Returns the same value, or `None` if the block is not one of [`blocks`](Self::blocks).
+    /// Returns the value that [`near`](Self::near) returns, or `None` if the block is not one of
+    /// [`blocks`](Self::blocks).
     #[inline(always)]
     fn near_below(&self, block: u32, place: u32) -> Option<T> {
         if block >= self.blocks() {

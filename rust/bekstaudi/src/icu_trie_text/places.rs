@@ -1,6 +1,7 @@
 //! The block of 64 code points of a character, and the index in it. The bytes are well-formed
 //! UTF-8, so no trail byte is tested: each is 0x80 plus six bits of the number.
 
+use crate::support::prelude::*;
 /// Returns the block of 64 code points and the index in it of the first character of a text. The
 /// first byte is the lead byte of two.
 #[inline(always)]

@@ -24,3 +24,4 @@ pub use crate::icu_trie_text::indices::{ValueIndicesOf, value_indices_of};
 pub use crate::icu_trie_text::utf8::{ValuesOfUtf8, values_of_utf8};
 pub use crate::icu_trie_text::utf16::{ValuesOfUtf16, values_of_utf16};
 pub use crate::icu_trie_text::values::{ValuesOf, values_of};
+use crate::support::prelude::*;

@@ -4,6 +4,8 @@ use crate::icu_trie::cptrie::CodePointTrie;
 use crate::icu_trie_core::value::TrieValue;
 use crate::icu_trie_text::ascii::AsciiInPlace;
 use crate::icu_trie_text::first_utf8::{ill_formed_size, of_four, place_of_three, place_of_two};
+use crate::support::prelude::*;
+use core::slice::Iter;
 
 /// An iterator over the characters of bytes that may be ill-formed UTF-8, each with its value in a
 /// trie.
@@ -13,7 +15,7 @@ use crate::icu_trie_text::first_utf8::{ill_formed_size, of_four, place_of_three,
 #[must_use = "iterators are lazy and do nothing unless consumed"]
 pub struct ValuesOfUtf8<'a, T: TrieValue> {
     trie: AsciiInPlace<'a, T>,
-    rest: core::slice::Iter<'a, u8>,
+    rest: Iter<'a, u8>,
 }
 
 /// Returns an iterator over the characters of the bytes in order, each with its value in the trie.
@@ -43,21 +45,11 @@ pub fn values_of_utf8<'a, T: TrieValue>(
     }
 }
 
-/// Returns the item of a character, by its block of 64 and the index in it, and its size. The
-/// character is the first `size` of the bytes.
+/// Returns the item of the character with this number and this value, and its size in bytes.
 #[inline(always)]
-fn item_of<T: TrieValue>(
-    trie: &AsciiInPlace<'_, T>,
-    at: (u32, u32),
-    size: usize,
-) -> ((char, T), usize) {
+fn item_of<T>(number: u32, value: T, size: usize) -> ((char, T), usize) {
     // Without a jump, so that the compiler removes the character if the caller drops it.
-    let c = char::from_u32(at.0 * 64 + at.1).unwrap_or(char::REPLACEMENT_CHARACTER);
-    let value = if size == 2 {
-        trie.at_two(at.0, at.1)
-    } else {
-        trie.at(at.0, at.1)
-    };
+    let c = char::from_u32(number).unwrap_or(char::REPLACEMENT_CHARACTER);
     ((c, value), size)
 }
 
@@ -72,18 +64,17 @@ fn character_item<T: TrieValue>(
     let lead = bytes[0];
     if lead < 0xE0 {
         if lead < 0x80 {
-            return Some(item_of(
-                trie,
-                (u32::from(lead / 64), u32::from(lead % 64)),
-                1,
-            ));
+            let c = u32::from(lead);
+            return Some(item_of(c, trie.at(c / 64, c % 64), 1));
         }
         if lead < 0xC2 {
             return None;
         }
-        Some(item_of(trie, place_of_two(bytes)?, 2))
+        let (block, place) = place_of_two(bytes)?;
+        Some(item_of(block * 64 + place, trie.at_two(block, place), 2))
     } else if lead < 0xF0 {
-        Some(item_of(trie, place_of_three(bytes)?, 3))
+        let (block, place) = place_of_three(bytes)?;
+        Some(item_of(block * 64 + place, trie.at(block, place), 3))
     } else {
         let c = of_four(bytes)?;
         Some(((c, trie.far(c)), 4))

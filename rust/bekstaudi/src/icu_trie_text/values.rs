@@ -4,6 +4,8 @@ use crate::icu_trie::cptrie::CodePointTrie;
 use crate::icu_trie_core::value::TrieValue;
 use crate::icu_trie_text::ascii::AsciiInPlace;
 use crate::icu_trie_text::first::first_value;
+use crate::support::prelude::*;
+use core::str::Chars;
 
 /// An iterator over the characters of a text, each with its value in a trie.
 ///
@@ -12,7 +14,7 @@ use crate::icu_trie_text::first::first_value;
 #[must_use = "iterators are lazy and do nothing unless consumed"]
 pub struct ValuesOf<'a, T: TrieValue> {
     trie: AsciiInPlace<'a, T>,
-    rest: core::str::Chars<'a>,
+    rest: Chars<'a>,
 }
 
 /// Returns an iterator over the characters of the text in order, each with its value in the trie.

@@ -2,6 +2,7 @@
 
 use crate::icu_trie_text::part_values::{PartValues, Reading, THREE_BYTE_BLOCKS};
 use crate::icu_trie_text::places::{number_of_four, place_of_three, place_of_two};
+use crate::support::prelude::*;
 
 /// Bytes that are well-formed UTF-8. The first `NEAR` blocks are known to be near.
 pub(crate) struct WellFormed<const NEAR: u32>;

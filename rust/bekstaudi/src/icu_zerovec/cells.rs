@@ -1,12 +1,9 @@
 //! The work on packed bytes. A cell is the `WIDTH` bytes of one value.
 
+use crate::icu_zerovec::raw::{cell_at, cell_below, cell_known};
 use crate::icu_zerovec::ule::{AsULE, UleError};
 use crate::support::AllocError;
-#[cfg(not(feature = "proved-reads"))]
-use crate::support::cells::searched;
-use crate::support::cells::{cell, proved_cell};
 use crate::support::prelude::*;
-use core::cmp::Ordering;
 use core::hash::Hasher;
 
 /// Returns the number of whole cells.
@@ -24,7 +21,7 @@ pub(crate) fn len<T: AsULE>(bytes: &[u8]) -> usize {
 /// Returns the value of the cell at index `i`, or `None` if the cell is not a value.
 #[inline(always)]
 pub(crate) fn read<T: AsULE>(bytes: &[u8], i: usize) -> Option<T> {
-    T::from_unaligned(cell(bytes, T::WIDTH, i)?)
+    T::from_unaligned(cell_at(bytes, T::WIDTH, i))
 }
 
 /// Returns the value at index `i` of packed bytes, or `None` if `i` is not less than the length.
@@ -37,11 +34,31 @@ pub(crate) fn get<T: AsULE>(bytes: &[u8], i: usize) -> Option<T> {
     }
 }
 
+/// Returns the value at index `i` of packed bytes if `i` is less than `end`, which is at most the
+/// length, and otherwise `None`.
+#[inline(always)]
+pub(crate) fn get_below<T: AsULE>(bytes: &[u8], end: usize, i: usize) -> Option<T> {
+    match cell_below(bytes, T::WIDTH, end, i) {
+        Some(cell) => T::from_unaligned(cell),
+        None => None,
+    }
+}
+
+/// Returns the value at index `i` of packed bytes, or `None` if `i` is not less than the length. If
+/// `is_inside` is true, `i` must be less.
+#[inline(always)]
+pub(crate) fn get_known<T: AsULE>(bytes: &[u8], i: usize, is_inside: bool) -> Option<T> {
+    match cell_known(bytes, T::WIDTH, i, is_inside) {
+        Some(cell) => T::from_unaligned(cell),
+        None => None,
+    }
+}
+
 /// Checks that bytes are packed values. The error is the length if it is not a multiple of the
 /// width, and otherwise the first cell that is not a value.
 #[inline]
 pub(crate) fn test<T: AsULE>(bytes: &[u8]) -> Result<(), UleError> {
-    if !bytes.len().is_multiple_of(T::WIDTH) {
+    if bytes.len() % T::WIDTH != 0 {
         return Err(UleError::Length);
     }
     for i in 0..count::<T>(bytes) {
@@ -72,7 +89,7 @@ pub(crate) fn split_first<T: AsULE>(bytes: &[u8]) -> Option<(T, &[u8])> {
     if bytes.is_empty() {
         return None;
     }
-    let (first, others) = bytes.split_at_checked(T::WIDTH)?;
+    let (first, others) = bytes.split_at(T::WIDTH);
     let value = T::from_unaligned(first)?;
     Some((value, others))
 }
@@ -81,66 +98,9 @@ pub(crate) fn split_first<T: AsULE>(bytes: &[u8]) -> Option<(T, &[u8])> {
 /// length, so no code tests it.
 #[inline(always)]
 pub(crate) fn at<T: AsULE>(bytes: &[u8], i: usize) -> T {
-    match T::from_unaligned(proved_cell(bytes, T::WIDTH, i)) {
+    match read(bytes, i) {
         Some(value) => value,
         None => unreachable!(),
-    }
-}
-
-/// Returns true if the value at index `i` is less than or equal to `x`.
-#[inline(always)]
-fn is_at_most<T: AsULE + Ord>(bytes: &[u8], i: usize, x: &T) -> bool {
-    at::<T>(bytes, i).cmp(x).is_le()
-}
-
-/// Returns how many of the values at the indices `low + step`, `low + 2 * step` and `low + 3 *
-/// step` are less than or equal to `x`.
-#[inline(always)]
-fn count_at_most<T: AsULE + Ord>(bytes: &[u8], low: usize, step: usize, x: &T) -> usize {
-    let first = is_at_most(bytes, low + step, x);
-    let second = is_at_most(bytes, low + 2 * step, x);
-    let third = is_at_most(bytes, low + 3 * step, x);
-    usize::from(first) + usize::from(second) + usize::from(third)
-}
-
-/// Narrows a binary search for `x` to at most three values. Returns the index of the first of them
-/// and their number.
-///
-/// Each step leaves a quarter. It adds up comparisons, so no branch depends on a value.
-#[inline(always)]
-fn narrowed<T: AsULE + Ord>(bytes: &[u8], x: &T) -> (usize, usize) {
-    let mut low = 0;
-    let mut size = len::<T>(bytes);
-    while size > 3 {
-        let step = size / 4;
-        low += step * count_at_most(bytes, low, step, x);
-        size -= 3 * step;
-    }
-    (low, size)
-}
-
-/// Searches ascending packed bytes for `x`. Returns the index of an equal value as `Ok`, or as
-/// `Err` the index at which `x` could be inserted.
-pub(crate) fn binary_search<T: AsULE + Ord>(bytes: &[u8], x: &T) -> Result<usize, usize> {
-    #[cfg(not(feature = "proved-reads"))]
-    if let Some(found) = searched(bytes, T::WIDTH, |cell| match T::from_unaligned(cell) {
-        Some(value) => value.cmp(x),
-        None => unreachable!(),
-    }) {
-        return found;
-    }
-    if len::<T>(bytes) == 0 {
-        return Err(0);
-    }
-    let (mut low, mut size) = narrowed(bytes, x);
-    while size > 1 {
-        low += usize::from(is_at_most(bytes, low + 1, x));
-        size -= 1;
-    }
-    match at::<T>(bytes, low).cmp(x) {
-        Ordering::Less => Err(low + 1),
-        Ordering::Equal => Ok(low),
-        Ordering::Greater => Err(low),
     }
 }
 

@@ -1,6 +1,7 @@
 //! Code points as packed values of three bytes, lowest byte first.
 
 use crate::icu_zerovec::ule::AsULE;
+use crate::support::prelude::*;
 
 /// The exclusive end of the code space, 0x110000: one more than the last code point.
 pub const CODE_POINT_LIMIT: u32 = 0x11_0000;

@@ -3,6 +3,7 @@
 use crate::icu_zerovec::cells;
 use crate::icu_zerovec::ule::AsULE;
 use crate::icu_zerovec::vec::ZeroVec;
+use crate::support::prelude::*;
 use core::hash::{Hash, Hasher};
 
 impl<'a, T: AsULE> PartialEq for ZeroVec<'a, T> {

@@ -2,6 +2,7 @@
 //! bytes of the right width are a value.
 
 use crate::icu_zerovec::ule::AsULE;
+use crate::support::prelude::*;
 
 impl AsULE for u8 {
     const WIDTH: usize = 1;

@@ -2,6 +2,7 @@
 
 use crate::icu_zerovec::cells;
 use crate::icu_zerovec::ule::AsULE;
+use crate::support::prelude::*;
 use core::fmt;
 use core::marker::PhantomData;
 

@@ -1,6 +1,7 @@
 //! The error of every function that may fail to allocate, and the error of a function that makes a
 //! list of changes.
 
+use crate::support::prelude::*;
 use crate::support::{AllocError, AllocFailed};
 
 /// An allocation failed. Values passed by reference are unchanged unless the function says

@@ -12,14 +12,18 @@
 //! - `equality`: equality and hashing of vectors
 //! - `memory`: the error for a failed allocation, which all crates above use, and the error for a
 //!   list of writes that failed in the middle
-//! - `cells`: the work on packed bytes
+//! - `cells`, `search`: the work on packed bytes
+//! - `raw`: reads of a cell, each with a body for Rattle and one for rustc
 
+use crate::support::prelude::*;
 mod cells;
 pub mod code_point;
 mod equality;
 mod integers;
 pub mod iter;
 pub mod memory;
+pub mod raw;
+mod search;
 pub mod slice;
 pub mod ule;
 pub mod vec;

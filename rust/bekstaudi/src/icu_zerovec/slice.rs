@@ -1,9 +1,11 @@
 //! Views of packed vectors, with the same queries.
 
-use crate::icu_zerovec::cells;
 use crate::icu_zerovec::iter::Iter;
 use crate::icu_zerovec::ule::AsULE;
 use crate::icu_zerovec::vec::ZeroVec;
+use crate::icu_zerovec::{cells, search};
+use crate::support::AllocError;
+use crate::support::prelude::*;
 use core::fmt;
 use core::hash::{Hash, Hasher};
 use core::marker::PhantomData;
@@ -47,23 +49,23 @@ impl<'a, T: AsULE> ZeroSlice<'a, T> {
     }
 
     /// Returns the number of values.
-    #[must_use]
     #[inline]
+    #[must_use]
     pub fn len(&self) -> usize {
         cells::len::<T>(self.bytes)
     }
 
     /// Returns true if there are no values.
-    #[must_use]
     #[inline]
+    #[must_use]
     pub fn is_empty(&self) -> bool {
         self.len() == 0
     }
 
     /// Returns the value at index `i`, counted from 0, or `None` if `i` is not less than the
     /// length.
-    #[must_use]
     #[inline]
+    #[must_use]
     pub fn get(&self, i: usize) -> Option<T> {
         cells::get(self.bytes, i)
     }
@@ -75,16 +77,30 @@ impl<'a, T: AsULE> ZeroSlice<'a, T> {
         cells::at(self.bytes, i)
     }
 
+    /// Returns the value at index `i` if `i` is less than `end`, and otherwise `None`. `end` must be at
+    /// most the length. One test finds out both whether `i` is below `end` and whether there is a value.
+    #[inline(always)]
+    pub(crate) fn get_below(&self, end: usize, i: usize) -> Option<T> {
+        cells::get_below(self.bytes, end, i)
+    }
+
+    /// Returns the value at index `i`, or `None` if `i` is not less than the length. If `is_inside` is
+    /// true, `i` must be less than the length; where a proof takes the place of tests, none is made then.
+    #[inline(always)]
+    pub(crate) fn get_known(&self, i: usize, is_inside: bool) -> Option<T> {
+        cells::get_known(self.bytes, i, is_inside)
+    }
+
     /// Returns the first value, or `None` if there are no values.
-    #[must_use]
     #[inline]
+    #[must_use]
     pub fn first(&self) -> Option<T> {
         self.get(0)
     }
 
     /// Returns the last value, or `None` if there are no values.
-    #[must_use]
     #[inline]
+    #[must_use]
     pub fn last(&self) -> Option<T> {
         let len = self.len();
         if len == 0 { None } else { self.get(len - 1) }
@@ -111,22 +127,22 @@ impl<'a, T: AsULE> ZeroSlice<'a, T> {
     where
         T: Ord,
     {
-        cells::binary_search(self.bytes, x)
+        search::binary_search(self.bytes, x)
     }
 
     /// Returns the packed bytes of the values, in order.
     ///
     /// If each value of the type has one encoding, as for all types of this crate, these are the
     /// bytes that the values pack to. Otherwise they are some bytes that unpack to the values.
-    #[must_use]
     #[inline]
+    #[must_use]
     pub const fn as_bytes(&self) -> &'a [u8] {
         self.bytes
     }
 
     /// Returns a vector with the same values that borrows the bytes.
-    #[must_use]
     #[inline]
+    #[must_use]
     pub const fn as_zerovec(self) -> ZeroVec<'a, T> {
         ZeroVec::from_packed(self.bytes)
     }

@@ -1,5 +1,6 @@
 //! Values that are stored as one to four bytes.
 
+use crate::support::prelude::*;
 /// A value of one to four bytes that can be read in place, without a copy, at any address.
 ///
 /// It is implemented for `u8`, `u16`, `u32`, `i8`, `i16`, `i32`, `char` and

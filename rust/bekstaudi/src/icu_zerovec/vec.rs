@@ -1,10 +1,10 @@
 //! Vectors of packed values that borrow or own their bytes.
 
-use crate::icu_zerovec::cells;
 use crate::icu_zerovec::iter::Iter;
 use crate::icu_zerovec::memory::MemoryError;
 use crate::icu_zerovec::slice::ZeroSlice;
 use crate::icu_zerovec::ule::{AsULE, UleError};
+use crate::icu_zerovec::{cells, search};
 use crate::support::prelude::*;
 use core::fmt;
 use core::marker::PhantomData;
@@ -80,7 +80,8 @@ impl<'a, T: AsULE> ZeroVec<'a, T> {
 
     /// Returns the vector with bytes that have been validated, which it borrows.
     #[inline]
-    pub(crate) const fn from_packed(bytes: &'a [u8]) -> Self {
+    #[must_use]
+    pub const fn from_packed(bytes: &'a [u8]) -> Self {
         ZeroVec {
             store: Store::Borrowed(bytes),
             of: PhantomData,
@@ -171,37 +172,37 @@ impl<'a, T: AsULE> ZeroVec<'a, T> {
     }
 
     /// Returns the number of values.
-    #[must_use]
     #[inline]
+    #[must_use]
     pub fn len(&self) -> usize {
         cells::len::<T>(self.bytes())
     }
 
     /// Returns true if there are no values.
-    #[must_use]
     #[inline]
+    #[must_use]
     pub fn is_empty(&self) -> bool {
         self.len() == 0
     }
 
     /// Returns the value at index `i`, counted from 0, or `None` if `i` is not less than the
     /// length.
-    #[must_use]
     #[inline]
+    #[must_use]
     pub fn get(&self, i: usize) -> Option<T> {
         cells::get(self.bytes(), i)
     }
 
     /// Returns the first value, or `None` if there are no values.
-    #[must_use]
     #[inline]
+    #[must_use]
     pub fn first(&self) -> Option<T> {
         self.get(0)
     }
 
     /// Returns the last value, or `None` if there are no values.
-    #[must_use]
     #[inline]
+    #[must_use]
     pub fn last(&self) -> Option<T> {
         let len = self.len();
         if len == 0 { None } else { self.get(len - 1) }
@@ -236,22 +237,22 @@ impl<'a, T: AsULE> ZeroVec<'a, T> {
     where
         T: Ord,
     {
-        cells::binary_search(self.bytes(), x)
+        search::binary_search(self.bytes(), x)
     }
 
     /// Returns the packed bytes of the values, in order, as they are stored.
     ///
     /// If each value of the type has one encoding, as for all types of this crate, these are the
     /// bytes that the values pack to. Otherwise they are some bytes that unpack to the values.
-    #[must_use]
     #[inline]
+    #[must_use]
     pub const fn as_bytes(&self) -> &[u8] {
         self.store.bytes()
     }
 
     /// Returns a view of the vector.
-    #[must_use]
     #[inline]
+    #[must_use]
     pub const fn as_slice(&self) -> ZeroSlice<'_, T> {
         ZeroSlice::from_packed(self.bytes())
     }

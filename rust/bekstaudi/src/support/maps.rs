@@ -37,7 +37,7 @@ impl<K: Ord, V> BTreeMap<K, V> {
     }
 
     /// Returns the part and the position of a key, or as `Err` those where it would be inserted.
-    pub fn place_of<Q: Ord + ?Sized>(&self, key: &Q) -> Result<(usize, usize), (usize, usize)>
+    fn place_of<Q: Ord + ?Sized>(&self, key: &Q) -> Result<(usize, usize), (usize, usize)>
     where
         K: Borrow<Q>,
     {
@@ -81,27 +81,13 @@ impl<K: Ord, V> BTreeMap<K, V> {
         Ok(())
     }
 
-    /// Inserts an entry, and returns the value that the key had.
-    pub fn try_insert(&mut self, key: K, value: V) -> Result<Option<V>, AllocError> {
-        match self.place_of(&key) {
-            Ok((part, place)) => {
-                let old = core::mem::replace(&mut self.parts[part][place].1, value);
-                Ok(Some(old))
-            }
-            Err(found) => {
-                self.try_insert_at(found, key, value)?;
-                Ok(None)
-            }
-        }
-    }
-
-    /// Inserts an entry whose key is not in the map, where `place_of` said.
-    pub fn try_insert_at(
-        &mut self,
-        (mut part, mut place): (usize, usize),
-        key: K,
-        value: V,
-    ) -> Result<(), AllocError> {
+    /// Returns the entry of a key. A key that is not in the map then has its place already, so only
+    /// this can fail.
+    pub fn entry(&mut self, key: K) -> Result<Entry<'_, K, V>, AllocError> {
+        let (mut part, mut place) = match self.place_of(&key) {
+            Ok((part, place)) => return Ok(Entry::Occupied(&mut self.parts[part][place].1)),
+            Err(found) => found,
+        };
         if self
             .parts
             .get(part)
@@ -113,10 +99,23 @@ impl<K: Ord, V> BTreeMap<K, V> {
                 place -= PART / 2;
             }
         }
-        // Each part was made with a capacity of PART entries.
-        self.parts[part].insert(place, (key, value));
-        self.count += 1;
-        Ok(())
+        Ok(Entry::Vacant(VacantEntry {
+            entries: &mut self.parts[part],
+            count: &mut self.count,
+            place,
+            key,
+        }))
+    }
+
+    /// Inserts an entry, and returns the value that the key had.
+    pub fn try_insert(&mut self, key: K, value: V) -> Result<Option<V>, AllocError> {
+        match self.entry(key)? {
+            Entry::Occupied(held) => Ok(Some(core::mem::replace(held, value))),
+            Entry::Vacant(entry) => {
+                entry.insert_entry(value);
+                Ok(None)
+            }
+        }
     }
 
     /// Returns the number of entries.
@@ -132,6 +131,32 @@ impl<K: Ord, V> BTreeMap<K, V> {
     /// Returns the entries, by ascending keys.
     pub fn iter(&self) -> impl Iterator<Item = (&K, &V)> {
         self.parts.iter().flatten().map(|(key, value)| (key, value))
+    }
+}
+
+/// The entry of a key.
+pub enum Entry<'a, K, V> {
+    /// The key is in the map: its value.
+    Occupied(&'a mut V),
+    /// The key is not in the map.
+    Vacant(VacantEntry<'a, K, V>),
+}
+
+/// The place of a key that is not in the map.
+pub struct VacantEntry<'a, K, V> {
+    /// A part of the map with a capacity for one more entry.
+    entries: &'a mut Vec<(K, V)>,
+    /// The number of entries of the map.
+    count: &'a mut usize,
+    place: usize,
+    key: K,
+}
+
+impl<K, V> VacantEntry<'_, K, V> {
+    /// Inserts the key with this value.
+    pub fn insert_entry(self, value: V) {
+        self.entries.insert(self.place, (self.key, value));
+        *self.count += 1;
     }
 }
 

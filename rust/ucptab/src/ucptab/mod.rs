@@ -3,12 +3,10 @@
 use crate::host::env;
 use crate::host::io::{self, ErrorKind, Read, Write};
 use crate::host::process::ExitCode;
-#[allow(unused_imports)]
-use crate::host::{HostRuntime, Text};
+use crate::host::*;
 use crate::ledger::Brand;
 use crate::ledger::Steps;
 use crate::ledger::{Blank, Ledger};
-#[allow(unused_imports)]
 use crate::support::prelude::*;
 use crate::ucptab_table::fault::{RowFault, TableError};
 use crate::ucptab_table::message::row_line_message;

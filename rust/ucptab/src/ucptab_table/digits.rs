@@ -1,7 +1,7 @@
 //! Numbers, written in digits.
 
-#[allow(unused_imports)]
-use crate::host::{HostRuntime, Text};
+use crate::host::*;
+use crate::support::prelude::*;
 /// Returns the number that 1 to `most` digits of the base write, or `None` for any other bytes.
 fn number_of(base: u32, most: usize, bytes: &[u8]) -> Option<u64> {
     if bytes.is_empty() || bytes.len() > most {

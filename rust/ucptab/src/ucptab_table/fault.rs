@@ -1,8 +1,8 @@
 //! Why the program fails, and the line that says so.
 
-#[allow(unused_imports)]
-use crate::host::{HostRuntime, Text};
+use crate::host::*;
 use crate::support::AllocError;
+use crate::support::prelude::*;
 use bekstaudi::codepointtrie::BuildError;
 use core::error::Error;
 use core::fmt;

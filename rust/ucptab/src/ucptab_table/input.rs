@@ -1,8 +1,6 @@
 //! Reads a table: its bytes, its lines and its rows.
 
-#[allow(unused_imports)]
-use crate::host::{HostRuntime, Text};
-#[allow(unused_imports)]
+use crate::host::*;
 use crate::support::prelude::*;
 use crate::ucptab_table::fault::TableError;
 use crate::ucptab_table::rows::{position_or_len, row_of};

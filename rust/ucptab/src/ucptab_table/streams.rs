@@ -1,7 +1,7 @@
 //! The streams that a table is read from and its lines are written to.
 
-#[allow(unused_imports)]
-use crate::host::{HostRuntime, Text};
+use crate::host::*;
+use crate::support::prelude::*;
 use crate::ucptab_table::fault::RowFault;
 
 /// A read or a write failed.

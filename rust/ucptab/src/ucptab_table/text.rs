@@ -1,9 +1,7 @@
 //! The lines that are printed.
 
-#[allow(unused_imports)]
-use crate::host::{HostRuntime, Text};
+use crate::host::*;
 use crate::support::AllocError;
-#[allow(unused_imports)]
 use crate::support::prelude::*;
 use crate::ucptab_table::fault::TableError;
 use crate::ucptab_table::streams::{Failed, Sink};

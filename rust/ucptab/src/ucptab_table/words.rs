@@ -1,9 +1,7 @@
 //! The arguments of the program.
 
-#[allow(unused_imports)]
-use crate::host::{HostRuntime, Text};
+use crate::host::*;
 use crate::support::AllocError;
-#[allow(unused_imports)]
 use crate::support::prelude::*;
 use crate::ucptab_table::digits::{decimal_number, hexadecimal};
 use bekstaudi::codepointtrie::TrieType;

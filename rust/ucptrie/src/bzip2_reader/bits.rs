@@ -1,8 +1,8 @@
 //! Reads bits, the highest bit of each byte first.
 
 use crate::bzip2_reader::error::Bzip2Error;
-#[allow(unused_imports)]
-use crate::host::{HostRuntime, Text};
+use crate::host::*;
+use crate::support::prelude::*;
 
 /// The bytes, and the position of the next bit in them, counted from 0.
 #[derive(Clone, Copy)]

@@ -6,9 +6,7 @@ use crate::bzip2_reader::error::Bzip2Error;
 use crate::bzip2_reader::run_lengths::push_expanded;
 use crate::bzip2_reader::symbols::read_tables;
 use crate::bzip2_reader::transform::{read_column, untransformed};
-#[allow(unused_imports)]
-use crate::host::{HostRuntime, Text};
-#[allow(unused_imports)]
+use crate::host::*;
 use crate::support::prelude::*;
 
 /// Reads what follows a block's checksum, and returns the block's bytes, in which runs still have

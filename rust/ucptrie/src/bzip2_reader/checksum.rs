@@ -1,7 +1,7 @@
 //! The checksums of bzip2: CRC-32 with the highest bit first.
 
-#[allow(unused_imports)]
-use crate::host::{HostRuntime, Text};
+use crate::host::*;
+use crate::support::prelude::*;
 /// The polynomial, without its highest bit.
 const POLYNOMIAL: u32 = 0x04c1_1db7;
 

@@ -2,10 +2,8 @@
 
 use crate::bzip2_reader::bits::{BitReader, bit, bits};
 use crate::bzip2_reader::error::Bzip2Error;
-#[allow(unused_imports)]
-use crate::host::{HostRuntime, Text};
+use crate::host::*;
 use crate::support::AllocError;
-#[allow(unused_imports)]
 use crate::support::prelude::*;
 
 /// How many bits a code has at most.
@@ -34,7 +32,7 @@ pub struct Codes {
 fn read_length(reader: &mut BitReader<'_>, last: u8) -> Result<u8, Bzip2Error> {
     let mut length = last;
     for _ in 0..u64::MAX {
-        if !(1..=LONGEST).contains(&length) {
+        if length < 1 || length > LONGEST {
             return Err(Bzip2Error::Malformed);
         }
         if bit(reader)? == 0 {

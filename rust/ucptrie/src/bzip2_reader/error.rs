@@ -1,6 +1,6 @@
 //! Why bytes cannot be decompressed.
-#[allow(unused_imports)]
-use crate::host::{HostRuntime, Text};
+use crate::host::*;
+use crate::support::prelude::*;
 use crate::support::{AllocError, AllocFailed};
 
 /// Why bytes cannot be decompressed.

@@ -11,8 +11,8 @@
 //! - `bits`: reads bits
 //! - `error`: why bytes cannot be decompressed
 
-#[allow(unused_imports)]
-use crate::host::{HostRuntime, Text};
+use crate::host::*;
+use crate::support::prelude::*;
 mod bits;
 mod block;
 mod checksum;

@@ -1,7 +1,7 @@
 //! Lists of bytes in the order of their last use.
 
-#[allow(unused_imports)]
-use crate::host::{HostRuntime, Text};
+use crate::host::*;
+use crate::support::prelude::*;
 /// A list of bytes, of which the last used one is the first.
 #[derive(Clone, Copy)]
 pub struct Recent {
@@ -13,7 +13,9 @@ pub fn take(recent: &mut Recent, index: u8) -> u8 {
     let taken = recent.items[usize::from(index)];
     let mut moved = taken;
     for item in &mut recent.items[..usize::from(index) + 1] {
-        core::mem::swap(item, &mut moved);
+        let next = *item;
+        *item = moved;
+        moved = next;
     }
     taken
 }

@@ -1,9 +1,7 @@
 //! Runs of equal bytes: four of them, and then how many more there are.
 
-#[allow(unused_imports)]
-use crate::host::{HostRuntime, Text};
+use crate::host::*;
 use crate::support::AllocError;
-#[allow(unused_imports)]
 use crate::support::prelude::*;
 
 /// How many equal bytes precede a number.

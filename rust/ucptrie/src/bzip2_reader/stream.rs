@@ -4,9 +4,7 @@ use crate::bzip2_reader::bits::{BitReader, bits, skip_to_byte};
 use crate::bzip2_reader::block::push_block;
 use crate::bzip2_reader::checksum::combined;
 use crate::bzip2_reader::error::Bzip2Error;
-#[allow(unused_imports)]
-use crate::host::{HostRuntime, Text};
-#[allow(unused_imports)]
+use crate::host::*;
 use crate::support::prelude::*;
 
 /// What a block starts with: digits of pi.

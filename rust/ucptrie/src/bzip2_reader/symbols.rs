@@ -4,9 +4,7 @@ use crate::bzip2_reader::bits::{BitReader, bit, bits};
 use crate::bzip2_reader::codes::{Codes, read_codes};
 use crate::bzip2_reader::error::Bzip2Error;
 use crate::bzip2_reader::recent::{Recent, recent_of, take};
-#[allow(unused_imports)]
-use crate::host::{HostRuntime, Text};
-#[allow(unused_imports)]
+use crate::host::*;
 use crate::support::prelude::*;
 
 /// How many tables of codes a block has at most.
@@ -87,7 +85,7 @@ fn read_all_codes(
 pub fn read_tables(reader: &mut BitReader<'_>) -> Result<Tables, Bzip2Error> {
     let used = read_used(reader)?;
     let count = bits(reader, 3)? as u8;
-    if used.is_empty() || used.len() > 256 || !(2..=MOST_TABLES).contains(&count) {
+    if used.is_empty() || used.len() > 256 || count < 2 || count > MOST_TABLES {
         return Err(Bzip2Error::Malformed);
     }
     let selectors = read_selectors(reader, count)?;

@@ -5,9 +5,7 @@ use crate::bzip2_reader::codes::{Codes, read_symbol};
 use crate::bzip2_reader::error::Bzip2Error;
 use crate::bzip2_reader::recent::{Recent, recent_of, take};
 use crate::bzip2_reader::symbols::Tables;
-#[allow(unused_imports)]
-use crate::host::{HostRuntime, Text};
-#[allow(unused_imports)]
+use crate::host::*;
 use crate::support::prelude::*;
 
 /// How many symbols a selector is for.
@@ -37,7 +35,7 @@ fn count_run(column: &mut Column, digit: u16) -> Result<(), Bzip2Error> {
         column.weight << 1
     };
     column.run = column.run.saturating_add(more);
-    column.weight <<= 1;
+    column.weight = column.weight << 1;
     if column.run > column.limit {
         return Err(Bzip2Error::Malformed);
     }
@@ -151,7 +149,7 @@ fn cells_of(bytes: &[u8]) -> Result<Vec<u32>, Bzip2Error> {
     for (i, byte) in (0u32..).zip(bytes) {
         let start = &mut starts[usize::from(*byte)];
         let cell: &mut u32 = cells.get_mut(*start).ok_or(Bzip2Error::Malformed)?;
-        *cell |= i << 8;
+        *cell = *cell | i << 8;
         *start = start.saturating_add(1);
     }
     Ok(cells)

@@ -2,8 +2,6 @@
 //! allocations.
 
 #[allow(dead_code)] // Only the library uses it.
-pub(crate) mod boundaries;
-pub(crate) mod cells;
 #[cfg(not(feature = "alloc"))]
 mod empty;
 #[cfg(feature = "alloc")]
@@ -13,6 +11,11 @@ pub(crate) mod memory;
 
 #[cfg(feature = "alloc")]
 pub use maps::{BTreeMap, HashMap};
+/// The entries of [`BTreeMap`].
+#[cfg(feature = "alloc")]
+pub mod btree_map {
+    pub use super::maps::Entry;
+}
 pub use memory::{AllocError, AllocFailed};
 
 /// A JSON value. `serde_json` allocates for its objects, and ends the program if that fails.

@@ -1,9 +1,7 @@
 //! Names and numbers of values from `PropertyValueAliases.txt`.
 
-#[allow(unused_imports)]
-use crate::host::{HostRuntime, Text};
+use crate::host::*;
 use crate::support::AllocError;
-#[allow(unused_imports)]
 use crate::support::prelude::*;
 use crate::ucd_files::fields::{field, missing_of};
 use crate::ucd_files::names::{is_same_name, short_decimal};

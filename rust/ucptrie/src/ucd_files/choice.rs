@@ -1,9 +1,7 @@
 //! What the values of a file are, and how they become numbers.
 
-#[allow(unused_imports)]
-use crate::host::{HostRuntime, Text};
+use crate::host::*;
 use crate::support::AllocError;
-#[allow(unused_imports)]
 use crate::support::prelude::*;
 use crate::ucd_files::aliases::alias_names;
 use crate::ucd_files::kind::{are_code_points, are_decimal, has_missing_lines, have_leading_zero};

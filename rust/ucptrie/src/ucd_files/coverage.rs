@@ -1,7 +1,7 @@
 //! Which code points have a value in a file.
 
-#[allow(unused_imports)]
-use crate::host::{HostRuntime, Text};
+use crate::host::*;
+use crate::support::prelude::*;
 use crate::ucd_files::fault::FileFault;
 use crate::ucd_files::names::Numbering;
 use crate::ucd_files::read::read_writes;

@@ -1,8 +1,8 @@
 //! What is wrong with a line, and why a file can't be read.
 
-#[allow(unused_imports)]
-use crate::host::{HostRuntime, Text};
+use crate::host::*;
 use crate::support::AllocError;
+use crate::support::prelude::*;
 use bekstaudi::zerovec::MemoryError;
 use core::error::Error;
 use core::fmt;

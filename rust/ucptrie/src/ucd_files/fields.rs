@@ -1,7 +1,7 @@
 //! The fields of a line.
 
-#[allow(unused_imports)]
-use crate::host::{HostRuntime, Text};
+use crate::host::*;
+use crate::support::prelude::*;
 use crate::ucptab_table::rows::{after, before, content_of, trimmed};
 
 /// Returns part `n` of a line's content, counted from 0, without blanks around it: empty if the

@@ -1,7 +1,7 @@
 //! Which kind of file some lines are.
 
-#[allow(unused_imports)]
-use crate::host::{HostRuntime, Text};
+use crate::host::*;
+use crate::support::prelude::*;
 use crate::ucd_files::fields::{after_mark, field, has_field, missing_of};
 use crate::ucd_files::names::is_same_name;
 use crate::ucd_files::order::text_of_line;

@@ -1,8 +1,8 @@
 //! The values of code points without a line.
 
-#[allow(unused_imports)]
-use crate::host::{HostRuntime, Text};
+use crate::host::*;
 use crate::support::AllocError;
+use crate::support::prelude::*;
 use crate::ucd_files::aliases::missing_alias;
 use crate::ucd_files::coverage::lines_cover_all;
 use crate::ucd_files::fault::FileFault;

@@ -14,8 +14,8 @@
 //! - `title`: what a file says of itself
 //! - `fault`: what is wrong with a line or a file
 
-#[allow(unused_imports)]
-use crate::host::{HostRuntime, Text};
+use crate::host::*;
+use crate::support::prelude::*;
 pub mod aliases;
 pub mod choice;
 mod coverage;

@@ -1,7 +1,7 @@
 //! Names of values, and their numbers.
 
-#[allow(unused_imports)]
-use crate::host::{HostRuntime, Text};
+use crate::host::*;
+use crate::support::prelude::*;
 use crate::ucd_files::value_names::ValueNames;
 use crate::ucptab_table::digits::{decimal_number, hexadecimal};
 

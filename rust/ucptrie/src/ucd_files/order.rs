@@ -1,9 +1,7 @@
 //! Names in order of first appearance.
 
-#[allow(unused_imports)]
-use crate::host::{HostRuntime, Text};
+use crate::host::*;
 use crate::support::AllocError;
-#[allow(unused_imports)]
 use crate::support::prelude::*;
 use crate::ucd_files::fields::missing_of;
 use crate::ucd_files::names::Matching;

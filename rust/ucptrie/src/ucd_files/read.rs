@@ -1,9 +1,7 @@
 //! What all lines of a file say.
 
-#[allow(unused_imports)]
-use crate::host::{HostRuntime, Text};
+use crate::host::*;
 use crate::support::AllocError;
-#[allow(unused_imports)]
 use crate::support::prelude::*;
 use crate::ucd_files::fault::FileFault;
 use crate::ucd_files::fields::ends_in_first;
@@ -86,7 +84,7 @@ pub fn writes_of(statements: Vec<Statement>) -> Result<Vec<Write<u32>>, AllocErr
     for statement in statements {
         push_write(&mut missing, &mut explicit, statement)?;
     }
-    missing.append(&mut explicit);
+    missing.try_append(&mut explicit)?;
     Ok(missing)
 }
 

@@ -1,7 +1,7 @@
 //! What one line says.
 
-#[allow(unused_imports)]
-use crate::host::{HostRuntime, Text};
+use crate::host::*;
+use crate::support::prelude::*;
 use crate::ucd_files::fault::LineFault;
 use crate::ucd_files::fields::{
     after_mark, column, ends_in_first, ends_in_last, field, has_field, marks_range, missing_of,

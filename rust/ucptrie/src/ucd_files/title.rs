@@ -1,7 +1,7 @@
 //! What a file says of itself: its name, its date, its version.
 
-#[allow(unused_imports)]
-use crate::host::{HostRuntime, Text};
+use crate::host::*;
+use crate::support::prelude::*;
 use crate::ucptab_table::rows::{before, trimmed};
 
 /// Returns the title of a file of the Unicode Character Database, `Scripts-15.0.0.txt` for

@@ -1,10 +1,8 @@
 //! Names of values, each of which is found without a comparison with all others.
 
-#[allow(unused_imports)]
-use crate::host::{HostRuntime, Text};
+use crate::host::*;
 use crate::support::AllocError;
 use crate::support::HashMap;
-#[allow(unused_imports)]
 use crate::support::prelude::*;
 use crate::ucd_files::names::{Matching, Name, first_significant, is_match};
 
@@ -51,10 +49,10 @@ fn number_among(
     text: &[u8],
 ) -> Option<usize> {
     for index in indices {
-        if let Some(name) = names.get(*index)
-            && is_match(matching, name.text, text)
-        {
-            return Some(name.number);
+        if let Some(name) = names.get(*index) {
+            if is_match(matching, name.text, text) {
+                return Some(name.number);
+            }
         }
     }
     None

@@ -1,7 +1,7 @@
 //! What is wrong with a line that does not have the form of a row, and what to write instead.
 
-#[allow(unused_imports)]
-use crate::host::{HostRuntime, Text};
+use crate::host::*;
+use crate::support::prelude::*;
 use crate::ucptab_table::digits::hexadecimal;
 use crate::ucptab_table::rows::{after, before, code_points_of, content_of, trimmed};
 

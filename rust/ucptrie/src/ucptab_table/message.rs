@@ -1,9 +1,7 @@
 //! Messages about lines: where a line is, what was expected of it, and the line itself.
 
-#[allow(unused_imports)]
-use crate::host::{HostRuntime, Text};
+use crate::host::*;
 use crate::support::AllocError;
-#[allow(unused_imports)]
 use crate::support::prelude::*;
 use crate::ucptab_table::fault::RowFault;
 use crate::ucptab_table::hint::hint;

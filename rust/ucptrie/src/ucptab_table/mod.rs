@@ -1,8 +1,6 @@
 //! The engine of `ucptab`: reads rows, and prints the values of a trie that is built of them.
 
-#[allow(unused_imports)]
-use crate::host::{HostRuntime, Text};
-#[allow(unused_imports)]
+use crate::host::*;
 use crate::support::prelude::*;
 pub mod digits;
 pub mod fault;

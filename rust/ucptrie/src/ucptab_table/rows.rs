@@ -1,7 +1,7 @@
 //! Reads one line of the table.
 
-#[allow(unused_imports)]
-use crate::host::{HostRuntime, Text};
+use crate::host::*;
+use crate::support::prelude::*;
 use crate::ucptab_table::digits::{decimal_number, hexadecimal};
 use crate::ucptab_table::fault::RowFault;
 use bekstaudi::codepointtrie::Write;

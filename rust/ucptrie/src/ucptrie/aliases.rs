@@ -1,8 +1,7 @@
 //! The files of aliases: the names of properties and of their values.
-#[allow(unused_imports)]
-use crate::host::{HostRuntime, Text};
+use crate::clap::ArgMatches;
+use crate::host::*;
 use crate::support::AllocError;
-#[allow(unused_imports)]
 use crate::support::prelude::*;
 use crate::ucd_files::fields::field;
 use crate::ucd_files::names::is_same_name;
@@ -14,7 +13,6 @@ use crate::ucptrie::fault::{Fault, said};
 use crate::ucptrie::properties::{push_listed, push_new};
 use crate::ucptrie::streams::{text_at, without_mark};
 use crate::ucptrie::unicode_files::are_names_of_one;
-use clap::ArgMatches;
 
 /// The files of aliases that the arguments name.
 pub struct Aliases {
@@ -49,12 +47,12 @@ fn push_file(aliases: &mut Aliases, text: &[u8]) -> Result<(), AllocError> {
 }
 
 /// Reads the files of aliases that the arguments name.
-pub fn named_aliases(rt: &HostRuntime, matches: &ArgMatches) -> Result<Aliases, Fault> {
+pub fn named_aliases(rt: &HostRuntime, matches: &ArgMatches<'_>) -> Result<Aliases, Fault> {
     let mut aliases = Aliases {
         values: Vec::new(),
         properties: Vec::new(),
     };
-    for path in matches.get_many::<String>("aliases").into_iter().flatten() {
+    for path in matches.get_strs("aliases").unwrap_or(&[]) {
         let text = text_at(rt, path)?;
         push_file(&mut aliases, without_mark(&text))?;
     }

@@ -1,14 +1,12 @@
 //! The numbers that the arguments of `get` ask for.
-#[allow(unused_imports)]
-use crate::host::{HostRuntime, Text};
-#[allow(unused_imports)]
+use crate::clap::ArgMatches;
+use crate::host::*;
 use crate::support::prelude::*;
 use crate::ucptab_table::input::line_at;
 use crate::ucptab_table::message::line_message;
 use crate::ucptrie::fault::{Fault, about, about_arguments, said};
 use crate::ucptrie::streams::{input_name, text_at, without_mark};
 use crate::ucptrie_tables::asked::{AskedFault, push_asked, push_asked_lines};
-use clap::ArgMatches;
 
 /// What a word or a line has to be.
 const FORM: &str = "HEX, or HEX..HEX up to 10FFFF";
@@ -40,11 +38,7 @@ fn push_word(rt: &HostRuntime, asked: &mut Vec<u32>, word: &str) -> Result<(), F
 }
 
 /// Appends the numbers that words ask for.
-fn push_words<'w>(
-    rt: &HostRuntime,
-    asked: &mut Vec<u32>,
-    words: impl Iterator<Item = &'w String>,
-) -> Result<(), Fault> {
+fn push_words(rt: &HostRuntime, asked: &mut Vec<u32>, words: &[&str]) -> Result<(), Fault> {
     for word in words {
         push_word(rt, asked, word)?;
     }
@@ -52,13 +46,9 @@ fn push_words<'w>(
 }
 
 /// Appends the numbers that the arguments ask for: those of the words, then those of the file.
-fn push_all(rt: &HostRuntime, asked: &mut Vec<u32>, matches: &ArgMatches) -> Result<(), Fault> {
-    push_words(
-        rt,
-        asked,
-        matches.get_many::<String>("asked").into_iter().flatten(),
-    )?;
-    match matches.get_one::<String>("from").map(String::as_str) {
+fn push_all(rt: &HostRuntime, asked: &mut Vec<u32>, matches: &ArgMatches<'_>) -> Result<(), Fault> {
+    push_words(rt, asked, matches.get_strs("asked").unwrap_or(&[]))?;
+    match matches.get_str("from") {
         Some(path) => push_file(rt, asked, path),
         None if asked.is_empty() => {
             let why = "expected HEX, HEX..HEX or --from FILE";
@@ -69,7 +59,7 @@ fn push_all(rt: &HostRuntime, asked: &mut Vec<u32>, matches: &ArgMatches) -> Res
 }
 
 /// Returns the numbers that the arguments ask for.
-pub fn asked(rt: &HostRuntime, matches: &ArgMatches) -> Result<Vec<u32>, Fault> {
+pub fn asked(rt: &HostRuntime, matches: &ArgMatches<'_>) -> Result<Vec<u32>, Fault> {
     let mut asked = Vec::new();
     push_all(rt, &mut asked, matches)?;
     Ok(asked)

@@ -1,8 +1,7 @@
 //! The command `build`: a table of rows, or of a file of the Unicode Character Database.
-#[allow(unused_imports)]
-use crate::host::{HostRuntime, Text};
+use crate::clap::ArgMatches;
+use crate::host::*;
 use crate::support::AllocError;
-#[allow(unused_imports)]
 use crate::support::prelude::*;
 use crate::ucd_files::kind::{FileKind, kind_of};
 use crate::ucptab_table::fault::{RowFault, TableError};
@@ -24,10 +23,9 @@ use crate::ucptrie_tables::stated::stated_values;
 use crate::ucptrie_tables::table::TableOptions;
 use crate::ucptrie_tables::width::ValueWidth;
 use bekstaudi::codepointtrie::TrieType;
-use clap::ArgMatches;
 
 /// Returns what a table is to be, apart from its rows.
-pub fn options(matches: &ArgMatches) -> TableOptions {
+pub fn options(matches: &ArgMatches<'_>) -> TableOptions {
     TableOptions {
         trie_type: trie_type(matches).unwrap_or(TrieType::Fast),
         width: width(matches).unwrap_or(ValueWidth::Bits32),
@@ -38,7 +36,7 @@ pub fn options(matches: &ArgMatches) -> TableOptions {
 
 /// Returns what a table of rows is to be. Comments among the rows may state the values that the
 /// arguments do not give.
-fn options_of_rows(matches: &ArgMatches, rows: &[u8]) -> TableOptions {
+fn options_of_rows(matches: &ArgMatches<'_>, rows: &[u8]) -> TableOptions {
     let stated = stated_values(rows);
     TableOptions {
         default: number(matches, "default").or(stated.null).unwrap_or(0),
@@ -84,7 +82,7 @@ pub fn unbuilt(name: &str, rows: &[u8], fault: BuildFault) -> Fault {
 }
 
 /// Builds a table of rows, in the form that the arguments name. `name` is what they were read from.
-fn build_rows(matches: &ArgMatches, name: &str, rows: &[u8]) -> Result<Vec<u8>, Fault> {
+fn build_rows(matches: &ArgMatches<'_>, name: &str, rows: &[u8]) -> Result<Vec<u8>, Fault> {
     let options = options_of_rows(matches, rows);
     let form = form(matches);
     match built(rows, options, form) {
@@ -98,15 +96,9 @@ fn build_rows(matches: &ArgMatches, name: &str, rows: &[u8]) -> Result<Vec<u8>, 
 }
 
 /// Returns an option of the arguments that rows have no use for.
-fn option_of_files(matches: &ArgMatches) -> Option<&'static str> {
+fn option_of_files(matches: &ArgMatches<'_>) -> Option<&'static str> {
     match column_option(matches) {
-        None if matches
-            .get_one::<String>("values")
-            .map(String::as_str)
-            .is_some() =>
-        {
-            Some("--values")
-        }
+        None if matches.get_str("values").is_some() => Some("--values"),
         option => option,
     }
 }
@@ -114,7 +106,7 @@ fn option_of_files(matches: &ArgMatches) -> Option<&'static str> {
 /// Builds a table of lines. `name` is what they were read from.
 fn build_lines(
     rt: &HostRuntime,
-    matches: &ArgMatches,
+    matches: &ArgMatches<'_>,
     name: &str,
     file: &[u8],
 ) -> Result<Vec<u8>, Fault> {
@@ -134,7 +126,7 @@ fn build_lines(
 /// from.
 pub fn build(
     rt: &HostRuntime,
-    matches: &ArgMatches,
+    matches: &ArgMatches<'_>,
     name: &str,
     file: &[u8],
 ) -> Result<Vec<u8>, Fault> {

@@ -1,14 +1,12 @@
 //! How the values of a file become numbers, by the arguments.
-#[allow(unused_imports)]
-use crate::host::{HostRuntime, Text};
-#[allow(unused_imports)]
+use crate::clap::ArgMatches;
+use crate::host::*;
 use crate::support::prelude::*;
 use crate::ucd_files::choice::{Choice, NumberingKind, alias_choice, numbering_of, own_choice};
 use crate::ucd_files::names::Numbering;
 use crate::ucd_files::statement::Columns;
 use crate::ucptrie::aliases::{Aliases, name_in_values, unknown_property};
 use crate::ucptrie::fault::{Fault, about};
-use clap::ArgMatches;
 
 /// A file of the Unicode Character Database.
 pub struct UnicodeFile<'f> {
@@ -24,10 +22,10 @@ pub struct UnicodeFile<'f> {
 
 /// Returns the names of the property's values in the file of aliases, and what they are.
 fn choice_of_aliases<'f>(
-    matches: &ArgMatches,
+    matches: &ArgMatches<'_>,
     file: &'f UnicodeFile<'f>,
 ) -> Result<Choice<'f>, Fault> {
-    let Some(property) = matches.get_one::<String>("property").map(String::as_str) else {
+    let Some(property) = matches.get_str("property") else {
         let why = "--aliases needs --property, the property whose values are named";
         return Err(about("arguments", why));
     };
@@ -42,7 +40,10 @@ fn choice_of_aliases<'f>(
 
 /// Returns the names of the values of a file, and what they are: those in the file of aliases, if
 /// the arguments name one, and else those in the file itself.
-pub fn choice_of<'f>(matches: &ArgMatches, file: &'f UnicodeFile<'f>) -> Result<Choice<'f>, Fault> {
+pub fn choice_of<'f>(
+    matches: &ArgMatches<'_>,
+    file: &'f UnicodeFile<'f>,
+) -> Result<Choice<'f>, Fault> {
     if file.aliases.values.is_empty() {
         return Ok(own_choice(file.bytes, file.columns)?);
     }
@@ -50,8 +51,8 @@ pub fn choice_of<'f>(matches: &ArgMatches, file: &'f UnicodeFile<'f>) -> Result<
 }
 
 /// Returns the kind of numbering that the arguments ask for.
-fn asked_numbering(matches: &ArgMatches) -> Option<NumberingKind> {
-    match matches.get_one::<String>("values").map(String::as_str) {
+fn asked_numbering(matches: &ArgMatches<'_>) -> Option<NumberingKind> {
+    match matches.get_str("values") {
         Some("decimal") => Some(NumberingKind::Decimal),
         Some("hexadecimal") => Some(NumberingKind::Hexadecimal),
         Some("set") => Some(NumberingKind::One),
@@ -62,7 +63,7 @@ fn asked_numbering(matches: &ArgMatches) -> Option<NumberingKind> {
 
 /// Returns how the values of a file become numbers.
 pub fn numbering<'n>(
-    matches: &ArgMatches,
+    matches: &ArgMatches<'_>,
     file: &UnicodeFile<'_>,
     choice: &'n Choice<'n>,
 ) -> Numbering<'n> {

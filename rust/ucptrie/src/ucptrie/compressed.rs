@@ -2,10 +2,8 @@
 //! and with line ends of old systems.
 use crate::bzip2_reader::error::Bzip2Error;
 use crate::bzip2_reader::stream::{decompressed, is_bzip2};
-#[allow(unused_imports)]
-use crate::host::{HostRuntime, Text};
+use crate::host::*;
 use crate::support::AllocError;
-#[allow(unused_imports)]
 use crate::support::prelude::*;
 use crate::ucptrie::fault::{Fault, about, said};
 
@@ -48,7 +46,7 @@ pub fn unpacked(name: &str, bytes: Vec<u8>) -> Result<Vec<u8>, Fault> {
 /// were read from.
 pub fn expect_text(name: &str, bytes: &[u8]) -> Result<(), Fault> {
     for (start, why) in OTHERS.iter() {
-        if bytes.starts_with(start) {
+        if bytes.starts_with(*start) {
             return Err(about(name, *why));
         }
     }

@@ -1,7 +1,6 @@
 //! The command `convert`: a table in another form, or of another type, width or error value.
-#[allow(unused_imports)]
-use crate::host::{HostRuntime, Text};
-#[allow(unused_imports)]
+use crate::clap::ArgMatches;
+use crate::host::*;
 use crate::support::prelude::*;
 use crate::ucptrie::build::unbuilt;
 use crate::ucptrie::fault::{Fault, about};
@@ -18,11 +17,10 @@ use crate::ucptrie_tables::table::Table;
 use crate::ucptrie_tables::toml_names::NamesFault;
 use crate::ucptrie_tables::width::ValueWidth;
 use crate::ucptrie_tables::written::{Form, written};
-use clap::ArgMatches;
 
 /// Returns the table as the arguments want it: as it is, or built again of its values. `name` is
 /// what it was read from.
-fn changed(matches: &ArgMatches, name: &str, table: Table) -> Result<Table, Fault> {
+fn changed(matches: &ArgMatches<'_>, name: &str, table: Table) -> Result<Table, Fault> {
     let (kind, bits) = (trie_type(matches), width(matches));
     let error = number(matches, "error");
     if kind.is_none() && bits.is_none() && error.is_none() {
@@ -60,7 +58,7 @@ fn converted(name: &str, table: &Table, form: Form<'_>) -> Result<Vec<u8>, Fault
 /// if the form is source, or only the list of these names. `name` is what the file was read from.
 fn with_names_of_file(
     rt: &HostRuntime,
-    matches: &ArgMatches,
+    matches: &ArgMatches<'_>,
     name: &str,
     file: &ParsedFile<'_>,
     bytes: Vec<u8>,
@@ -70,10 +68,7 @@ fn with_names_of_file(
     if !matches!(form, Form::C(_) | Form::Rust(_)) && !is_list(matches) {
         return Ok(with_names(matches, bytes, form, width, &[])?);
     }
-    let names = match property_names(
-        file,
-        matches.get_one::<String>("property").map(String::as_str),
-    ) {
+    let names = match property_names(file, matches.get_str("property")) {
         Ok(names) => names,
         Err(NamesFault::Memory) => return Err(Fault::Memory),
         Err(fault) => return Err(about(name, fault)),
@@ -86,7 +81,7 @@ fn with_names_of_file(
 /// read from.
 pub fn convert(
     rt: &HostRuntime,
-    matches: &ArgMatches,
+    matches: &ArgMatches<'_>,
     name: &str,
     bytes: &[u8],
 ) -> Result<Vec<u8>, Fault> {

@@ -1,7 +1,5 @@
 //! Why the program fails: the line that it prints, and the status that it ends with.
-#[allow(unused_imports)]
-use crate::host::{HostRuntime, Text};
-#[allow(unused_imports)]
+use crate::host::*;
 use crate::support::prelude::*;
 use crate::support::{AllocError, AllocFailed};
 use core::fmt;

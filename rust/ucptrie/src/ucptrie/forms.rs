@@ -1,6 +1,6 @@
 //! In which form a file is, by its first bytes.
-#[allow(unused_imports)]
-use crate::host::{HostRuntime, Text};
+use crate::host::*;
+use crate::support::prelude::*;
 use crate::ucptab_table::rows::{before, code_points_of, content_of, trimmed};
 use crate::ucptrie::offsets::starts_trie;
 

@@ -1,9 +1,8 @@
 //! What is said of values that can be read in two ways, or not as they are written: numbers that
 //! are no whole ones, and words of hexadecimal digits.
-#[allow(unused_imports)]
-use crate::host::{HostRuntime, Text};
+use crate::clap::ArgMatches;
+use crate::host::*;
 use crate::support::AllocError;
-#[allow(unused_imports)]
 use crate::support::prelude::*;
 use crate::ucd_files::choice::{Choice, ValueKind, is_pair_file};
 use crate::ucd_files::kind::{are_code_points, are_digits};
@@ -14,7 +13,6 @@ use crate::ucptab_table::input::first_line;
 use crate::ucptrie::choice::{UnicodeFile, numbering};
 use crate::ucptrie::properties::push_text;
 use crate::ucptrie::streams::say;
-use clap::ArgMatches;
 
 /// Returns whether a text is written as a number that a table can't have, as `1/2`, `0.5` or `-1`:
 /// digits, `.` and `/` after a digit, and `-` before them or not, but no decimal number of at most
@@ -55,15 +53,11 @@ fn fraction_line(name: &str, text: &[u8]) -> Result<String, AllocError> {
 /// number and the arguments do not ask for names.
 pub fn say_fractions(
     rt: &HostRuntime,
-    matches: &ArgMatches,
+    matches: &ArgMatches<'_>,
     file: &UnicodeFile<'_>,
     choice: &Choice<'_>,
 ) -> Result<(), AllocError> {
-    let is_asked = matches
-        .get_one::<String>("values")
-        .map(String::as_str)
-        .is_some()
-        || !matches!(choice.kind, ValueKind::Own);
+    let is_asked = matches.get_str("values").is_some() || !matches!(choice.kind, ValueKind::Own);
     if is_asked || !matches!(numbering(matches, file, choice), Numbering::Names(_, _)) {
         return Ok(());
     }
@@ -122,7 +116,7 @@ fn reading_line(name: &str, text: &[u8], is_hexadecimal: bool) -> Result<String,
 /// points.
 pub fn say_reading(
     rt: &HostRuntime,
-    matches: &ArgMatches,
+    matches: &ArgMatches<'_>,
     file: &UnicodeFile<'_>,
     choice: &Choice<'_>,
 ) -> Result<(), AllocError> {
@@ -130,11 +124,7 @@ pub fn say_reading(
         file.columns,
         Columns::SimpleFolding | Columns::UnicodeData(12..=14)
     );
-    let is_asked = matches
-        .get_one::<String>("values")
-        .map(String::as_str)
-        .is_some()
-        || !matches!(choice.kind, ValueKind::Own);
+    let is_asked = matches.get_str("values").is_some() || !matches!(choice.kind, ValueKind::Own);
     if is_asked || is_mapping {
         return Ok(());
     }

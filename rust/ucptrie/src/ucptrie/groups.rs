@@ -1,8 +1,6 @@
 //! Groups of general categories, as `L`, each of which is the union of several values.
-#[allow(unused_imports)]
-use crate::host::{HostRuntime, Text};
+use crate::host::*;
 use crate::support::AllocError;
-#[allow(unused_imports)]
 use crate::support::prelude::*;
 use crate::ucd_files::names::{Name, is_same_name};
 

@@ -1,15 +1,13 @@
 //! The first lines of source: the command that makes it, and what its input says of itself.
-use crate::formats::ValueParser;
-#[allow(unused_imports)]
-use crate::host::{HostRuntime, Text};
+use crate::clap::ArgMatches;
+use crate::clap::builder::ValueParser;
+use crate::host::*;
 use crate::support::AllocError;
-#[allow(unused_imports)]
 use crate::support::prelude::*;
 use crate::ucd_files::title::{note_of, title_of};
 use crate::ucptab_table::input::first_line;
 use crate::ucptrie::tables::number;
 use crate::ucptrie::words::{Argument, arguments_of};
-use clap::ArgMatches;
 
 /// Returns whether a shell reads the word as it is.
 fn is_bare(word: &str) -> bool {
@@ -62,15 +60,15 @@ fn push_option(text: &mut String, id: &str, value: &str) -> Result<(), AllocErro
 }
 
 /// Appends the options that name the files of aliases, without their folders.
-fn push_aliases(text: &mut String, matches: &ArgMatches) -> Result<(), AllocError> {
-    for path in matches.get_many::<String>("aliases").into_iter().flatten() {
+fn push_aliases(text: &mut String, matches: &ArgMatches<'_>) -> Result<(), AllocError> {
+    for path in matches.get_strs("aliases").unwrap_or(&[]) {
         push_option(text, "aliases", base_name(path))?;
     }
     Ok(())
 }
 
 /// Appends an option with a number, if it is given.
-fn push_number(text: &mut String, matches: &ArgMatches, id: &str) -> Result<(), AllocError> {
+fn push_number(text: &mut String, matches: &ArgMatches<'_>, id: &str) -> Result<(), AllocError> {
     match number(matches, id) {
         Some(number) => write!(text, " --{id} {number}"),
         None => Ok(()),
@@ -80,11 +78,11 @@ fn push_number(text: &mut String, matches: &ArgMatches, id: &str) -> Result<(), 
 /// Appends an option, if it is given and its value is not the default.
 fn push_text(
     text: &mut String,
-    matches: &ArgMatches,
+    matches: &ArgMatches<'_>,
     id: &str,
     default: &[&str],
 ) -> Result<(), AllocError> {
-    match matches.get_one::<String>(id).map(String::as_str) {
+    match matches.get_str(id) {
         Some(value) if !default.contains(&value) => push_option(text, id, value),
         _ => Ok(()),
     }
@@ -93,22 +91,14 @@ fn push_text(
 /// Appends an argument of the command, unless it only says where the output goes.
 fn push_argument(
     text: &mut String,
-    matches: &ArgMatches,
+    matches: &ArgMatches<'_>,
     argument: &Argument,
 ) -> Result<(), AllocError> {
     match (argument.id, argument.values) {
         ("output" | "check", _) => Ok(()),
         ("file", _) => {
             text.try_push(' ')?;
-            push_word(
-                text,
-                base_name(
-                    matches
-                        .get_one::<String>("file")
-                        .map(String::as_str)
-                        .unwrap_or("-"),
-                ),
-            )
+            push_word(text, base_name(matches.get_str("file").unwrap_or("-")))
         }
         ("aliases", _) => push_aliases(text, matches),
         (id, ValueParser::Signed(_, _)) => push_number(text, matches, id),
@@ -120,7 +110,11 @@ fn push_argument(
 /// typed: it has the input's name without folders, then the options in the order of the help, each
 /// as `--NAME VALUE`, without defaults and without those that name the output. So `--check` expects
 /// what `--output` wrote, in whichever folder.
-fn push_command(text: &mut String, command: &str, matches: &ArgMatches) -> Result<(), AllocError> {
+fn push_command(
+    text: &mut String,
+    command: &str,
+    matches: &ArgMatches<'_>,
+) -> Result<(), AllocError> {
     text.try_push_str("// ucptrie ")?;
     text.try_push_str(command)?;
     for argument in arguments_of(command) {
@@ -168,9 +162,9 @@ fn push_origin(text: &mut String, path: &str, input: &[u8]) -> Result<(), AllocE
 }
 
 /// Returns whether the arguments ask for source.
-fn is_source(matches: &ArgMatches) -> bool {
+fn is_source(matches: &ArgMatches<'_>) -> bool {
     matches!(
-        matches.get_one::<String>("as").map(String::as_str),
+        matches.get_str("as"),
         Some("c" | "rust" | "c-frozen" | "rust-frozen" | "rust-static")
     )
 }
@@ -178,7 +172,7 @@ fn is_source(matches: &ArgMatches) -> bool {
 /// Returns the first lines of source that a command makes. `path` is what its input was read from.
 fn heading(
     command: &str,
-    matches: &ArgMatches,
+    matches: &ArgMatches<'_>,
     path: &str,
     input: &[u8],
 ) -> Result<String, AllocError> {
@@ -191,7 +185,7 @@ fn heading(
 /// Returns what a command writes, with the first lines before it if it is source.
 pub fn with_heading(
     command: &str,
-    matches: &ArgMatches,
+    matches: &ArgMatches<'_>,
     path: &str,
     input: &[u8],
     bytes: Vec<u8>,

@@ -1,8 +1,6 @@
 //! What is said of a line at fault in a file of the Unicode Character Database.
-#[allow(unused_imports)]
-use crate::host::{HostRuntime, Text};
+use crate::host::*;
 use crate::support::AllocError;
-#[allow(unused_imports)]
 use crate::support::prelude::*;
 use crate::ucd_files::fault::LineFault;
 use crate::ucd_files::fields::missing_of;

@@ -1,8 +1,7 @@
 //! The values of code points without a line.
-#[allow(unused_imports)]
-use crate::host::{HostRuntime, Text};
+use crate::clap::ArgMatches;
+use crate::host::*;
 use crate::support::AllocError;
-#[allow(unused_imports)]
 use crate::support::prelude::*;
 use crate::ucd_files::choice::{Choice, ValueKind};
 use crate::ucd_files::fields::{field, missing_of};
@@ -21,7 +20,6 @@ use crate::ucptrie::properties::push_text;
 use crate::ucptrie::streams::say;
 use crate::ucptrie::unicode_files::unread;
 use crate::ucptrie_tables::fault::UnicodeFileFault;
-use clap::ArgMatches;
 
 /// Returns the line about a value that only an `@missing` line has.
 fn only_missing_line(name: &str, value: &[u8]) -> Result<String, AllocError> {
@@ -63,18 +61,14 @@ pub fn test_numbers(file: &UnicodeFile<'_>, choice: &Choice<'_>) -> Result<(), F
 /// it is. Returns `other` for files whose values are numbers, and if each code point has a line.
 /// `how` says how to give another number.
 pub fn default_of(
-    matches: &ArgMatches,
+    matches: &ArgMatches<'_>,
     file: &UnicodeFile<'_>,
     numbering: Numbering<'_>,
     other: u32,
     how: &str,
 ) -> Result<u32, Fault> {
     let aliases = &file.aliases;
-    let property = matches
-        .get_one::<String>("property")
-        .map(String::as_str)
-        .unwrap_or("")
-        .as_bytes();
+    let property = matches.get_str("property").unwrap_or("").as_bytes();
     match missing_value(
         file.bytes,
         file.columns,
@@ -184,7 +178,7 @@ fn unused_line(name: &str, value: &[u8]) -> Result<String, AllocError> {
 /// second name, if the arguments name no file of aliases.
 pub fn say_missing(
     rt: &HostRuntime,
-    matches: &ArgMatches,
+    matches: &ArgMatches<'_>,
     file: &UnicodeFile<'_>,
 ) -> Result<(), AllocError> {
     if let Some(number) = nearly_missing(file.bytes) {
@@ -196,14 +190,7 @@ pub fn say_missing(
         )?;
         say(rt, &line);
     }
-    let is_asked = matches
-        .get_one::<String>("aliases")
-        .map(String::as_str)
-        .is_some()
-        || matches
-            .get_one::<String>("values")
-            .map(String::as_str)
-            .is_some();
+    let is_asked = matches.get_str("aliases").is_some() || matches.get_str("values").is_some();
     if is_asked {
         return Ok(());
     }

@@ -1,9 +1,7 @@
 //! Makes code point tries from tables of rows, writes them in the forms that other programs read,
 //! and reads and shows them.
 
-#[allow(unused_imports)]
-use crate::host::{HostRuntime, Text};
-#[allow(unused_imports)]
+use crate::host::*;
 use crate::support::prelude::*;
 mod aliases;
 mod asked;
@@ -33,6 +31,8 @@ mod wide;
 mod word_lists;
 mod words;
 
+use crate::clap::ArgMatches;
+use crate::clap::error::ErrorKind;
 use crate::host::process::ExitCode;
 use crate::host::{env, io};
 use crate::support::AllocError;
@@ -54,7 +54,6 @@ use crate::ucptrie_tables::diff::differences_text;
 use crate::ucptrie_tables::explain::explained;
 use crate::ucptrie_tables::shown::{answered, shown};
 use crate::ucptrie_tables::table::Table;
-use clap::ArgMatches;
 
 /// Returns whether an input is standard input.
 fn is_input(path: &str) -> bool {
@@ -75,9 +74,9 @@ fn test_once(first: &str, second: Option<&str>) -> Result<(), Fault> {
 }
 
 /// Tests that not two of an input and the files of aliases are standard input.
-fn test_inputs(matches: &ArgMatches, path: &str) -> Result<(), Fault> {
+fn test_inputs(matches: &ArgMatches<'_>, path: &str) -> Result<(), Fault> {
     let mut is_read = is_input(path);
-    for name in matches.get_many::<String>("aliases").into_iter().flatten() {
+    for name in matches.get_strs("aliases").unwrap_or(&[]) {
         if is_read && is_input(name) {
             return Err(read_twice());
         }
@@ -91,7 +90,7 @@ fn test_inputs(matches: &ArgMatches, path: &str) -> Result<(), Fault> {
 fn made(
     rt: &HostRuntime,
     command: &str,
-    matches: &ArgMatches,
+    matches: &ArgMatches<'_>,
     name: &str,
     file: &[u8],
 ) -> Result<Vec<u8>, Fault> {
@@ -106,11 +105,8 @@ fn made(
 
 /// Returns whether the input of a command may be binary and start with any bytes: the arguments say
 /// that it is a serialized set or units, or give the offset of its trie.
-fn may_be_binary(command: &str, matches: &ArgMatches) -> bool {
-    match (
-        command,
-        matches.get_one::<String>("format").map(String::as_str),
-    ) {
+fn may_be_binary(command: &str, matches: &ArgMatches<'_>) -> bool {
+    match (command, matches.get_str("format")) {
         ("set", Some("serialized")) | ("words", Some("icu")) => true,
         ("set" | "convert", _) => number(matches, "offset").is_some(),
         _ => false,
@@ -118,7 +114,7 @@ fn may_be_binary(command: &str, matches: &ArgMatches) -> bool {
 }
 
 /// Returns the input of a command, in a text without a byte order mark at its start.
-fn input_of<'f>(command: &str, matches: &ArgMatches, file: &'f [u8]) -> &'f [u8] {
+fn input_of<'f>(command: &str, matches: &ArgMatches<'_>, file: &'f [u8]) -> &'f [u8] {
     if may_be_binary(command, matches) {
         file
     } else {
@@ -127,14 +123,11 @@ fn input_of<'f>(command: &str, matches: &ArgMatches, file: &'f [u8]) -> &'f [u8]
 }
 
 /// Sends what a command makes of a file, or of standard input, to its target.
-fn make(rt: &HostRuntime, command: &str, matches: &ArgMatches) -> Result<(), Fault> {
+fn make(rt: &HostRuntime, command: &str, matches: &ArgMatches<'_>) -> Result<(), Fault> {
     let start = started(rt);
     let target = target_of(matches)?;
     test_name(matches)?;
-    let path = matches
-        .get_one::<String>("file")
-        .map(String::as_str)
-        .unwrap_or("-");
+    let path = matches.get_str("file").unwrap_or("-");
     test_inputs(matches, path)?;
     let file = bytes_at(rt, path)?;
     report(rt, start, "read", file.len());
@@ -142,7 +135,7 @@ fn make(rt: &HostRuntime, command: &str, matches: &ArgMatches) -> Result<(), Fau
     let bytes = made(rt, command, matches, input_name(path), input)?;
     report(rt, start, "made", bytes.len());
     let whole = with_heading(command, matches, path, input, bytes)?;
-    let is_binary = matches.get_one::<String>("as").map(String::as_str) == Some("icu");
+    let is_binary = matches.get_str("as") == Some("icu");
     deliver(rt, target, &whole, is_binary)
 }
 
@@ -153,7 +146,7 @@ fn put_text(rt: &HostRuntime, text: Result<String, AllocError>) -> Result<(), Fa
 }
 
 /// Prints what a table is, in lines.
-fn show(rt: &HostRuntime, matches: &ArgMatches) -> Result<(), Fault> {
+fn show(rt: &HostRuntime, matches: &ArgMatches<'_>) -> Result<(), Fault> {
     let table = table_at(rt, matches, "file", start_of(matches))?;
     put_text(rt, shown(&table))
 }
@@ -173,12 +166,9 @@ fn print_values(
 }
 
 /// Prints by `get` or `explain` what the arguments ask for.
-fn get(rt: &HostRuntime, command: &str, matches: &ArgMatches) -> Result<(), Fault> {
-    let path = matches
-        .get_one::<String>("file")
-        .map(String::as_str)
-        .unwrap_or("-");
-    test_once(path, matches.get_one::<String>("from").map(String::as_str))?;
+fn get(rt: &HostRuntime, command: &str, matches: &ArgMatches<'_>) -> Result<(), Fault> {
+    let path = matches.get_str("file").unwrap_or("-");
+    test_once(path, matches.get_str("from"))?;
     let asked = asked(rt, matches)?;
     let table = table_at(rt, matches, "file", start_of(matches))?;
     print_values(rt, command, &table, &asked)
@@ -193,26 +183,23 @@ fn print_differences(rt: &HostRuntime, first: &Table, second: &Table) -> Result<
 }
 
 /// Prints the ranges in which a table and that of the second file differ, and returns the status.
-fn diff_from(rt: &HostRuntime, matches: &ArgMatches, first: &Table) -> Result<u8, Fault> {
+fn diff_from(rt: &HostRuntime, matches: &ArgMatches<'_>, first: &Table) -> Result<u8, Fault> {
     let second = table_at(rt, matches, "second", Start::Only)?;
     print_differences(rt, first, &second)
 }
 
 /// Prints the ranges in which the tables of two files differ, and returns the status.
-fn diff(rt: &HostRuntime, matches: &ArgMatches) -> Result<u8, Fault> {
+fn diff(rt: &HostRuntime, matches: &ArgMatches<'_>) -> Result<u8, Fault> {
     test_once(
-        matches
-            .get_one::<String>("first")
-            .map(String::as_str)
-            .unwrap_or("-"),
-        matches.get_one::<String>("second").map(String::as_str),
+        matches.get_str("first").unwrap_or("-"),
+        matches.get_str("second"),
     )?;
     let first = table_at(rt, matches, "first", Start::Only)?;
     diff_from(rt, matches, &first)
 }
 
 /// Does what a command asks for, and returns the status.
-fn run(rt: &HostRuntime, name: &str, matches: &ArgMatches) -> Result<u8, Fault> {
+fn run(rt: &HostRuntime, name: &str, matches: &ArgMatches<'_>) -> Result<u8, Fault> {
     match name {
         "build" | "convert" | "set" | "words" => make(rt, name, matches)?,
         "show" => show(rt, matches)?,
@@ -232,15 +219,12 @@ fn failed(rt: &HostRuntime, fault: &Fault, is_diff: bool) -> u8 {
 
 /// Prints help or the version, or why the arguments are rejected, and returns the status. A failed
 /// allocation is not a fault of the arguments.
-fn not_taken(rt: &HostRuntime, error: &clap::Error) -> u8 {
-    match error.print() {
-        Ok(()) => {
-            if error.use_stderr() {
-                2
-            } else {
-                0
-            }
-        }
+fn not_taken(rt: &HostRuntime, error: &crate::clap::Error) -> u8 {
+    if matches!(error.kind(), ErrorKind::OutOfMemory) {
+        return failed(rt, &Fault::Memory, false);
+    }
+    match error.print(rt) {
+        Ok(()) => error.exit_code() as u8,
         Err(error) => failed(rt, &about("standard output", error), false),
     }
 }
@@ -255,7 +239,7 @@ fn given_words(rt: &HostRuntime) -> Result<Vec<String>, Fault> {
 }
 
 /// Does what the command asks for, and returns the status.
-fn status_of(rt: &HostRuntime, matches: &ArgMatches) -> u8 {
+fn status_of(rt: &HostRuntime, matches: &ArgMatches<'_>) -> u8 {
     let Some((name, matches)) = matches.subcommand() else {
         return 2;
     };

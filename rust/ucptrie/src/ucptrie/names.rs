@@ -1,8 +1,7 @@
 //! Names in source, and lists of the names of values.
-#[allow(unused_imports)]
-use crate::host::{HostRuntime, Text};
+use crate::clap::ArgMatches;
+use crate::host::*;
 use crate::support::AllocError;
-#[allow(unused_imports)]
 use crate::support::prelude::*;
 use crate::ucd_files::choice::{Choice, ValueKind};
 use crate::ucd_files::names::{Name, Numbering};
@@ -11,7 +10,6 @@ use crate::ucptrie::fault::{Fault, about};
 use crate::ucptrie::streams::say;
 use crate::ucptrie_tables::source::is_name;
 use crate::ucptrie_tables::value_names::MOST;
-use clap::ArgMatches;
 
 /// The words that cannot name a module in Rust: its keywords, including the reserved ones, and `_`.
 static RESERVED_BY_RUST: [&str; 53] = [
@@ -38,23 +36,20 @@ fn why_no_module(name: &str) -> Option<&'static str> {
 }
 
 /// Returns the name in source that the arguments give.
-pub fn name_in(matches: &ArgMatches) -> &str {
-    matches
-        .get_one::<String>("name")
-        .map(String::as_str)
-        .unwrap_or("table")
+pub fn name_in<'a>(matches: &ArgMatches<'a>) -> &'a str {
+    matches.get_str("name").unwrap_or("table")
 }
 
 /// Tests whether each name in source can start with that of the arguments, and whether in Rust it
 /// can be that of a module.
-pub fn test_name(matches: &ArgMatches) -> Result<(), Fault> {
+pub fn test_name(matches: &ArgMatches<'_>) -> Result<(), Fault> {
     let name = name_in(matches);
     if !is_name(name) {
         let why = "expected letters, digits and _, not starting with a digit";
         return Err(about(name, why));
     }
     if !matches!(
-        matches.get_one::<String>("as").map(String::as_str),
+        matches.get_str("as"),
         Some("rust" | "rust-frozen" | "rust-static")
     ) {
         return Ok(());
@@ -66,13 +61,13 @@ pub fn test_name(matches: &ArgMatches) -> Result<(), Fault> {
 }
 
 /// Returns whether the arguments ask for the list of the names of values.
-pub fn is_list(matches: &ArgMatches) -> bool {
-    matches.get_one::<String>("as").map(String::as_str) == Some("names")
+pub fn is_list(matches: &ArgMatches<'_>) -> bool {
+    matches.get_str("as") == Some("names")
 }
 
 /// Tests whether a list of names has any, if the arguments ask for one. `name` is what the values
 /// were read from.
-pub fn expect_names(matches: &ArgMatches, name: &str, bytes: &[u8]) -> Result<(), Fault> {
+pub fn expect_names(matches: &ArgMatches<'_>, name: &str, bytes: &[u8]) -> Result<(), Fault> {
     if is_list(matches) && bytes.is_empty() {
         let why = "expected values with names for --as names, found only numbers";
         return Err(about(name, why));
@@ -95,14 +90,11 @@ fn many_line(name: &str, count: usize) -> Result<String, AllocError> {
 /// have too many names. `name` is what they were read from.
 pub fn say_many(
     rt: &HostRuntime,
-    matches: &ArgMatches,
+    matches: &ArgMatches<'_>,
     name: &str,
     names: &[Name<'_>],
 ) -> Result<(), AllocError> {
-    let is_source = matches!(
-        matches.get_one::<String>("as").map(String::as_str),
-        Some("c" | "rust" | "rust-static")
-    );
+    let is_source = matches!(matches.get_str("as"), Some("c" | "rust" | "rust-static"));
     if is_source && names.len() > MOST {
         say(rt, &many_line(name, names.len())?);
     }
@@ -112,7 +104,7 @@ pub fn say_many(
 /// Says on standard error that source has no enum of the values of a file, as [`say_many`] does.
 pub fn say_many_in(
     rt: &HostRuntime,
-    matches: &ArgMatches,
+    matches: &ArgMatches<'_>,
     file: &UnicodeFile<'_>,
     choice: &Choice<'_>,
 ) -> Result<(), AllocError> {

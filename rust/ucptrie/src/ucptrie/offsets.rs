@@ -1,12 +1,10 @@
 //! Tries inside other files, as in ICU's data files.
-#[allow(unused_imports)]
-use crate::host::{HostRuntime, Text};
+use crate::clap::ArgMatches;
+use crate::host::*;
 use crate::support::AllocError;
-#[allow(unused_imports)]
 use crate::support::prelude::*;
 use crate::ucptrie::fault::{Fault, about, said};
 use crate::ucptrie::tables::number;
-use clap::ArgMatches;
 
 /// How many offsets a message lists at most.
 const LISTED: usize = 32;
@@ -23,7 +21,7 @@ pub enum Start {
 }
 
 /// Returns where the arguments of a command with `--offset` say that a trie starts.
-pub fn start_of(matches: &ArgMatches) -> Start {
+pub fn start_of(matches: &ArgMatches<'_>) -> Start {
     match number(matches, "offset") {
         Some(offset) => Start::At(offset),
         None => Start::Found,

@@ -1,17 +1,15 @@
 //! Where the bytes of a table go: to standard output, into a file, or nowhere if a file is compared
 //! with them.
+use crate::clap::ArgMatches;
 use crate::host::fs::File;
 use crate::host::io::Write;
-#[allow(unused_imports)]
-use crate::host::{HostRuntime, Text};
+use crate::host::*;
 use crate::host::{fs, io};
 use crate::support::AllocError;
-#[allow(unused_imports)]
 use crate::support::prelude::*;
 use crate::ucptrie::fault::{Fault, about, about_arguments, said};
 use crate::ucptrie::streams::put;
 use crate::ucptrie_tables::compare::{Difference, first_difference};
-use clap::ArgMatches;
 
 /// Where the bytes go.
 #[derive(Clone, Copy)]
@@ -25,11 +23,8 @@ pub enum Target<'a> {
 }
 
 /// Returns where the arguments send the bytes.
-pub fn target_of(matches: &ArgMatches) -> Result<Target<'_>, Fault> {
-    match (
-        matches.get_one::<String>("output").map(String::as_str),
-        matches.get_one::<String>("check").map(String::as_str),
-    ) {
+pub fn target_of<'a>(matches: &ArgMatches<'a>) -> Result<Target<'a>, Fault> {
+    match (matches.get_str("output"), matches.get_str("check")) {
         (None | Some("-"), None) => Ok(Target::Output),
         (Some(path), None) => Ok(Target::File(path)),
         (None, Some(path)) => Ok(Target::Check(path)),

@@ -1,8 +1,6 @@
 //! Which code point has two values in a file, as in files of several properties.
-#[allow(unused_imports)]
-use crate::host::{HostRuntime, Text};
+use crate::host::*;
 use crate::support::AllocError;
-#[allow(unused_imports)]
 use crate::support::prelude::*;
 use crate::ucd_files::choice::{Choice, by_names, own_choice};
 use crate::ucd_files::fields::ends_in_first;

@@ -1,8 +1,8 @@
 //! What a slow command has done so far, which it says between its steps.
 use crate::host::io::IsTerminal;
 use crate::host::time::Instant;
-#[allow(unused_imports)]
-use crate::host::{HostRuntime, Text};
+use crate::host::*;
+use crate::support::prelude::*;
 use crate::ucptrie::streams::say_step;
 
 /// How many seconds a command takes before it says what it has done.

@@ -1,8 +1,7 @@
 //! Files in which no line has the property or the field that is asked for.
-#[allow(unused_imports)]
-use crate::host::{HostRuntime, Text};
+use crate::clap::ArgMatches;
+use crate::host::*;
 use crate::support::AllocError;
-#[allow(unused_imports)]
 use crate::support::prelude::*;
 use crate::ucd_files::fields::{column, field, has_field, missing_of};
 use crate::ucd_files::names::{Matching, Name, is_same_name};
@@ -12,7 +11,6 @@ use crate::ucptab_table::input::first_line;
 use crate::ucptab_table::rows::content_of;
 use crate::ucptrie::fault::{Fault, said};
 use crate::ucptrie::tables::number;
-use clap::ArgMatches;
 
 /// How many properties a message lists at most.
 const LISTED: usize = 10;
@@ -122,7 +120,7 @@ fn is_field_of(n: usize, file: &[u8]) -> bool {
 }
 
 /// Returns the field of which the arguments ask, by its number or as a property of UnicodeData.txt.
-fn asked_field(matches: &ArgMatches, columns: Columns<'_>) -> Option<usize> {
+fn asked_field(matches: &ArgMatches<'_>, columns: Columns<'_>) -> Option<usize> {
     match columns {
         Columns::UnicodeData(n) => Some(n),
         Columns::Field(n) if number(matches, "field").is_some() => Some(n),
@@ -140,7 +138,7 @@ fn no_field_line(name: &str, n: usize) -> Result<String, AllocError> {
 /// Tests whether a line has the field of which the arguments ask. `name` is what the file was read
 /// from.
 pub fn expect_field(
-    matches: &ArgMatches,
+    matches: &ArgMatches<'_>,
     columns: Columns<'_>,
     name: &str,
     file: &[u8],

@@ -1,8 +1,7 @@
 //! The command `set`: the set of the code points with a value, or of a file of sets, in a form.
-#[allow(unused_imports)]
-use crate::host::{HostRuntime, Text};
+use crate::clap::ArgMatches;
+use crate::host::*;
 use crate::support::AllocError;
-#[allow(unused_imports)]
 use crate::support::prelude::*;
 use crate::ucd_files::choice::{Choice, ValueKind, by_names};
 use crate::ucd_files::kind::{FileKind, kind_of};
@@ -36,7 +35,6 @@ use crate::ucptrie_tables::width::ValueWidth;
 use bekstaudi::codepointinvlist::serialized::SerializedSetError;
 use bekstaudi::codepointinvlist::{CodePointInversionList, CodePointInversionListBuilder};
 use bekstaudi::codepointtrie::TrieType;
-use clap::ArgMatches;
 
 /// What is said of a file that says too little of code points without a line.
 const NO_DEFAULT: &str =
@@ -59,11 +57,11 @@ enum Source {
 }
 
 /// Returns what a file is: what the arguments say, or what its first bytes say.
-fn source_of(matches: &ArgMatches, file: &[u8]) -> Source {
+fn source_of(matches: &ArgMatches<'_>, file: &[u8]) -> Source {
     if let Some(kind) = named_kind(matches) {
         return Source::Lines(kind);
     }
-    match matches.get_one::<String>("format").map(String::as_str) {
+    match matches.get_str("format") {
         Some("table") => Source::Table,
         Some("toml") => Source::Toml,
         Some("serialized") => Source::Serialized,
@@ -117,8 +115,8 @@ fn union_in_table(
 }
 
 /// Returns the value that the arguments ask for as a number, which is 1 if they ask for none.
-fn asked_number(matches: &ArgMatches) -> Result<u32, Fault> {
-    let Some(text) = matches.get_one::<String>("value").map(String::as_str) else {
+fn asked_number(matches: &ArgMatches<'_>) -> Result<u32, Fault> {
+    let Some(text) = matches.get_str("value") else {
         return Ok(1);
     };
     match number_of(Numbering::Decimal, text.as_bytes()) {
@@ -141,14 +139,11 @@ fn number_named(names: &ValueNames<'_>, text: &str) -> Option<u32> {
 }
 
 /// Returns whether the values of a file are general categories.
-fn has_categories(matches: &ArgMatches, file: &UnicodeFile<'_>) -> bool {
+fn has_categories(matches: &ArgMatches<'_>, file: &UnicodeFile<'_>) -> bool {
     if matches!(file.columns, Columns::UnicodeData(2)) {
         return true;
     }
-    match (
-        matches.get_one::<String>("property").map(String::as_str),
-        title_of(file.bytes),
-    ) {
+    match (matches.get_str("property"), title_of(file.bytes)) {
         (Some(property), _) => is_named("gc", "General_Category", property.as_bytes()),
         (None, Some(title)) => title.starts_with(b"DerivedGeneralCategory".as_slice()),
         (None, None) => false,
@@ -158,7 +153,7 @@ fn has_categories(matches: &ArgMatches, file: &UnicodeFile<'_>) -> bool {
 /// Returns the number of the value with this name, or the numbers of the general categories in the
 /// group with this name.
 fn numbers_named(
-    matches: &ArgMatches,
+    matches: &ArgMatches<'_>,
     file: &UnicodeFile<'_>,
     names: &ValueNames<'_>,
     text: &str,
@@ -184,14 +179,11 @@ fn only_one() -> Result<Vec<u32>, AllocError> {
 
 /// Returns how the values of a file become numbers, and the numbers whose set is asked for.
 fn asked_values<'n>(
-    matches: &ArgMatches,
+    matches: &ArgMatches<'_>,
     file: &UnicodeFile<'_>,
     choice: &'n Choice<'n>,
 ) -> Result<(Numbering<'n>, Vec<u32>), Fault> {
-    match (
-        matches.get_one::<String>("value").map(String::as_str),
-        choice.kind,
-    ) {
+    match (matches.get_str("value"), choice.kind) {
         (Some(text), _) => {
             let numbers = numbers_named(matches, file, &choice.names, text)?;
             Ok((by_names(choice), numbers))
@@ -208,7 +200,7 @@ fn asked_values<'n>(
 /// Returns the number of the value that code points have without a line and without an `@missing`
 /// line: false, or what the file of aliases says, or none of the file's values.
 fn default_in_set(
-    matches: &ArgMatches,
+    matches: &ArgMatches<'_>,
     file: &UnicodeFile<'_>,
     choice: &Choice<'_>,
     numbering: Numbering<'_>,
@@ -225,7 +217,7 @@ fn default_in_set(
 
 /// Returns the set of a value in lines whose values have these names.
 fn set_of_lines(
-    matches: &ArgMatches,
+    matches: &ArgMatches<'_>,
     file: &UnicodeFile<'_>,
     choice: &Choice<'_>,
 ) -> Result<CodePointInversionList<'static>, Fault> {
@@ -243,7 +235,7 @@ fn set_of_lines(
 /// Returns the set of a value in a file of the Unicode Character Database.
 fn set_of_unicode_file(
     rt: &HostRuntime,
-    matches: &ArgMatches,
+    matches: &ArgMatches<'_>,
     name: &str,
     bytes: &[u8],
     kind: FileKind,
@@ -255,7 +247,7 @@ fn set_of_unicode_file(
 
 /// Returns the set of a value in rows.
 fn set_of_rows(
-    matches: &ArgMatches,
+    matches: &ArgMatches<'_>,
     name: &str,
     rows: &[u8],
 ) -> Result<CodePointInversionList<'static>, Fault> {
@@ -271,7 +263,7 @@ fn set_of_rows(
 
 /// Returns the set of a value in a file with a table.
 fn set_of_table(
-    matches: &ArgMatches,
+    matches: &ArgMatches<'_>,
     name: &str,
     file: &[u8],
 ) -> Result<CodePointInversionList<'static>, Fault> {
@@ -308,21 +300,16 @@ fn say_strings(
 /// Returns the set of a TOML file: that of a property, or else that of a value in a table.
 fn set_of_toml(
     rt: &HostRuntime,
-    matches: &ArgMatches,
+    matches: &ArgMatches<'_>,
     name: &str,
     file: &[u8],
 ) -> Result<CodePointInversionList<'static>, Fault> {
     let Ok(text) = str::from_utf8(file) else {
         return set_of_table(matches, name, file);
     };
-    let property = matches.get_one::<String>("property").map(String::as_str);
+    let property = matches.get_str("property");
     match set_of_file(text, property) {
-        Ok(_)
-            if matches
-                .get_one::<String>("value")
-                .map(String::as_str)
-                .is_some() =>
-        {
+        Ok(_) if matches.get_str("value").is_some() => {
             let why = "the file has sets, and no table with values for --value";
             Err(about(name, why))
         }
@@ -337,33 +324,13 @@ fn set_of_toml(
 }
 
 /// Returns an option of the arguments for which a file of this kind has no use.
-fn unused_option(matches: &ArgMatches, source: Source) -> Option<&'static str> {
+fn unused_option(matches: &ArgMatches<'_>, source: Source) -> Option<&'static str> {
     match source {
         Source::Lines(_) => None,
         _ if number(matches, "field").is_some() => Some("--field"),
-        _ if matches
-            .get_one::<String>("aliases")
-            .map(String::as_str)
-            .is_some() =>
-        {
-            Some("--aliases")
-        }
-        Source::Serialized
-            if matches
-                .get_one::<String>("property")
-                .map(String::as_str)
-                .is_some() =>
-        {
-            Some("--property")
-        }
-        Source::Serialized
-            if matches
-                .get_one::<String>("value")
-                .map(String::as_str)
-                .is_some() =>
-        {
-            Some("--value")
-        }
+        _ if matches.get_str("aliases").is_some() => Some("--aliases"),
+        Source::Serialized if matches.get_str("property").is_some() => Some("--property"),
+        Source::Serialized if matches.get_str("value").is_some() => Some("--value"),
         _ => None,
     }
 }
@@ -380,7 +347,7 @@ fn set_of_serialized(name: &str, file: &[u8]) -> Result<CodePointInversionList<'
 /// Returns the set that the arguments ask for.
 fn asked_set(
     rt: &HostRuntime,
-    matches: &ArgMatches,
+    matches: &ArgMatches<'_>,
     name: &str,
     file: &[u8],
 ) -> Result<CodePointInversionList<'static>, Fault> {
@@ -412,9 +379,9 @@ fn say_empty(rt: &HostRuntime, name: &str) -> Result<(), AllocError> {
 }
 
 /// Returns the form that the arguments name.
-fn set_form(matches: &ArgMatches) -> SetForm<'_> {
+fn set_form<'a>(matches: &ArgMatches<'a>) -> SetForm<'a> {
     let name = name_in(matches);
-    match matches.get_one::<String>("as").map(String::as_str) {
+    match matches.get_str("as") {
         Some("icu") => SetForm::Icu,
         Some("toml") => SetForm::Toml(name),
         Some("json") => SetForm::Json,
@@ -430,7 +397,7 @@ fn set_form(matches: &ArgMatches) -> SetForm<'_> {
 /// was read from.
 pub fn set(
     rt: &HostRuntime,
-    matches: &ArgMatches,
+    matches: &ArgMatches<'_>,
     name: &str,
     file: &[u8],
 ) -> Result<Vec<u8>, Fault> {

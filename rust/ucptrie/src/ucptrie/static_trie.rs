@@ -1,27 +1,22 @@
 //! The static trie that follows a table's module in Rust.
-#[allow(unused_imports)]
-use crate::host::{HostRuntime, Text};
+use crate::clap::ArgMatches;
+use crate::host::*;
 use crate::support::AllocError;
-#[allow(unused_imports)]
 use crate::support::prelude::*;
 use crate::ucd_files::names::Name;
 use crate::ucptrie::names::name_in;
 use crate::ucptrie_tables::static_source::static_source;
 use crate::ucptrie_tables::width::ValueWidth;
-use clap::ArgMatches;
 
 /// Returns whether the arguments ask for a static trie.
-pub fn is_static(matches: &ArgMatches) -> bool {
-    matches!(
-        matches.get_one::<String>("as").map(String::as_str),
-        Some("rust-static")
-    )
+pub fn is_static(matches: &ArgMatches<'_>) -> bool {
+    matches!(matches.get_str("as"), Some("rust-static"))
 }
 
 /// Returns a table in a form, followed by its static trie if the arguments ask for that. `names`
 /// are those of its values, if they have any.
 pub fn with_static(
-    matches: &ArgMatches,
+    matches: &ArgMatches<'_>,
     bytes: Vec<u8>,
     width: ValueWidth,
     names: &[Name<'_>],

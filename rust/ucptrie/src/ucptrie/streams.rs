@@ -1,9 +1,7 @@
 //! Files and streams, and the names by which faults call them.
 use crate::host::io::{Read, Write};
-#[allow(unused_imports)]
-use crate::host::{HostRuntime, Text};
+use crate::host::*;
 use crate::host::{fs, io};
-#[allow(unused_imports)]
 use crate::support::prelude::*;
 use crate::ucptrie::compressed::{expect_lines, unpacked};
 use crate::ucptrie::fault::{Fault, about};

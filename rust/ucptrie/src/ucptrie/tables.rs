@@ -1,8 +1,7 @@
 //! The tables of files, and how a table is to be written.
-#[allow(unused_imports)]
-use crate::host::{HostRuntime, Text};
+use crate::clap::ArgMatches;
+use crate::host::*;
 use crate::support::AllocError;
-#[allow(unused_imports)]
 use crate::support::prelude::*;
 use crate::ucptrie::compressed::expect_text;
 use crate::ucptrie::fault::{Fault, about, said};
@@ -20,16 +19,15 @@ use crate::ucptrie_tables::table::Table;
 use crate::ucptrie_tables::width::ValueWidth;
 use crate::ucptrie_tables::written::Form;
 use bekstaudi::codepointtrie::TrieType;
-use clap::ArgMatches;
 
 /// Returns the number that the argument `id` gives.
-pub fn number(matches: &ArgMatches, id: &str) -> Option<u32> {
-    matches.get_one::<u32>(id).copied()
+pub fn number(matches: &ArgMatches<'_>, id: &str) -> Option<u32> {
+    matches.get_one(id)
 }
 
 /// Returns the trie type that the arguments name.
-pub fn trie_type(matches: &ArgMatches) -> Option<TrieType> {
-    match matches.get_one::<String>("type").map(String::as_str) {
+pub fn trie_type(matches: &ArgMatches<'_>) -> Option<TrieType> {
+    match matches.get_str("type") {
         Some("fast") => Some(TrieType::Fast),
         Some("small") => Some(TrieType::Small),
         _ => None,
@@ -37,8 +35,8 @@ pub fn trie_type(matches: &ArgMatches) -> Option<TrieType> {
 }
 
 /// Returns the width that the arguments name.
-pub fn width(matches: &ArgMatches) -> Option<ValueWidth> {
-    match matches.get_one::<String>("width").map(String::as_str) {
+pub fn width(matches: &ArgMatches<'_>) -> Option<ValueWidth> {
+    match matches.get_str("width") {
         Some("8") => Some(ValueWidth::Bits8),
         Some("16") => Some(ValueWidth::Bits16),
         Some("32") => Some(ValueWidth::Bits32),
@@ -47,9 +45,9 @@ pub fn width(matches: &ArgMatches) -> Option<ValueWidth> {
 }
 
 /// Returns the form that the arguments name.
-pub fn form(matches: &ArgMatches) -> Form<'_> {
+pub fn form<'a>(matches: &ArgMatches<'a>) -> Form<'a> {
     let name = name_in(matches);
-    match matches.get_one::<String>("as").map(String::as_str) {
+    match matches.get_str("as") {
         Some("icu") => Form::Icu,
         Some("toml") => Form::Toml,
         Some("json") => Form::Json,
@@ -169,11 +167,11 @@ fn parsed<'f>(name: &str, bytes: &'f [u8]) -> Result<ParsedFile<'f>, Fault> {
 /// Returns the table of a file: in TOML that of the property that the arguments name, and in
 /// another file that of the trie at its start. `name` is what the file was read from.
 pub fn table_of_property(
-    matches: &ArgMatches,
+    matches: &ArgMatches<'_>,
     name: &str,
     file: &ParsedFile<'_>,
 ) -> Result<Table, Fault> {
-    let property = matches.get_one::<String>("property").map(String::as_str);
+    let property = matches.get_str("property");
     match read_property(file, property) {
         Ok(table) => Ok(table),
         Err(fault) => {
@@ -201,7 +199,7 @@ pub fn file_in<'f>(name: &str, bytes: &'f [u8], start: Start) -> Result<ParsedFi
 
 /// Returns the table of a file with these bytes, as [`table_of_property`] does.
 pub fn table_in(
-    matches: &ArgMatches,
+    matches: &ArgMatches<'_>,
     name: &str,
     bytes: &[u8],
     start: Start,
@@ -214,14 +212,11 @@ pub fn table_in(
 /// `-`. `start` is where the trie starts.
 pub fn table_at(
     rt: &HostRuntime,
-    matches: &ArgMatches,
+    matches: &ArgMatches<'_>,
     id: &str,
     start: Start,
 ) -> Result<Table, Fault> {
-    let path = matches
-        .get_one::<String>(id)
-        .map(String::as_str)
-        .unwrap_or("-");
+    let path = matches.get_str(id).unwrap_or("-");
     let bytes = bytes_at(rt, path)?;
     let file = match start {
         Start::At(_) => bytes.as_slice(),

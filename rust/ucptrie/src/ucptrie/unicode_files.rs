@@ -1,8 +1,7 @@
 //! Tables of files of the Unicode Character Database.
-#[allow(unused_imports)]
-use crate::host::{HostRuntime, Text};
+use crate::clap::ArgMatches;
+use crate::host::*;
 use crate::support::AllocError;
-#[allow(unused_imports)]
 use crate::support::prelude::*;
 use crate::ucd_files::choice::{Choice, ValueKind};
 use crate::ucd_files::fault::FileFault;
@@ -35,11 +34,10 @@ use crate::ucptrie_tables::unicode_file::table_of_file;
 use crate::ucptrie_tables::value_names::names_source;
 use crate::ucptrie_tables::width::ValueWidth;
 use crate::ucptrie_tables::written::{Form, written};
-use clap::ArgMatches;
 
 /// Returns the kind of lines that the arguments name.
-pub fn named_kind(matches: &ArgMatches) -> Option<FileKind> {
-    match matches.get_one::<String>("format").map(String::as_str) {
+pub fn named_kind(matches: &ArgMatches<'_>) -> Option<FileKind> {
+    match matches.get_str("format") {
         Some("rows") => Some(FileKind::Rows),
         Some("properties") => Some(FileKind::Properties),
         Some("unicode-data") => Some(FileKind::UnicodeData),
@@ -51,20 +49,12 @@ pub fn named_kind(matches: &ArgMatches) -> Option<FileKind> {
 
 /// Returns an option of the arguments that says where values are or what they are called, as only
 /// for files of the Unicode Character Database.
-pub fn column_option(matches: &ArgMatches) -> Option<&'static str> {
+pub fn column_option(matches: &ArgMatches<'_>) -> Option<&'static str> {
     if number(matches, "field").is_some() {
         Some("--field")
-    } else if matches
-        .get_one::<String>("property")
-        .map(String::as_str)
-        .is_some()
-    {
+    } else if matches.get_str("property").is_some() {
         Some("--property")
-    } else if matches
-        .get_one::<String>("aliases")
-        .map(String::as_str)
-        .is_some()
-    {
+    } else if matches.get_str("aliases").is_some() {
         Some("--aliases")
     } else {
         None
@@ -288,8 +278,8 @@ fn columns_of_unihan<'a>(property: &'a str, name: &str, file: &[u8]) -> Result<C
 }
 
 /// Returns where the lines of a file have their values. `name` is what it was read from.
-fn columns<'f>(
-    matches: &'f ArgMatches,
+fn columns<'f, 'a: 'f>(
+    matches: &ArgMatches<'a>,
     aliases: &Aliases,
     kind: FileKind,
     name: &str,
@@ -301,7 +291,7 @@ fn columns<'f>(
             "expected values, found only comments and blank lines",
         ));
     }
-    let property = matches.get_one::<String>("property").map(String::as_str);
+    let property = matches.get_str("property");
     if let Some(field) = number(matches, "field") {
         return Ok(match kind {
             FileKind::UnicodeData => Columns::UnicodeData(field as usize),
@@ -324,9 +314,9 @@ fn columns<'f>(
 
 /// Returns a file of the Unicode Character Database, with the files of aliases that the arguments
 /// name. `name` is what it was read from.
-pub fn unicode_file<'f>(
+pub fn unicode_file<'f, 'a: 'f>(
     rt: &HostRuntime,
-    matches: &'f ArgMatches,
+    matches: &ArgMatches<'a>,
     name: &'f str,
     bytes: &'f [u8],
     kind: FileKind,
@@ -370,7 +360,7 @@ fn push_names(
 /// Returns a table in a form, followed by the source of these names and by the static trie that the
 /// arguments ask for, or only the list of the names if they ask for that.
 pub fn with_names(
-    matches: &ArgMatches,
+    matches: &ArgMatches<'_>,
     bytes: Vec<u8>,
     form: Form<'_>,
     width: ValueWidth,
@@ -388,7 +378,7 @@ pub fn with_names(
 
 /// Returns the table of a file in the form that the arguments name.
 fn written_of_file(
-    matches: &ArgMatches,
+    matches: &ArgMatches<'_>,
     file: &UnicodeFile<'_>,
     choice: &Choice<'_>,
     numbering: Numbering<'_>,
@@ -407,7 +397,7 @@ fn written_of_file(
 
 /// Returns what the table of a file is to be.
 fn options_of_file(
-    matches: &ArgMatches,
+    matches: &ArgMatches<'_>,
     file: &UnicodeFile<'_>,
     choice: &Choice<'_>,
     numbering: Numbering<'_>,
@@ -429,7 +419,7 @@ fn options_of_file(
 
 /// Returns the table of a file, whose values have these names, in the form that the arguments name.
 fn built_of_file(
-    matches: &ArgMatches,
+    matches: &ArgMatches<'_>,
     file: &UnicodeFile<'_>,
     choice: &Choice<'_>,
 ) -> Result<Vec<u8>, Fault> {
@@ -438,11 +428,7 @@ fn built_of_file(
     if matches!(numbering, Numbering::Names(_, _)) {
         test_own_names(file, choice)?;
     }
-    if matches
-        .get_one::<String>("values")
-        .map(String::as_str)
-        .is_none()
-    {
+    if matches.get_str("values").is_none() {
         test_numbers(file, choice)?;
     }
     let options = options_of_file(matches, file, choice, numbering)?;
@@ -460,7 +446,7 @@ fn built_of_file(
 /// which other file has the whole property, and which `@missing` lines are not read.
 pub fn choice_of_file<'f>(
     rt: &HostRuntime,
-    matches: &ArgMatches,
+    matches: &ArgMatches<'_>,
     file: &'f UnicodeFile<'f>,
 ) -> Result<Choice<'f>, Fault> {
     say_whole_file(rt, file)?;
@@ -472,7 +458,7 @@ pub fn choice_of_file<'f>(
 /// `name` is what it was read from.
 pub fn build_file(
     rt: &HostRuntime,
-    matches: &ArgMatches,
+    matches: &ArgMatches<'_>,
     name: &str,
     bytes: &[u8],
     kind: FileKind,

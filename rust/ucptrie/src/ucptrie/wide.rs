@@ -1,8 +1,7 @@
 //! Where a value comes from that has more bits than the asked width.
-#[allow(unused_imports)]
-use crate::host::{HostRuntime, Text};
+use crate::clap::ArgMatches;
+use crate::host::*;
 use crate::support::AllocError;
-#[allow(unused_imports)]
 use crate::support::prelude::*;
 use crate::ucd_files::names::Numbering;
 use crate::ucd_files::statement::{Statement, statement_of};
@@ -15,7 +14,6 @@ use crate::ucptrie_tables::table::Table;
 use crate::ucptrie_tables::width::ValueWidth;
 use bekstaudi::codepointtrie::Write;
 use bekstaudi::zerovec::CODE_POINT_LIMIT;
-use clap::ArgMatches;
 
 /// Returns whether a write gives this value.
 fn gives(write: &Write<u32>, value: u32) -> bool {
@@ -77,7 +75,7 @@ pub fn line_with(file: &UnicodeFile<'_>, numbering: Numbering<'_>, value: u32) -
 }
 
 /// Returns the option that gives this value, or else the name of the input.
-fn giver<'n>(matches: &ArgMatches, name: &'n str, value: u32) -> &'n str {
+fn giver<'n>(matches: &ArgMatches<'_>, name: &'n str, value: u32) -> &'n str {
     if number(matches, "default") == Some(value) {
         "--default"
     } else if number(matches, "error") == Some(value) {
@@ -113,7 +111,7 @@ fn wide_line(
 /// Returns the fault of a value that has more bits than the asked width. `place` is the number of
 /// the line that gives it, in an input of this name. Without such a line it is from an argument.
 pub fn too_wide(
-    matches: &ArgMatches,
+    matches: &ArgMatches<'_>,
     name: &str,
     place: Option<u64>,
     value: u32,
@@ -148,7 +146,7 @@ fn wide_point_line(
 /// the table was read from. If no code point has the value, it is the error value, which an
 /// argument may give.
 pub fn too_wide_in(
-    matches: &ArgMatches,
+    matches: &ArgMatches<'_>,
     name: &str,
     table: &Table,
     value: u32,

@@ -1,8 +1,7 @@
 //! The command `words`: a word list as a unit trie.
-#[allow(unused_imports)]
-use crate::host::{HostRuntime, Text};
+use crate::clap::ArgMatches;
+use crate::host::*;
 use crate::support::AllocError;
-#[allow(unused_imports)]
 use crate::support::prelude::*;
 use crate::ucptab_table::input::line_at;
 use crate::ucptab_table::message::{line_message, push_quoted};
@@ -13,12 +12,11 @@ use crate::ucptrie_words::built::{trie_of_units, trie_of_words};
 use crate::ucptrie_words::fault::{RowsFault, UnitsFault, WordsFault};
 use crate::ucptrie_words::written::{Form, written};
 use bekstaudi::char16trie::Char16Trie;
-use clap::ArgMatches;
 
 /// Returns the form that the arguments name.
-fn form(matches: &ArgMatches) -> Form<'_> {
+fn form<'a>(matches: &ArgMatches<'a>) -> Form<'a> {
     let name = name_in(matches);
-    match matches.get_one::<String>("as").map(String::as_str) {
+    match matches.get_str("as") {
         Some("icu") => Form::Icu,
         Some("c") => Form::C(name),
         Some("rust") => Form::Rust(name),
@@ -39,8 +37,8 @@ fn unbuilt(name: &str, list: &[u8], fault: WordsFault) -> Fault {
 }
 
 /// Returns the trie of a file: of its words, or of its units if the arguments say that it has them.
-fn trie<'f>(matches: &ArgMatches, name: &str, file: &'f [u8]) -> Result<Char16Trie<'f>, Fault> {
-    if matches.get_one::<String>("format").map(String::as_str) == Some("icu") {
+fn trie<'f>(matches: &ArgMatches<'_>, name: &str, file: &'f [u8]) -> Result<Char16Trie<'f>, Fault> {
+    if matches.get_str("format") == Some("icu") {
         return match trie_of_units(file) {
             Ok(trie) => Ok(trie),
             Err(UnitsFault::Memory) => Err(Fault::Memory),
@@ -78,7 +76,7 @@ fn converted(name: &str, trie: &Char16Trie<'_>, form: Form<'_>) -> Result<Vec<u8
 
 /// Returns the trie of a file in the form that the arguments name. `name` is what the file was read
 /// from.
-pub fn word_list(matches: &ArgMatches, name: &str, file: &[u8]) -> Result<Vec<u8>, Fault> {
+pub fn word_list(matches: &ArgMatches<'_>, name: &str, file: &[u8]) -> Result<Vec<u8>, Fault> {
     let trie = trie(matches, name, file)?;
     converted(name, &trie, form(matches))
 }

@@ -1,11 +1,9 @@
 //! The arguments of the program.
-use crate::formats::ValueParser;
-#[allow(unused_imports)]
-use crate::host::{HostRuntime, Text};
+use crate::clap::builder::ValueParser;
+use crate::clap::{Arg, ArgAction, Command};
+use crate::host::*;
 use crate::support::AllocError;
-#[allow(unused_imports)]
 use crate::support::prelude::*;
-use clap::{Arg, ArgAction, Command};
 
 /// The program's version, which is that of the file VERSION.
 const VERSION: &str = "0.2.0";
@@ -410,22 +408,22 @@ pub fn arguments_of(name: &str) -> &'static [Argument] {
 }
 
 /// Sets what help calls the argument's value.
-fn with_value_name(argument: Arg, row: &Argument) -> Arg {
+fn with_value_name<'a>(argument: Arg<'a>, row: &Argument) -> Arg<'a> {
     argument.value_names(row.value_name)
 }
 
 /// Sets which values the argument accepts.
-fn with_value_parser(argument: Arg, row: &Argument) -> Arg {
+fn with_value_parser<'a>(argument: Arg<'a>, row: &Argument) -> Arg<'a> {
     argument.value_parser(row.values)
 }
 
 /// Sets the value that the argument has if it is left out.
-fn with_default(argument: Arg, row: &Argument) -> Arg {
+fn with_default<'a>(argument: Arg<'a>, row: &Argument) -> Arg<'a> {
     argument.default_values(row.default)
 }
 
 /// Sets how the argument is given.
-fn placed(argument: Arg, row: &Argument) -> Arg {
+fn placed<'a>(argument: Arg<'a>, row: &Argument) -> Arg<'a> {
     match row.place {
         Place::Option => argument.long(row.id),
         Place::Options => argument.long(row.id).action(ArgAction::Append),
@@ -436,7 +434,7 @@ fn placed(argument: Arg, row: &Argument) -> Arg {
 }
 
 /// Returns the argument in clap's form.
-fn arg_of(row: &Argument) -> Arg {
+fn arg_of<'a>(row: &Argument) -> Arg<'a> {
     let argument = Arg::new(row.id).required(row.required).help(row.help);
     let named = with_value_name(argument, row);
     let tested = with_value_parser(named, row);
@@ -444,16 +442,16 @@ fn arg_of(row: &Argument) -> Arg {
 }
 
 /// Returns a command with the arguments of its row.
-fn command_of(row: &Row) -> Result<Command, AllocError> {
+fn command_of<'a>(row: &Row) -> Result<Command<'a>, AllocError> {
     let mut command = Command::new(row.name).about(row.about);
     for argument in row.arguments {
-        command = command.arg(arg_of(argument));
+        command = command.arg(arg_of(argument))?;
     }
     Ok(command)
 }
 
 /// Returns the commands in clap's form.
-fn commands() -> Result<Vec<Command>, AllocError> {
+fn commands<'a>() -> Result<Vec<Command<'a>>, AllocError> {
     let mut commands = Vec::new();
     for row in &COMMANDS {
         let command = command_of(row)?;
@@ -463,11 +461,11 @@ fn commands() -> Result<Vec<Command>, AllocError> {
 }
 
 /// Returns the program's command line in clap's form.
-pub fn program_words() -> Result<Command, AllocError> {
+pub fn program_words<'a>() -> Result<Command<'a>, AllocError> {
     let commands = commands()?;
-    Ok(Command::new("ucptrie")
+    Command::new("ucptrie")
         .about("Makes code point tries from rows, and reads them")
         .version(VERSION)
         .subcommand_required(true)
-        .subcommands(commands))
+        .subcommands(commands)
 }

@@ -1,9 +1,7 @@
 //! A set as source in C.
 
-#[allow(unused_imports)]
-use crate::host::{HostRuntime, Text};
+use crate::host::*;
 use crate::support::AllocError;
-#[allow(unused_imports)]
 use crate::support::prelude::*;
 use crate::ucptrie_sets::source::{
     INDEX_WORDS, frozen_of, push_boundaries, push_packed_indices, push_words, title_of,

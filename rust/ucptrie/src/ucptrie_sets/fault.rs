@@ -1,8 +1,8 @@
 //! Why there is no set, or why a set is not written.
 
-#[allow(unused_imports)]
-use crate::host::{HostRuntime, Text};
+use crate::host::*;
 use crate::support::AllocError;
+use crate::support::prelude::*;
 use bekstaudi::codepointinvlist::serialized::SerializeError;
 use bekstaudi::zerovec::MemoryError;
 

@@ -9,8 +9,8 @@
 //! - `source`: what the sources have in common; `c_source` and `rust_source` write these
 //! - `fault`: why there is no set, or why it is not written
 
-#[allow(unused_imports)]
-use crate::host::{HostRuntime, Text};
+use crate::host::*;
+use crate::support::prelude::*;
 mod c_source;
 pub mod fault;
 pub mod of_value;

@@ -1,7 +1,7 @@
 //! The set of the code points that have a value in a trie.
 
-#[allow(unused_imports)]
-use crate::host::{HostRuntime, Text};
+use crate::host::*;
+use crate::support::prelude::*;
 use crate::ucptrie_sets::fault::ValueSetFault;
 use bekstaudi::codepointinvlist::CodePointInversionList;
 use bekstaudi::codepointtrie::CodePointTrie;

@@ -1,9 +1,7 @@
 //! A set as rows, as `ucptab` and `ucptrie build` read them.
 
-#[allow(unused_imports)]
-use crate::host::{HostRuntime, Text};
+use crate::host::*;
 use crate::support::AllocError;
-#[allow(unused_imports)]
 use crate::support::prelude::*;
 use crate::ucptab_table::text::push_dotted;
 use bekstaudi::codepointinvlist::CodePointInversionList;

@@ -1,9 +1,7 @@
 //! A set as source in Rust.
 
-#[allow(unused_imports)]
-use crate::host::{HostRuntime, Text};
+use crate::host::*;
 use crate::support::AllocError;
-#[allow(unused_imports)]
 use crate::support::prelude::*;
 use crate::ucptrie_sets::source::{frozen_of, push_boundaries, push_indices, push_words, title_of};
 use crate::ucptrie_source::pattern::Number::Decimal;

@@ -1,9 +1,7 @@
 //! A set in ICU's serialized form, as bytes: units of 16 bits, low byte first.
 
-#[allow(unused_imports)]
-use crate::host::{HostRuntime, Text};
+use crate::host::*;
 use crate::support::AllocError;
-#[allow(unused_imports)]
 use crate::support::prelude::*;
 use crate::ucptrie_sets::fault::SetWriteFault;
 use bekstaudi::codepointinvlist::CodePointInversionList;

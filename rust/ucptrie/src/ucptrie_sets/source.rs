@@ -1,9 +1,7 @@
 //! What the sources in C and in Rust have in common.
 
-#[allow(unused_imports)]
-use crate::host::{HostRuntime, Text};
+use crate::host::*;
 use crate::support::AllocError;
-#[allow(unused_imports)]
 use crate::support::prelude::*;
 use crate::ucptrie_source::pattern::Number::Decimal;
 use crate::ucptrie_source::pattern::push_pattern;
@@ -43,11 +41,7 @@ fn push_gap(text: &mut String, i: usize) -> Result<(), AllocError> {
     if i == 0 {
         return Ok(());
     }
-    text.try_push_str(if i.is_multiple_of(CELLS_IN_LINE) {
-        ",\n"
-    } else {
-        ", "
-    })
+    text.try_push_str(if i % CELLS_IN_LINE == 0 { ",\n" } else { ", " })
 }
 
 /// Appends a number in hexadecimal digits in lower case, behind `0x`.

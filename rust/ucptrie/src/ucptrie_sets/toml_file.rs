@@ -2,13 +2,13 @@
 //! `[[binary_property]]` with `long_name`, `short_name` and `ranges = [[0x41, 0x5a], ..]`, whose
 //! bounds are inclusive.
 
-#[allow(unused_imports)]
-use crate::host::{HostRuntime, Text};
+use crate::host::*;
 use crate::support::AllocError;
+use crate::support::prelude::*;
+use crate::toml::{Table, Value};
 use crate::ucptrie_sets::fault::SetFileFault;
 use bekstaudi::codepointinvlist::{CodePointInversionList, CodePointInversionListBuilder};
 use bekstaudi::zerovec::{CODE_POINT_LIMIT, MemoryError};
-use toml::value::{Table, Value};
 
 /// Returns the code point that a number is.
 fn code_point_of(value: &Value) -> Option<u32> {
@@ -172,8 +172,9 @@ pub fn set_of_file(
     text: &str,
     name: Option<&str>,
 ) -> Result<CodePointInversionList<'static>, SetFileFault> {
-    match crate::formats::table_from_str(text) {
+    match crate::toml::table_from_str(text) {
         Ok(file) => set_of_table(&file, name),
+        Err(error) if error.is_memory() => Err(SetFileFault::Memory),
         Err(_) => Err(SetFileFault::NotToml),
     }
 }
@@ -207,8 +208,9 @@ fn strings_of_table(file: &Table, name: Option<&str>) -> usize {
 /// # Errors
 /// Returns [`AllocError`] if an allocation fails.
 pub fn count_strings(text: &str, name: Option<&str>) -> Result<usize, AllocError> {
-    match crate::formats::table_from_str(text) {
+    match crate::toml::table_from_str(text) {
         Ok(file) => Ok(strings_of_table(&file, name)),
+        Err(error) if error.is_memory() => Err(AllocError),
         Err(_) => Ok(0),
     }
 }

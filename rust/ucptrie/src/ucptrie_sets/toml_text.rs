@@ -1,9 +1,7 @@
 //! A set in TOML, as ICU's icuexportdata writes it.
 
-#[allow(unused_imports)]
-use crate::host::{HostRuntime, Text};
+use crate::host::*;
 use crate::support::AllocError;
-#[allow(unused_imports)]
 use crate::support::prelude::*;
 use crate::ucptrie_source::pattern::Number::Hexadecimal;
 use crate::ucptrie_source::pattern::{push_named, push_pattern};

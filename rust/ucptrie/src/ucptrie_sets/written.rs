@@ -1,8 +1,6 @@
 //! A set as the bytes of a file.
 
-#[allow(unused_imports)]
-use crate::host::{HostRuntime, Text};
-#[allow(unused_imports)]
+use crate::host::*;
 use crate::support::prelude::*;
 use crate::ucptrie_sets::c_source::{c_text, frozen_c_text};
 use crate::ucptrie_sets::fault::SetWriteFault;
@@ -38,7 +36,7 @@ pub enum SetForm<'a> {
 /// Returns the set in JSON, in one line.
 fn json_text(set: &CodePointInversionList<'_>) -> Result<String, MemoryError> {
     let mut text = set.to_json()?.to_string();
-    text.push('\n');
+    text.try_push('\n')?;
     Ok(text)
 }
 

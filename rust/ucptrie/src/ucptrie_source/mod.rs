@@ -2,6 +2,6 @@
 //!
 //! - `pattern`: texts with a name and numbers in them
 
-#[allow(unused_imports)]
-use crate::host::{HostRuntime, Text};
+use crate::host::*;
+use crate::support::prelude::*;
 pub mod pattern;

@@ -1,9 +1,7 @@
 //! Texts with a name and numbers in them.
 
-#[allow(unused_imports)]
-use crate::host::{HostRuntime, Text};
+use crate::host::*;
 use crate::support::AllocError;
-#[allow(unused_imports)]
 use crate::support::prelude::*;
 
 /// How many cells a line has.
@@ -87,7 +85,7 @@ fn push_gap(text: &mut String, i: usize, indent: &str) -> Result<(), AllocError>
     if i == 0 {
         return Ok(());
     }
-    if !i.is_multiple_of(CELLS_IN_LINE) {
+    if i % CELLS_IN_LINE != 0 {
         return text.try_push(',');
     }
     text.try_push_str(",\n")?;

@@ -1,9 +1,7 @@
 //! The numbers that words and texts ask for.
 
-#[allow(unused_imports)]
-use crate::host::{HostRuntime, Text};
+use crate::host::*;
 use crate::support::AllocError;
-#[allow(unused_imports)]
 use crate::support::prelude::*;
 use crate::ucptab_table::input::first_line;
 use crate::ucptab_table::rows::{CodePoints, code_points_of, content_of};

@@ -1,9 +1,7 @@
 //! The cells of a trie as numbers in a text.
 
-#[allow(unused_imports)]
-use crate::host::{HostRuntime, Text};
+use crate::host::*;
 use crate::support::AllocError;
-#[allow(unused_imports)]
 use crate::support::prelude::*;
 use crate::ucptrie_source::pattern::push_cell;
 use crate::ucptrie_tables::table::Table;

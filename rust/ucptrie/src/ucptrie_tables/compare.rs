@@ -1,7 +1,7 @@
 //! Where the bytes of a file differ from those that it should have.
 
-#[allow(unused_imports)]
-use crate::host::{HostRuntime, Text};
+use crate::host::*;
+use crate::support::prelude::*;
 /// The first difference of two byte strings.
 #[derive(Clone, Copy, Debug, PartialEq, Eq)]
 pub struct Difference {

@@ -1,9 +1,7 @@
 //! The ranges in which two tables differ.
 
-#[allow(unused_imports)]
-use crate::host::{HostRuntime, Text};
+use crate::host::*;
 use crate::support::AllocError;
-#[allow(unused_imports)]
 use crate::support::prelude::*;
 use crate::ucptab_table::text::push_dotted;
 use crate::ucptrie_tables::sizes::stored_values;

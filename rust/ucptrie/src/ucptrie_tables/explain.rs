@@ -1,9 +1,7 @@
 //! How a look-up goes, cell by cell.
 
-#[allow(unused_imports)]
-use crate::host::{HostRuntime, Text};
+use crate::host::*;
 use crate::support::AllocError;
-#[allow(unused_imports)]
 use crate::support::prelude::*;
 use crate::ucptrie_source::pattern::Number::Decimal;
 use crate::ucptrie_source::pattern::push_pattern;

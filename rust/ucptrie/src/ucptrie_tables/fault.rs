@@ -1,8 +1,8 @@
 //! Why a table can't be made of rows, written or read.
 
-#[allow(unused_imports)]
-use crate::host::{HostRuntime, Text};
+use crate::host::*;
 use crate::support::AllocError;
+use crate::support::prelude::*;
 use crate::ucd_files::fault::FileFault;
 use crate::ucptab_table::fault::TableError;
 use crate::ucptrie_tables::compare::line_feeds;
@@ -87,10 +87,10 @@ impl From<AllocError> for UnicodeFileFault {
 }
 
 /// Why a text is not TOML, and in which line, counted from 1.
-#[derive(Clone, Debug, PartialEq, Eq)]
+#[derive(Clone, Copy, Debug, PartialEq, Eq)]
 pub struct TomlFault {
     line: usize,
-    error: crate::formats::TomlError,
+    error: crate::toml::de::Error,
 }
 
 /// Returns the line of a text that has the byte at an index, counted from 1.
@@ -100,11 +100,13 @@ fn line_at(text: &str, index: usize) -> usize {
 
 impl TomlFault {
     /// Returns the fault of a text, with its line.
-    pub(crate) fn new(error: crate::formats::TomlError) -> TomlFault {
-        TomlFault {
-            line: error.line,
-            error,
-        }
+    pub(crate) fn new(text: &str, error: crate::toml::de::Error) -> TomlFault {
+        let start = match error.span() {
+            Some(span) => span.start,
+            None => 0,
+        };
+        let line = line_at(text, start);
+        TomlFault { line, error }
     }
 
     /// Returns the line, counted from 1.
@@ -114,7 +116,7 @@ impl TomlFault {
 
     /// Returns what is wrong with it.
     pub fn message(&self) -> &str {
-        &self.error.message
+        self.error.message()
     }
 }
 
@@ -136,7 +138,7 @@ pub enum ReadFault {
     /// It has no signature, and is not a text in UTF-8.
     Text,
     /// It starts with `{`, and is not JSON.
-    Json(serde_json::Error),
+    Json(crate::serde_json::Error),
     /// Its JSON is not a trie.
     TrieJson(TrieJsonError),
     /// It is not TOML, nor in any of the other forms.
@@ -162,8 +164,11 @@ impl From<SwappedError> for ReadFault {
     }
 }
 
-impl From<serde_json::Error> for ReadFault {
-    fn from(error: serde_json::Error) -> ReadFault {
+impl From<crate::serde_json::Error> for ReadFault {
+    fn from(error: crate::serde_json::Error) -> ReadFault {
+        if error.is_memory() {
+            return ReadFault::Memory;
+        }
         ReadFault::Json(error)
     }
 }

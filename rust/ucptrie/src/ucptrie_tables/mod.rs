@@ -25,9 +25,7 @@
 //! - `names_list`: names of values as lines `NUMBER;NAME`
 //! - `fault`: why a table can't be made, written or read
 
-#[allow(unused_imports)]
-use crate::host::{HostRuntime, Text};
-#[allow(unused_imports)]
+use crate::host::*;
 use crate::support::prelude::*;
 pub mod asked;
 mod c_source;

@@ -1,10 +1,8 @@
 //! The names of values as lines `NUMBER;NAME`, for users of a table in a form without names.
 
-#[allow(unused_imports)]
-use crate::host::{HostRuntime, Text};
+use crate::host::*;
 use crate::support::AllocError;
 use crate::support::BTreeMap;
-#[allow(unused_imports)]
 use crate::support::prelude::*;
 use crate::ucd_files::names::Name;
 use crate::ucptrie_source::pattern::Number::Decimal;

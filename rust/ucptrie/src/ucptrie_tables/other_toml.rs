@@ -1,7 +1,7 @@
 //! What a TOML file of ICU's icuexportdata has if it has neither a trie of code points nor a set.
 
-#[allow(unused_imports)]
-use crate::host::{HostRuntime, Text};
+use crate::host::*;
+use crate::support::prelude::*;
 use crate::ucptrie_tables::read::value_at;
 use crate::ucptrie_tables::toml_names::items_at;
 
@@ -19,12 +19,12 @@ pub enum OtherToml {
 }
 
 /// Returns whether a table has a key.
-fn has_key(table: &toml::value::Table, key: &str) -> bool {
+fn has_key(table: &crate::toml::Table, key: &str) -> bool {
     value_at(table, key).is_some()
 }
 
 /// Returns whether the first item of the array `index` has the name of a file.
-fn has_files(file: &toml::value::Table) -> bool {
+fn has_files(file: &crate::toml::Table) -> bool {
     let Some([first, ..]) = items_at(file, "index") else {
         return false;
     };
@@ -35,7 +35,7 @@ fn has_files(file: &toml::value::Table) -> bool {
 }
 
 /// Returns what a file has, by its keys, or `None` if it has none of these.
-pub fn other_toml(file: &toml::value::Table) -> Option<OtherToml> {
+pub fn other_toml(file: &crate::toml::Table) -> Option<OtherToml> {
     if has_key(file, "compositions") {
         Some(OtherToml::Compositions)
     } else if has_key(file, "scalars16") || has_key(file, "scalars32") {

@@ -1,14 +1,14 @@
 //! A file with its TOML, which is parsed once for all that is read from it.
 
-#[allow(unused_imports)]
-use crate::host::{HostRuntime, Text};
+use crate::host::*;
+use crate::support::prelude::*;
 use crate::ucptrie_tables::fault::ReadFault;
 use crate::ucptrie_tables::read::{file_of_toml, toml_text};
 
 /// A file, and its TOML if it is taken for TOML.
 pub struct ParsedFile<'f> {
     bytes: &'f [u8],
-    toml: Option<toml::value::Table>,
+    toml: Option<crate::toml::Table>,
 }
 
 impl<'f> ParsedFile<'f> {
@@ -31,7 +31,7 @@ impl<'f> ParsedFile<'f> {
     }
 
     /// Returns the TOML of the file, or `None` if it is not taken for TOML.
-    pub fn toml(&self) -> Option<&toml::value::Table> {
+    pub fn toml(&self) -> Option<&crate::toml::Table> {
         self.toml.as_ref()
     }
 }

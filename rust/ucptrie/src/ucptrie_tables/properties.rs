@@ -1,9 +1,7 @@
 //! The properties of a TOML file that have a trie, and the table of one of them.
 
-#[allow(unused_imports)]
-use crate::host::{HostRuntime, Text};
+use crate::host::*;
 use crate::support::AllocError;
-#[allow(unused_imports)]
 use crate::support::prelude::*;
 use crate::ucd_files::value_names::ValueNames;
 use crate::ucptrie_tables::fault::ReadFault;
@@ -18,9 +16,9 @@ struct Property<'a> {
     /// The key of the file at which it is.
     key: &'a str,
     /// Its own table.
-    table: &'a toml::value::Table,
+    table: &'a crate::toml::Table,
     /// The table of its trie.
-    trie: &'a toml::value::Table,
+    trie: &'a crate::toml::Table,
 }
 
 /// Why a file has no table of a property.
@@ -49,12 +47,12 @@ impl From<AllocError> for PropertyFault {
 }
 
 /// Returns the text at a key of a property, as icuexportdata writes its names.
-fn text_at<'a>(table: &'a toml::value::Table, key: &str) -> Option<&'a str> {
+fn text_at<'a>(table: &'a crate::toml::Table, key: &str) -> Option<&'a str> {
     value_at(table, key)?.as_str()
 }
 
 /// Returns whether the text at a key of a property is this one.
-fn has_text(table: &toml::value::Table, key: &str, text: &str) -> bool {
+fn has_text(table: &crate::toml::Table, key: &str, text: &str) -> bool {
     match text_at(table, key) {
         Some(found) => found == text,
         None => false,
@@ -82,7 +80,7 @@ fn is_asked(property: &Property<'_>, name: Option<&str>) -> bool {
 }
 
 /// Returns the property that a value at a key is, if the value is a table with a trie.
-fn property_of<'a>(key: &'a str, value: &'a toml::Value) -> Option<Property<'a>> {
+fn property_of<'a>(key: &'a str, value: &'a crate::toml::Value) -> Option<Property<'a>> {
     let table = value.as_table()?;
     let trie = trie_of_table(table)?;
     Some(Property { key, table, trie })
@@ -92,13 +90,13 @@ fn property_of<'a>(key: &'a str, value: &'a toml::Value) -> Option<Property<'a>>
 fn push_property<'a>(
     found: &mut Vec<Property<'a>>,
     key: &'a str,
-    value: &'a toml::Value,
+    value: &'a crate::toml::Value,
     name: Option<&str>,
 ) -> Result<(), AllocError> {
-    if let Some(property) = property_of(key, value)
-        && is_asked(&property, name)
-    {
-        found.try_push(property)?;
+    if let Some(property) = property_of(key, value) {
+        if is_asked(&property, name) {
+            found.try_push(property)?;
+        }
     }
     Ok(())
 }
@@ -107,7 +105,7 @@ fn push_property<'a>(
 fn push_items<'a>(
     found: &mut Vec<Property<'a>>,
     key: &'a str,
-    values: &'a [toml::Value],
+    values: &'a [crate::toml::Value],
     name: Option<&str>,
 ) -> Result<(), AllocError> {
     let mut rest = values;
@@ -123,7 +121,7 @@ fn push_items<'a>(
 fn push_properties<'a>(
     found: &mut Vec<Property<'a>>,
     key: &'a str,
-    value: &'a toml::Value,
+    value: &'a crate::toml::Value,
     name: Option<&str>,
 ) -> Result<(), AllocError> {
     match items_in(value) {
@@ -134,7 +132,7 @@ fn push_properties<'a>(
 
 /// Returns the properties with a trie that are asked for, in order of their keys.
 fn properties_of<'a>(
-    file: &'a toml::value::Table,
+    file: &'a crate::toml::Table,
     name: Option<&str>,
 ) -> Result<Vec<Property<'a>>, AllocError> {
     let mut found = Vec::new();
@@ -163,9 +161,9 @@ fn listed(properties: &[Property<'_>]) -> Result<String, AllocError> {
 /// Returns the table of the trie that is asked for: that of the only property with a trie and the
 /// name, or the whole file if no property has a trie and no name is asked.
 fn asked_trie<'a>(
-    file: &'a toml::value::Table,
+    file: &'a crate::toml::Table,
     name: Option<&str>,
-) -> Result<&'a toml::value::Table, PropertyFault> {
+) -> Result<&'a crate::toml::Table, PropertyFault> {
     let found = properties_of(file, name)?;
     match (found.as_slice(), name) {
         ([property], _) => Ok(property.trie),

@@ -1,7 +1,8 @@
 //! The table that a file has.
 
-#[allow(unused_imports)]
-use crate::host::{HostRuntime, Text};
+use crate::host::*;
+use crate::serde_json::Value;
+use crate::support::prelude::*;
 use crate::ucptrie_tables::fault::{ReadFault, TomlFault};
 use crate::ucptrie_tables::table::Table;
 use crate::ucptrie_tables::values::with_values_of;
@@ -14,7 +15,6 @@ use bekstaudi::codepointtrie::binary::{
 };
 use bekstaudi::codepointtrie::json::from_json;
 use bekstaudi::codepointtrie::trie_toml::{CodePointDataSlice, CodePointTrieToml};
-use serde_json::Value;
 
 /// Returns the table of a trie over values of a narrower type.
 fn widened<T: TrieValue>(
@@ -61,7 +61,7 @@ fn table_of_swapped(file: &[u8]) -> Result<Table, ReadFault> {
 
 /// Reads a table in JSON, which has no width: its numbers have 32 bits.
 fn table_of_json(text: &str) -> Result<Table, ReadFault> {
-    let value = serde_json::from_str::<Value>(text)?;
+    let value = crate::serde_json::from_str::<Value>(text)?;
     Ok(Table {
         trie: from_json(&value)?,
         width: ValueWidth::Bits32,
@@ -69,12 +69,15 @@ fn table_of_json(text: &str) -> Result<Table, ReadFault> {
 }
 
 /// Returns the value at a key.
-pub(crate) fn value_at<'a>(table: &'a toml::value::Table, key: &str) -> Option<&'a toml::Value> {
+pub(crate) fn value_at<'a>(
+    table: &'a crate::toml::Table,
+    key: &str,
+) -> Option<&'a crate::toml::Value> {
     table.get(key)
 }
 
 /// Returns the first of the properties at a key. icuexportdata writes an array of them.
-fn first_property(property: &toml::Value) -> Option<&toml::Value> {
+fn first_property(property: &crate::toml::Value) -> Option<&crate::toml::Value> {
     match property.as_array() {
         Some(properties) => properties.first(),
         None => Some(property),
@@ -83,7 +86,7 @@ fn first_property(property: &toml::Value) -> Option<&toml::Value> {
 
 /// Returns the trie of a property's table. For normalization, icuexportdata writes a trie in its
 /// place.
-pub(crate) fn trie_of_table(property: &toml::value::Table) -> Option<&toml::value::Table> {
+pub(crate) fn trie_of_table(property: &crate::toml::Table) -> Option<&crate::toml::Table> {
     match value_at(property, "code_point_trie") {
         Some(trie) => trie.as_table(),
         None => value_at(property, "index").map(|_index| property),
@@ -91,14 +94,14 @@ pub(crate) fn trie_of_table(property: &toml::value::Table) -> Option<&toml::valu
 }
 
 /// Returns the trie of the properties at a key.
-fn trie_of_property(property: &toml::Value) -> Option<&toml::value::Table> {
+fn trie_of_property(property: &crate::toml::Value) -> Option<&crate::toml::Table> {
     let first = first_property(property)?;
     let table = first.as_table()?;
     trie_of_table(table)
 }
 
 /// Returns the trie of the first property that has one, or the whole file if none has.
-fn trie_table(file: &toml::value::Table) -> &toml::value::Table {
+fn trie_table(file: &crate::toml::Table) -> &crate::toml::Table {
     for property in file.values() {
         if let Some(table) = trie_of_property(property) {
             return table;
@@ -117,15 +120,16 @@ fn width_of(read: &CodePointTrieToml) -> ValueWidth {
 }
 
 /// Reads a TOML file.
-pub(crate) fn file_of_toml(text: &str) -> Result<toml::value::Table, ReadFault> {
-    match crate::formats::table_from_str(text) {
+pub(crate) fn file_of_toml(text: &str) -> Result<crate::toml::Table, ReadFault> {
+    match crate::toml::table_from_str(text) {
         Ok(file) => Ok(file),
-        Err(error) => Err(ReadFault::Toml(TomlFault::new(error))),
+        Err(error) if error.is_memory() => Err(ReadFault::Memory),
+        Err(error) => Err(ReadFault::Toml(TomlFault::new(text, error))),
     }
 }
 
 /// Returns the table of a trie in TOML.
-pub(crate) fn table_of_members(table: &toml::value::Table) -> Result<Table, ReadFault> {
+pub(crate) fn table_of_members(table: &crate::toml::Table) -> Result<Table, ReadFault> {
     let read = CodePointTrieToml::from_table(table)?;
     let trie = CodePointTrie::try_from(&read)?;
     let width = width_of(&read);

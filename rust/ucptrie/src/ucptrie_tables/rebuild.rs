@@ -1,7 +1,7 @@
 //! The same values in a trie of another type, with another width or another error value.
 
-#[allow(unused_imports)]
-use crate::host::{HostRuntime, Text};
+use crate::host::*;
+use crate::support::prelude::*;
 use crate::ucptrie_tables::fault::BuildFault;
 use crate::ucptrie_tables::table::{Table, first_wider};
 use crate::ucptrie_tables::width::ValueWidth;

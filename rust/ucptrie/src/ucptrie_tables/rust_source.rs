@@ -1,9 +1,7 @@
 //! A table as source in Rust.
 
-#[allow(unused_imports)]
-use crate::host::{HostRuntime, Text};
+use crate::host::*;
 use crate::support::AllocError;
-#[allow(unused_imports)]
 use crate::support::prelude::*;
 use crate::ucptrie_source::pattern::Number::{Decimal, Hexadecimal};
 use crate::ucptrie_source::pattern::push_pattern;

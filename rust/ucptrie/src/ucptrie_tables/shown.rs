@@ -1,9 +1,7 @@
 //! What a table is, as comments and rows.
 
-#[allow(unused_imports)]
-use crate::host::{HostRuntime, Text};
+use crate::host::*;
 use crate::support::AllocError;
-#[allow(unused_imports)]
 use crate::support::prelude::*;
 use crate::ucptab_table::text::{answers_text, ranges_text};
 use crate::ucptrie_source::pattern::Number::{Decimal, Hexadecimal};

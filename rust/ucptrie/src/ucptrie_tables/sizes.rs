@@ -1,10 +1,8 @@
 //! How many cells a built trie has at most.
 
 use crate::host::BTreeSet;
-#[allow(unused_imports)]
-use crate::host::{HostRuntime, Text};
+use crate::host::*;
 use crate::support::AllocError;
-#[allow(unused_imports)]
 use crate::support::prelude::*;
 use bekstaudi::codepointtrie::CodePointTrie;
 use bekstaudi::zerovec::CODE_POINT_LIMIT;

@@ -1,9 +1,7 @@
 //! What the sources in C and in Rust have in common.
 
-#[allow(unused_imports)]
-use crate::host::{HostRuntime, Text};
+use crate::host::*;
 use crate::support::AllocError;
-#[allow(unused_imports)]
 use crate::support::prelude::*;
 use crate::ucptrie_source::pattern::Number::{self, Decimal, Hexadecimal};
 use crate::ucptrie_source::pattern::push_pattern;

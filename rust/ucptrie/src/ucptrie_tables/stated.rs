@@ -1,9 +1,7 @@
 //! The null value and the error value of a table, stated in comments among its rows.
 
-#[allow(unused_imports)]
-use crate::host::{HostRuntime, Text};
+use crate::host::*;
 use crate::support::AllocError;
-#[allow(unused_imports)]
 use crate::support::prelude::*;
 use crate::ucd_files::names::short_decimal;
 use crate::ucptab_table::input::first_line;

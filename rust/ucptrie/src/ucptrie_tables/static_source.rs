@@ -1,9 +1,7 @@
 //! A table in Rust as a static trie of the crate `bekstaudi`, to follow the module of the table.
 
-#[allow(unused_imports)]
-use crate::host::{HostRuntime, Text};
+use crate::host::*;
 use crate::support::AllocError;
-#[allow(unused_imports)]
 use crate::support::prelude::*;
 use crate::ucd_files::names::Name;
 use crate::ucptrie_source::pattern::Number::Decimal;

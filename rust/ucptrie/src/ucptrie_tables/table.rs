@@ -1,7 +1,7 @@
 //! A trie with the width of its values, and the table of some rows.
 
-#[allow(unused_imports)]
-use crate::host::{HostRuntime, Text};
+use crate::host::*;
+use crate::support::prelude::*;
 use crate::ucptab_table::input::read_rows;
 use crate::ucptrie_tables::fault::BuildFault;
 use crate::ucptrie_tables::width::ValueWidth;

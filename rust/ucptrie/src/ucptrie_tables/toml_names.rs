@@ -2,16 +2,14 @@
 //! array `values` of tables with `discr`, `long`, `short` and `aliases`; or, before ICU 73, in the
 //! tables of the array `ranges`, whose value `v` has a `name`.
 
-#[allow(unused_imports)]
-use crate::host::{HostRuntime, Text};
+use crate::host::*;
 use crate::support::AllocError;
-#[allow(unused_imports)]
 use crate::support::prelude::*;
+use crate::toml::{Table, Value};
 use crate::ucd_files::names::Matching;
 use crate::ucd_files::value_names::ValueNames;
 use crate::ucptrie_tables::read::value_at;
 use core::fmt;
-use toml::value::{Table, Value};
 
 /// An array with names of values.
 #[derive(Clone, Copy, Debug, PartialEq, Eq)]

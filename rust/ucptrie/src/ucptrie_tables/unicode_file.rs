@@ -1,7 +1,7 @@
 //! The table of a file of the Unicode Character Database.
 
-#[allow(unused_imports)]
-use crate::host::{HostRuntime, Text};
+use crate::host::*;
+use crate::support::prelude::*;
 use crate::ucd_files::names::Numbering;
 use crate::ucd_files::read::read_writes;
 use crate::ucd_files::statement::Columns;

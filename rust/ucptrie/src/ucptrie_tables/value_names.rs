@@ -1,9 +1,7 @@
 //! Names of values in source: an enum in C or in Rust.
 
-#[allow(unused_imports)]
-use crate::host::{HostRuntime, Text};
+use crate::host::*;
 use crate::support::AllocError;
-#[allow(unused_imports)]
 use crate::support::prelude::*;
 use crate::ucd_files::kind::are_digits;
 use crate::ucd_files::names::Name;

@@ -1,7 +1,7 @@
 //! The same numbers as values of another type.
 
-#[allow(unused_imports)]
-use crate::host::{HostRuntime, Text};
+use crate::host::*;
+use crate::support::prelude::*;
 use bekstaudi::codepointtrie::CodePointTrie;
 use bekstaudi::codepointtrie::MapError;
 use bekstaudi::codepointtrie::TrieValue;

@@ -1,7 +1,7 @@
 //! How many bits a value has in a file.
 
-#[allow(unused_imports)]
-use crate::host::{HostRuntime, Text};
+use crate::host::*;
+use crate::support::prelude::*;
 use core::fmt;
 
 /// How many bits a value has in a file (UCPTrieValueWidth).

@@ -1,8 +1,6 @@
 //! A table as the bytes of a file.
 
-#[allow(unused_imports)]
-use crate::host::{HostRuntime, Text};
-#[allow(unused_imports)]
+use crate::host::*;
 use crate::support::prelude::*;
 use crate::ucptab_table::fault::TableError;
 use crate::ucptrie_tables::c_source::c_text;
@@ -60,7 +58,7 @@ fn binary(table: &Table) -> Result<Vec<u8>, BuildFault> {
 /// Returns the table in JSON, in one line.
 fn json_text(table: &Table) -> Result<String, MemoryError> {
     let mut text = to_json(&table.trie)?.to_string();
-    text.push('\n');
+    text.try_push('\n')?;
     Ok(text)
 }
 

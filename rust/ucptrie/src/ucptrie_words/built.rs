@@ -1,7 +1,7 @@
 //! The trie of a word list, and the trie that a file of units has.
 
-#[allow(unused_imports)]
-use crate::host::{HostRuntime, Text};
+use crate::host::*;
+use crate::support::prelude::*;
 use crate::ucptrie_words::fault::{UnitsFault, WordsFault};
 use crate::ucptrie_words::read::read_words;
 use bekstaudi::char16trie::BuildError;

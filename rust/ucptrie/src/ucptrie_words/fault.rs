@@ -1,9 +1,7 @@
 //! What is wrong with a line, and why there is no trie or no text.
 
-#[allow(unused_imports)]
-use crate::host::{HostRuntime, Text};
+use crate::host::*;
 use crate::support::AllocError;
-#[allow(unused_imports)]
 use crate::support::prelude::*;
 use bekstaudi::zerovec::MemoryError;
 use core::error::Error;

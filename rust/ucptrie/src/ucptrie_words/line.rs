@@ -1,7 +1,7 @@
 //! What one line says.
 
-#[allow(unused_imports)]
-use crate::host::{HostRuntime, Text};
+use crate::host::*;
+use crate::support::prelude::*;
 use crate::ucptab_table::digits::decimal_number;
 use crate::ucptab_table::rows::trimmed;
 use crate::ucptrie_words::fault::LineFault;
@@ -17,7 +17,10 @@ pub struct Word<'a> {
 
 /// Returns the bytes as text if they are UTF-8.
 fn text_of(bytes: &[u8]) -> Option<&str> {
-    str::from_utf8(bytes).ok()
+    match str::from_utf8(bytes) {
+        Ok(text) => Some(text),
+        Err(_) => None,
+    }
 }
 
 /// Returns the number, or its negative, if it has 32 bits with the sign.

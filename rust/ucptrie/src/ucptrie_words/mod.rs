@@ -9,8 +9,8 @@
 //! - `source`: the units as source in C and in Rust
 //! - `fault`: what is wrong with a line, and why there is no trie or no text
 
-#[allow(unused_imports)]
-use crate::host::{HostRuntime, Text};
+use crate::host::*;
+use crate::support::prelude::*;
 pub mod built;
 pub mod fault;
 pub mod line;

@@ -1,7 +1,7 @@
 //! What all lines say.
 
-#[allow(unused_imports)]
-use crate::host::{HostRuntime, Text};
+use crate::host::*;
+use crate::support::prelude::*;
 use crate::ucptab_table::input::first_line;
 use crate::ucptrie_words::fault::{LineFault, WordsFault};
 use crate::ucptrie_words::line::{Word, word_of};

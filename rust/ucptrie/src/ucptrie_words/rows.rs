@@ -1,9 +1,7 @@
 //! The entries of a trie, in lines.
 
-#[allow(unused_imports)]
-use crate::host::{HostRuntime, Text};
+use crate::host::*;
 use crate::support::AllocError;
-#[allow(unused_imports)]
 use crate::support::prelude::*;
 use crate::ucptab_table::rows::trimmed;
 use crate::ucptrie_words::fault::RowsFault;
@@ -17,7 +15,7 @@ fn has_replacement(text: &str) -> bool {
 
 /// Returns whether the bytes have a line feed.
 fn has_line_feed(bytes: &[u8]) -> bool {
-    bytes.contains(&b'\n')
+    bytes.iter().any(|byte| *byte == b'\n')
 }
 
 /// Returns whether a line can have the text as its key.

@@ -1,8 +1,6 @@
 //! The units of a trie as source in C and in Rust.
-#[allow(unused_imports)]
-use crate::host::{HostRuntime, Text};
+use crate::host::*;
 use crate::support::AllocError;
-#[allow(unused_imports)]
 use crate::support::prelude::*;
 use crate::ucptrie_source::pattern::Number::Decimal;
 use crate::ucptrie_source::pattern::{push_cell, push_pattern};

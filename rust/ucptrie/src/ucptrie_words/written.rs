@@ -1,9 +1,7 @@
 //! A trie as the bytes of a file.
 
-#[allow(unused_imports)]
-use crate::host::{HostRuntime, Text};
+use crate::host::*;
 use crate::support::AllocError;
-#[allow(unused_imports)]
 use crate::support::prelude::*;
 use crate::ucptrie_words::fault::RowsFault;
 use crate::ucptrie_words::rows::rows_text;

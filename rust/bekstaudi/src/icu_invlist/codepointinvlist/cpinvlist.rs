@@ -5,6 +5,7 @@ mod packing;
 mod places;
 mod stretches;
 mod subsets;
+mod words;
 
 use crate::icu_invlist::codepointinvlist::error::{InvalidSetError, SetError};
 use crate::icu_invlist::codepointinvlist::iter::{
@@ -12,10 +13,10 @@ use crate::icu_invlist::codepointinvlist::iter::{
 };
 use crate::icu_invlist::codepointinvlist::sizes::{size_of, valid_size};
 use crate::icu_invlist::codepointinvlist::utils::{RangeOf, is_valid_slice};
+use crate::icu_zerovec::ule::AsULE;
 use crate::icu_zerovec::{CODE_POINT_LIMIT, MemoryError, PotentialCodePoint, ZeroSlice, ZeroVec};
-use crate::support::boundaries::{sum_of_sizes, unpack};
 use core::ops::RangeInclusive;
-use packing::{cut_to_points, pack, unpacked};
+use packing::{cut_to_points, pack, sum_of_sizes, unpack, unpacked};
 use stretches::Stretch;
 
 /// An immutable set of code points, which may include surrogates. It borrows or owns the list of
@@ -86,7 +87,9 @@ impl<'data> CodePointInversionList<'data> {
         ends: &[u32],
     ) -> Result<CodePointInversionList<'static>, MemoryError> {
         let size = size_of(ends);
-        assert_eq!(ends.len() % 2, 0);
+        if !ends.len().is_multiple_of(2) {
+            unreachable!();
+        }
         let bytes = pack(ends)?;
         match ZeroVec::parse_owned(bytes) {
             Ok(ends) => Ok(CodePointInversionList { ends, size }),
@@ -213,7 +216,7 @@ impl<'data> CodePointInversionList<'data> {
     /// fails.
     #[inline]
     pub(crate) fn push_ends(&self, ends: &mut Vec<u32>, from: usize) -> Result<(), MemoryError> {
-        Ok(unpack(&self.ends.as_bytes()[3 * from..], ends)?)
+        unpack(&self.ends.as_bytes()[3 * from..], ends)
     }
 
     /// Returns true if the set contains the code point `c`. Returns false for any number above
@@ -244,8 +247,8 @@ impl<'data> CodePointInversionList<'data> {
     /// Returns true if `other` is a subset of this set. The empty set is a subset of every set.
     ///
     /// If `other` contains more code points than this set, this returns false at once.
-    #[must_use]
     #[inline]
+    #[must_use]
     pub fn contains_set(&self, other: &CodePointInversionList<'_>) -> bool {
         if other.size > self.size {
             return false;

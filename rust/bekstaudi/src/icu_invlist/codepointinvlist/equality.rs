@@ -2,6 +2,7 @@
 //! points.
 
 use crate::icu_invlist::codepointinvlist::cpinvlist::CodePointInversionList;
+use crate::support::prelude::*;
 use core::hash::{Hash, Hasher};
 
 /// Compares the packed boundaries, because each set has exactly one inversion list. Whether a set

@@ -3,6 +3,7 @@
 use crate::icu_zerovec::iter::Iter;
 use crate::icu_zerovec::ule::AsULE;
 use crate::icu_zerovec::{CODE_POINT_LIMIT, PotentialCodePoint, ZeroVec};
+use crate::support::prelude::*;
 use core::fmt;
 use core::ops::RangeInclusive;
 

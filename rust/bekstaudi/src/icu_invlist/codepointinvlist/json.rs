@@ -1,5 +1,6 @@
 //! Conversion of sets to and from JSON.
 
+#![cfg(feature = "json")]
 use crate::icu_invlist::codepointinvlist::cpinvlist::CodePointInversionList;
 use crate::icu_invlist::codepointinvlist::error::SetJsonError;
 use crate::icu_invlist::codepointinvlist::utils::is_valid_slice;

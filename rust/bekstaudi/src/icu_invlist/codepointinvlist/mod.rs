@@ -3,15 +3,15 @@
 //! An inversion list is the ascending list of a set's boundaries. `[0x41, 0x5B]` is the set of the
 //! letters A to Z: it starts at 0x41 and stops before 0x5B. Each set has exactly one such list.
 
+use crate::support::prelude::*;
 mod builder;
 mod conversions;
 mod cpinvlist;
 mod equality;
 mod error;
 mod iter;
-#[cfg(feature = "json")]
 mod json;
-mod sizes;
+pub mod sizes;
 pub mod utils;
 
 pub use builder::CodePointInversionListBuilder;

@@ -1,6 +1,7 @@
 //! How many code points a list of boundaries contains.
 
 use crate::icu_zerovec::{CODE_POINT_LIMIT, PotentialCodePoint, ZeroVec};
+use crate::support::prelude::*;
 
 /// Returns the number of code points in the set with these boundaries, or `None` if they are not an
 /// inversion list.

@@ -2,7 +2,8 @@
 
 use crate::icu_invlist::codepointinvlist::sizes::valid_size;
 use crate::icu_zerovec::{CODE_POINT_LIMIT, PotentialCodePoint, ZeroVec};
-use core::ops::RangeInclusive;
+use crate::support::prelude::*;
+use core::ops::{Range, RangeFrom, RangeFull, RangeInclusive, RangeTo, RangeToInclusive};
 
 /// A type that ranges can be made of: `char` or `u32`.
 pub trait RangePoint: Copy {
@@ -72,19 +73,26 @@ pub fn is_valid_zv(ends: &ZeroVec<'_, PotentialCodePoint>) -> bool {
     valid_size(ends).is_some()
 }
 
+/// Returns true if the numbers ascend strictly. The loop looks at all of them, so LLVM vectorises it.
+#[inline]
+fn ascend(ends: &[u32]) -> bool {
+    let mut falls = false;
+    for i in 1..ends.len() {
+        falls |= ends[i] <= ends[i - 1];
+    }
+    !falls
+}
+
 /// Returns true if `ends` is an inversion list. The same test as `is_valid_zv`, for numbers that
 /// are not packed yet.
+#[must_use]
 #[inline]
-pub(crate) fn is_valid_slice(ends: &[u32]) -> bool {
+pub fn is_valid_slice(ends: &[u32]) -> bool {
     if !ends.len().is_multiple_of(2) {
         return false;
     }
-    let mut next = 0;
-    for end in ends {
-        if *end < next || *end > CODE_POINT_LIMIT {
-            return false;
-        }
-        next = *end + 1;
+    match ends.last() {
+        Some(last) => *last <= CODE_POINT_LIMIT && ascend(ends),
+        None => true,
     }
-    true
 }

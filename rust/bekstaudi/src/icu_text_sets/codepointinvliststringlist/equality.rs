@@ -1,6 +1,7 @@
 //! Equality: two sets are equal if and only if they contain the same code points and strings.
 
 use crate::icu_text_sets::codepointinvliststringlist::set::CodePointInversionListAndStringList;
+use crate::support::prelude::*;
 
 /// Compares the boundaries and the strings, because each set has exactly one list of either.
 /// Whether a set borrows or owns its code points makes no difference.

@@ -1,11 +1,12 @@
 //! Conversion of sets of code points and strings to and from JSON.
 
+#![cfg(feature = "json")]
 use crate::icu_invlist::codepointinvlist::{CodePointInversionList, SetJsonError};
 use crate::icu_text_sets::codepointinvliststringlist::error::StringListJsonError;
 use crate::icu_text_sets::codepointinvliststringlist::set::CodePointInversionListAndStringList;
 use crate::icu_zerovec::MemoryError;
 use crate::support::prelude::*;
-use serde_json::Value;
+use serde_json::{Value, json};
 
 /// Returns the strings as JSON strings, in order.
 #[inline]

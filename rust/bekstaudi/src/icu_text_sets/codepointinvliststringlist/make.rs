@@ -81,11 +81,10 @@ impl<'data> CodePointInversionListAndStringList<'data> {
     /// - `StringListNotUnique` if the next string is equal,
     /// - `StringListNotSorted` with both strings if the next string is less, compared by bytes.
     #[inline]
-    pub fn try_from(
+    pub(crate) fn try_from_explained(
         cp_inv_list: CodePointInversionList<'data>,
-        str_list: impl Into<Vec<String>>,
+        str_list: Vec<String>,
     ) -> Result<Self, InvalidStringList> {
-        let str_list = str_list.into();
         match first_fault(&str_list) {
             None => Ok(CodePointInversionListAndStringList {
                 cp_inv_list,

@@ -1,9 +1,9 @@
 //! Sets of code points and strings. A string has any number of code points except one; the empty
 //! string is allowed.
 
+use crate::support::prelude::*;
 mod equality;
 mod error;
-#[cfg(feature = "json")]
 mod json;
 mod make;
 mod set;

@@ -1,5 +1,6 @@
 //! The cells of the planes trie as packed bytes, the lowest byte of a cell first.
 
+use crate::support::prelude::*;
 /// The index: 1,168 cells of 16 bits.
 pub(crate) const INDEX: [u8; 2336] = [
     0, 0, 64, 0, 0, 0, 0, 0, 0, 0, 0, 0, 0, 0, 0, 0, 0, 0, 0, 0, 0, 0, 0, 0, 0, 0, 0, 0, 0, 0, 0,

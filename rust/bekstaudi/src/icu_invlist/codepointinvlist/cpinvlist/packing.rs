@@ -1,7 +1,7 @@
-//! Packing and unpacking of boundaries.
+//! Packing and unpacking of boundaries: three bytes each, lowest byte first. Four of them are three
+//! words of 32 bits.
 
 use crate::icu_zerovec::{MemoryError, PotentialCodePoint, ZeroVec};
-use crate::support::boundaries::packed;
 use crate::support::prelude::*;
 
 /// Copies packed boundaries into a vector.
@@ -15,6 +15,94 @@ pub(super) fn unpacked(
     Ok(points)
 }
 
+/// Returns the number in the four bytes from index `at` on. It is a single read.
+#[inline(always)]
+fn word_at(bytes: &[u8; 12], at: usize) -> u32 {
+    match bytes[at..].first_chunk::<4>() {
+        Some(four) => u32::from_le_bytes(*four),
+        None => unreachable!(),
+    }
+}
+
+/// Returns the four boundaries in these bytes, each by one read.
+#[inline(always)]
+fn four_of(bytes: &[u8; 12]) -> [u32; 4] {
+    [
+        word_at(bytes, 0) % 0x100_0000,
+        word_at(bytes, 3) % 0x100_0000,
+        word_at(bytes, 6) % 0x100_0000,
+        word_at(bytes, 8) >> 8,
+    ]
+}
+
+/// Appends the boundaries in these bytes to `ends`, which is unchanged if an allocation fails.
+#[inline]
+pub(super) fn unpack(bytes: &[u8], ends: &mut Vec<u32>) -> Result<(), MemoryError> {
+    ends.try_room(bytes.len() / 3)?;
+    let mut rest = bytes;
+    while let Some((four, next)) = rest.split_first_chunk::<12>() {
+        ends.try_extend_from_slice(&four_of(four))?;
+        rest = next;
+    }
+    while let Some((three, next)) = rest.split_first_chunk::<3>() {
+        ends.push(u32::from_le_bytes([three[0], three[1], three[2], 0]));
+        rest = next;
+    }
+    Ok(())
+}
+
+/// Returns the sum of the sizes of the ranges between these boundaries.
+#[inline(always)]
+pub(super) fn sum_of_sizes(bytes: &[u8]) -> usize {
+    let mut rest = bytes;
+    let mut sum = 0;
+    while let Some((four, next)) = rest.split_first_chunk::<12>() {
+        let [a, b, c, d] = four_of(four);
+        sum += (b - a) as usize + (d - c) as usize;
+        rest = next;
+    }
+    if let Some(range) = rest.first_chunk::<6>() {
+        let start = u32::from_le_bytes([range[0], range[1], range[2], 0]);
+        let end = u32::from_le_bytes([range[3], range[4], range[5], 0]);
+        sum += (end - start) as usize;
+    }
+    sum
+}
+
+/// Returns the bytes of four boundaries, which are below 2^24, as three words.
+#[inline(always)]
+fn words_of(four: &[u32; 4]) -> [[u8; 4]; 3] {
+    let [a, b, c, d] = *four;
+    [
+        (a + (b << 24)).to_le_bytes(),
+        ((b >> 8) + (c << 16)).to_le_bytes(),
+        ((c >> 16) + (d << 8)).to_le_bytes(),
+    ]
+}
+
+/// Writes the bytes to `out` from index `at` on.
+#[inline(always)]
+fn write(out: &mut [u8], at: usize, bytes: &[u8]) {
+    out[at..at + bytes.len()].copy_from_slice(bytes);
+}
+
+/// Writes the boundaries, which are below 2^24, to `out`, packed in three bytes each. It writes the
+/// bytes of four at once.
+#[inline]
+fn pack_into(out: &mut [u8], ends: &[u32]) {
+    let mut at = 0;
+    let mut rest = ends;
+    while let Some((four, next)) = rest.split_first_chunk::<4>() {
+        write(out, at, words_of(four).as_flattened());
+        at += 12;
+        rest = next;
+    }
+    for end in rest {
+        write(out, at, &end.to_le_bytes()[..3]);
+        at += 3;
+    }
+}
+
 /// Returns the boundaries packed in three bytes each, lowest byte first. For no boundaries it
 /// allocates nothing.
 #[inline(always)]
@@ -22,7 +110,9 @@ pub(super) fn pack(ends: &[u32]) -> Result<Vec<u8>, MemoryError> {
     if ends.is_empty() {
         return Ok(Vec::new());
     }
-    Ok(packed(ends)?)
+    let mut bytes = Vec::from_elem(0, ends.len() * 3)?;
+    pack_into(&mut bytes, ends);
+    Ok(bytes)
 }
 
 /// Copies the numbers, with 0xFFFFFF in place of any number that needs more than 24 bits. That is

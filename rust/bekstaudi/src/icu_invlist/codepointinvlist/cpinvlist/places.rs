@@ -1,17 +1,15 @@
 //! Searches for a code point among the boundaries of a set.
 
 use super::CodePointInversionList;
-use crate::support::boundaries::last_words;
+use super::words::last_words;
+use crate::support::prelude::*;
 
 impl<'data> CodePointInversionList<'data> {
     /// Returns how many of the next three steps from `low` end at a boundary that is at most `c`.
     /// All boundaries before `low` must be at most `c`.
     #[inline(always)]
     fn steps_up_to(&self, low: usize, step: usize, c: u32) -> usize {
-        let [first, second, third] = match last_words(self.ends.as_bytes(), low, step) {
-            Some(words) => words,
-            None => unreachable!(),
-        };
+        let [first, second, third] = last_words(self.ends.as_bytes(), low, step);
         let limit = (c + 1) << 8;
         usize::from(first < limit) + usize::from(second < limit) + usize::from(third < limit)
     }

@@ -5,6 +5,7 @@
 
 use super::CodePointInversionList;
 use crate::icu_zerovec::CODE_POINT_LIMIT;
+use crate::support::prelude::*;
 
 /// Code points from `start` to before `end`.
 #[derive(Clone, Copy)]

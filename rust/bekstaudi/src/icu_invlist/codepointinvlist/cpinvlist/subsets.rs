@@ -1,6 +1,7 @@
 //! The subset test.
 
 use super::CodePointInversionList;
+use crate::support::prelude::*;
 
 impl<'data> CodePointInversionList<'data> {
     /// Returns true if all boundaries of `other` are between the first and the last boundary of
