@@ -76,7 +76,6 @@ EDITS = {
         (r"(const TRIE_TYPE: TrieType;\n)", rf"\1{UNTYPED}", 1),
         (r"(const TRIE_TYPE: TrieType = TrieType::\w+;\n)", rf"\1{UNTYPED_BODIES}", 2),
     ],
-    "icu_trie_text/lib": [(r"(?m)^(?=(?:pub )?mod characters;)", "#[allow(dead_code)] // The C library uses it.\n", 1)],
     # Most blocks hold the number of the block before: one search finds where they end.
     "icu_trie_map/blocks": [
         (

@@ -9,6 +9,9 @@
 // allowed. `to_typed` and `to_untyped` are the Rust crate's names.
 #![allow(dead_code, unused_imports)]
 #![allow(
+    clippy::manual_map,
+    clippy::needless_lifetimes,
+    clippy::non_canonical_clone_impl,
     clippy::needless_range_loop,
     clippy::manual_find,
     clippy::manual_range_contains,

@@ -145,23 +145,23 @@ macro_rules! generated_with_alloc {
 }
 // What is allowed is what the proofs are about: loops over indices, also in searches, bounds that
 // are compared one by one, remainders, a `while` over an iterator that is used afterwards, and
-// nested cases. A module imports what its proved source does, also what only clauses name.
+// nested cases. A module has and imports what its proved source does, also what only the C library uses
+// or clauses name.
 macro_rules! modules {
     ($on:meta: $($name:ident)*) => {
         $(#[cfg($on)]
         #[allow(
+            dead_code,
             unused_imports,
+            clippy::manual_map,
+            clippy::non_canonical_clone_impl,
+            clippy::needless_lifetimes,
             clippy::needless_range_loop,
             clippy::manual_find,
             clippy::manual_range_contains,
             clippy::manual_is_multiple_of,
             clippy::while_let_on_iterator,
             clippy::collapsible_if
-        )]
-        // Without these features nothing uses what they need.
-        #[cfg_attr(
-            not(all(feature = "alloc", feature = "json")),
-            allow(dead_code)
         )]
         mod $name;)*
     };

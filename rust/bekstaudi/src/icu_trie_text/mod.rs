@@ -23,7 +23,6 @@
 use crate::support::prelude::*;
 mod any_bytes;
 mod ascii;
-#[allow(dead_code)] // The C library uses it.
 pub mod characters;
 mod copy;
 pub mod copy_parts;
