@@ -6,16 +6,9 @@ use Rattle.std.proofs.lemmas.Bool.{cases_lt}
 use Rattle.std.proofs.lemmas.Grind.{get_or_default_zero}
 use Rattle.std.proofs.lemmas.List.Sums.{count_by_more_yes, count_by_more_no}
 use Rattle.std.proofs.Math.Seq.{take-length}
-use Rattle.std.specs.Prelude.{if◌then◌else◌, Result, Ok, Err, IfOk}
+use Rattle.std.specs.Prelude.{if◌then◌else◌}
 use Rattle.icu_zerovec.specs.CodePoints.{code_point_limit}
-use Rattle.icu_invlist.specs.InversionList.{Acts, holds, members_below}
-
--- The boundaries below index i ascend within the code points, and `next` is after the last of them.
-pub record Ascend (ends : List ℕ) (i next : ℕ) : Type 0 where
-  pub within : (k : ℕ) → k < i → get_or ends k 0 ≤ code_point_limit
-  pub ascending : (k : ℕ) → k + 1 < i → get_or ends k 0 < get_or ends (k + 1) 0
-  pub none : i ≡ 0 → next ≡ 0
-  pub last : 0 < i → get_or ends (i - 1) 0 + 1 ≡ next
+use Rattle.icu_invlist.specs.InversionList.{holds, members_below}
 
 -- Boundaries that rise do not fall.
 pub rises : (xs : List ℕ) (i n : ℕ) → IsStrictlyIncreasing xs → i + n < length xs → get_or xs i 0 ≤ get_or xs (i + n) 0
@@ -59,9 +52,3 @@ members_below-le ends (suc n) = let before = members_below-le ends n in one_more
     one_more : (b : Bool) (k n : ℕ) → k ≤ n → k + (if b then 1 else 0) ≤ suc n
     one_more true k n h = omega arith
     one_more false k n h = omega arith
-
--- The set that is returned, if there is one, is the result of the operation.
-pub acts_answered : {E : Type 0} (op : Bool → Bool → Bool) (old : List ℕ) (named : ℕ → Bool) (new : List ℕ) (r : Result (List ℕ) E)
-    → Acts op old named new → IfOk r (λ s. s ≡ new) → IfOk r (Acts op old named)
-acts_answered op old named new (Ok s) acts is = rw is acts
-acts_answered op old named new (Err e) acts is = tt

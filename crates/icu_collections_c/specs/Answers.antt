@@ -39,13 +39,6 @@ CountsEnds sound fault P old new returned =
 abbrev pub CountsMembers : Type 0 → ℕ → ℤ → Type 0
 CountsMembers is_set n returned = (is_set × (returned ≡ pos n)) ⊎ (¬ is_set × (returned ≡ refused NoSet))
 
--- If the boundaries are those of a set: the number n, or `NoMemory` if an allocation failed. If
--- they are not: `NoSet`.
-abbrev pub AnswersNumber : Type 0 → ℕ → ℤ → Type 0
-AnswersNumber is_set n returned =
-    (is_set × ((returned ≡ pos n) ⊎ (returned ≡ refused NoMemory)))
-    ⊎ (¬ is_set × (returned ≡ refused NoSet))
-
 -- If the bytes are a `text`: the number of values, and the buffer holds as many of them as fit. If
 -- they are not: `NoText`, and the buffer is unchanged.
 abbrev pub AnswersText : {T : Type 0} → Type 0 → List T → List T → List T → ℤ → Type 0
