@@ -106,7 +106,11 @@ impl<'a, T: TrieValue> AsciiInPlace<'a, T> {
         ensures ascii { IfSome result (λ _. c < 0x80) }
         ensures value { IfSome result (λ value. Some value ≡ trie_value self.now c) }
     {
-        self.values.get_below(self.end as usize, c as usize)
+        if c < self.end {
+            Some(self.values.at(c as usize))
+        } else {
+            None
+        }
     }
 
     /// Returns the value of the code point at index `place` in a block of 64.
