@@ -2,6 +2,7 @@
 
 use super::support::{Ends, ends_of, lent_of, packed_of, view_of};
 use crate::icu_zerovec::iter::Iter;
+use crate::icu_zerovec::raw;
 use crate::icu_zerovec::ule::AsULE;
 use crate::icu_zerovec::{MemoryError, PotentialCodePoint, ZeroSlice, ZeroVec};
 use crate::memory::packed::support::{expect_done, expect_same, say_refused};
@@ -185,5 +186,44 @@ fn packed_values_quiet() {
         let read = u16::from_unaligned(&[0x34, 0x12]);
         let want = ([0x34, 0x12, 0, 0], Some(0x1234));
         expect_done((packed, read), want, "a value, packed and read");
+    });
+}
+
+/// Reads with an end, or of an index that is known to be inside.
+///
+/// Calls: `ZeroVec::from_packed`, `ZeroSlice::get_below`, `ZeroSlice::get_known`,
+/// `icu_zerovec::cell_at`, `icu_zerovec::cell_below`, `icu_zerovec::cell_known`.
+#[test]
+fn known_reads_quiet() {
+    none_asked(|| {
+        let bytes = [0x41, 0, 0x42, 0, 0x43, 0];
+        say("call");
+        let vector = ZeroVec::<u16>::from_packed(&bytes);
+        let view = view_of(&vector);
+        let below = [
+            view.get_below(2, 1),
+            view.get_below(2, 2),
+            view.get_below(0, 0),
+        ];
+        let known = [
+            view.get_known(2, true),
+            view.get_known(2, false),
+            view.get_known(3, false),
+        ];
+        let cells = [
+            Some(raw::cell_at(&bytes, 2, 1)),
+            raw::cell_below(&bytes, 2, 1, 1),
+            raw::cell_known(&bytes, 2, 2, true),
+            raw::cell_known(&bytes, 2, 3, false),
+        ];
+        say("done");
+        expect_same(below, [Some(0x42), None, None], "values below an end");
+        expect_same(
+            known,
+            [Some(0x43), Some(0x43), None],
+            "values at a known index",
+        );
+        let want: [Option<&[u8]>; 4] = [Some(&[0x42, 0]), None, Some(&[0x43, 0]), None];
+        expect_same(cells, want, "cells");
     });
 }

@@ -1,7 +1,9 @@
 //! Functions that do not allocate.
 
 use super::*;
+use crate::icu_invlist::boundaries::Boundaries;
 use crate::icu_invlist::codepointinvlist::is_valid_zv;
+use crate::icu_invlist::codepointinvlist::utils::is_valid_slice;
 use crate::icu_zerovec::{PotentialCodePoint, ZeroVec};
 use crate::memory::packed::sets::code_points::changes::{
     Addition, Change, Keeping, Operation, Removal, Turn,
@@ -151,5 +153,30 @@ fn lent_ends_quiet() {
         say("done");
         expect_same(ends.as_bytes(), &[0, 0, 0, 0, 0, 1], "packed ends");
         expect(is_same, "an equal set");
+    });
+}
+
+/// Returns how many boundaries a view has.
+fn count_of(ends: impl Boundaries) -> usize {
+    ends.count()
+}
+
+/// Boundaries are counted wherever they are.
+///
+/// Calls: `utils::is_valid_slice`, `ZeroSlice::count`.
+#[test]
+fn boundaries_quiet() {
+    none_asked(|| {
+        let list = list_of(&[0x41, 0, 0, 0x5B, 0, 0]);
+        say("call");
+        let valid = [
+            is_valid_slice(&[0x41, 0x5B]),
+            is_valid_slice(&[0x41]),
+            is_valid_slice(&[0x5B, 0x41]),
+        ];
+        let counts = [count_of(list.as_slice()), count_of([0x41, 0x5B].as_slice())];
+        say("done");
+        expect_same(valid, [true, false, false], "whether lists are valid");
+        expect_same(counts, [2, 2], "the numbers of boundaries");
     });
 }
