@@ -48,7 +48,7 @@ ROWS = [
         PLACE,
     ),
     ("place", rf"\bat (?:{THE} )?(?:\w+ )?places?\b|\bplaces (?:are|were|of|in|that|at)\b", PLACE),
-    ("place", r"(?<!in )\bplace of (?:the|a|an|its|each|that)\b", PLACE),
+    ("place", r"(?<!in )(?<!take the )(?<!takes the )\bplace of (?:the|a|an|its|each|that)\b", PLACE),
     ("stands", r"\b(?:stands?|stood|standing)\b(?! (?:for|out)\b)", "is (in), appears in, occurs"),
     ("lies", r"\b(?:lies|lie|lying)\b", "is, is in, is within"),
     ("square", r"\b(?:as|by) (?:its|the|their) square\b", "takes quadratic time"),
