@@ -73,7 +73,11 @@ impl<'a, T: TrieValue> AsciiInPlace<'a, T> {
     /// Returns the value of an ASCII code point if it is known to be at its own index in the data.
     #[inline(always)]
     pub(crate) fn ascii(&self, c: u32) -> Option<T> {
-        self.values.get_below(self.end as usize, c as usize)
+        if c < self.end {
+            Some(self.values.at(c as usize))
+        } else {
+            None
+        }
     }
 
     /// Returns the value of the code point at index `place` in a block of 64.

@@ -81,7 +81,7 @@ impl<K: Ord, V> BTreeMap<K, V> {
         Ok(())
     }
 
-    /// Returns the entry of a key. A key that is not in the map then has its place already, so only
+    /// Returns the entry of a key. A key that is not in the map then has its position already, so only
     /// this can fail.
     pub fn entry(&mut self, key: K) -> Result<Entry<'_, K, V>, AllocError> {
         let (mut part, mut place) = match self.place_of(&key) {
@@ -142,7 +142,7 @@ pub enum Entry<'a, K, V> {
     Vacant(VacantEntry<'a, K, V>),
 }
 
-/// The place of a key that is not in the map.
+/// The position of a key that is not in the map.
 pub struct VacantEntry<'a, K, V> {
     /// A part of the map with a capacity for one more entry.
     entries: &'a mut Vec<(K, V)>,
