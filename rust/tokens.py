@@ -1,8 +1,8 @@
 """Source text as a list of tokens, and patterns of tokens.
 
-A pattern is written as code. In it `$x` stands for one word or literal, `$$x` for any tokens up to what
-follows, with all brackets closed, and `$docs` in front for the comments and attributes before it. Space
-and comments may be between the tokens that a pattern matches.
+A pattern is code with variables: `$x` matches one word or literal, `$$x` any tokens up to what follows,
+with all brackets closed, and `$docs` at the start the comments and attributes before it. Space and
+comments may be between the tokens that a pattern matches.
 """
 import re
 from collections import namedtuple
@@ -65,7 +65,7 @@ def runs(tokens, at):
 
 
 def match(tokens, at, pattern):
-    """Returns the position after what a pattern matches, and what its variables stand for, or None."""
+    """Returns the position after a match and the tokens of each variable, or None without a match."""
     if not pattern:
         return at, {}
     part, at = pattern[0], after_gap(tokens, at)
