@@ -175,7 +175,7 @@ impl<'trie, T: TrieValue> CodePointTrie<'trie, T> {
     {
         let _ = &self.header;
         let blocks = trie_type.fast_index_len();
-        match index.get_below(blocks, (c >> FAST_TYPE_SHIFT) as usize) {
+        match index.get_likely_below(blocks, (c >> FAST_TYPE_SHIFT) as usize) {
             Some(offset) => Some(offset as usize + (c % FAST_TYPE_DATA_BLOCK_LENGTH) as usize),
             None => None,
         }

@@ -106,11 +106,7 @@ impl<'a, T: TrieValue> AsciiInPlace<'a, T> {
         ensures ascii { IfSome result (λ _. c < 0x80) }
         ensures value { IfSome result (λ value. Some value ≡ trie_value self.now c) }
     {
-        if c < self.end {
-            Some(self.values.at(c as usize))
-        } else {
-            None
-        }
+        self.values.get_below(self.end as usize, c as usize)
     }
 
     /// Returns the value of the code point at index `place` in a block of 64.
@@ -120,7 +116,7 @@ impl<'a, T: TrieValue> AsciiInPlace<'a, T> {
         requires within { block * 64 + place < 0x110000 }
         ensures { Some result ≡ trie_value self.now (block * 64 + place) }
     {
-        if let Some(offset) = self.index.get_below(self.blocks as usize, block as usize) {
+        if let Some(offset) = self.index.get_likely_below(self.blocks as usize, block as usize) {
             return self.values.at(offset as usize + place as usize);
         }
         self.trie.get32(block * 64 + place)

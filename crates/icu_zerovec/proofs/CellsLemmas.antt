@@ -34,6 +34,12 @@ front-later : {T : Type 0} (o : Option T) (xs : List T) (i : ℕ) → is_some o 
 front-later None xs i h = cc
 front-later (Some x) xs i h = refl
 
+-- Of the first n + 1, it is the first, and n of the others follow.
+pub front-take : {T : Type 0} (o : Option T) (xs : List T) (n : ℕ) → is_some o ≡ true
+    → take (suc n) (option_to_list o ++ xs) ≡ option_to_list o ++ take n xs
+front-take None xs n h = cc
+front-take (Some x) xs n h = refl
+
 -- There is one more.
 front-length : {T : Type 0} (o : Option T) (xs : List T) → is_some o ≡ true → length (option_to_list o ++ xs) ≡ suc (length xs)
 front-length None xs h = cc
@@ -41,11 +47,11 @@ front-length (Some x) xs h = refl
 
 module _ {T : Type 0} (f : List ℕ → Option T) (w : ℕ) where
   -- If the cells are values, the first cell is a value.
-  first_some : (b : List ℕ) (n : ℕ) → ((i : ℕ) → i < suc n → is_some (f (cell w b i)) ≡ true) → is_some (f (take w b)) ≡ true
+  pub first_some : (b : List ℕ) (n : ℕ) → ((i : ℕ) → i < suc n → is_some (f (cell w b i)) ≡ true) → is_some (f (take w b)) ≡ true
   first_some b n h = rw (cell-zero w b) at (h zero (omega arith))
 
   -- If the cells are values, the others are values.
-  rest_some : (b : List ℕ) (n : ℕ) → ((i : ℕ) → i < suc n → is_some (f (cell w b i)) ≡ true) → (i : ℕ) → i < n
+  pub rest_some : (b : List ℕ) (n : ℕ) → ((i : ℕ) → i < suc n → is_some (f (cell w b i)) ≡ true) → (i : ℕ) → i < n
       → is_some (f (cell w (drop w b) i)) ≡ true
   rest_some b n h i l = rw (cell-suc w b i) at (h (suc i) (omega arith))
 
@@ -94,7 +100,7 @@ some_within (x ∷ xs) zero l = refl
 some_within (x ∷ xs) (suc i) l = some_within xs i (omega arith)
 
 -- A prefix of bytes consists of bytes.
-AreBytes-take : (n : ℕ) (b : List ℕ) → AreBytes b → AreBytes (take n b)
+pub AreBytes-take : (n : ℕ) (b : List ℕ) → AreBytes b → AreBytes (take n b)
 AreBytes-take zero b h i = lit< tt
 AreBytes-take (suc n) [] h i = lit< tt
 AreBytes-take (suc n) (x ∷ b) h zero = h 0

@@ -28,20 +28,20 @@ get_or-chunks w zero i b d l = absurd (omega arith)
 get_or-chunks w (suc n) zero b d l = sym (cell-zero w b)
 get_or-chunks w (suc n) (suc i) b d l = get_or-chunks w n i (drop w b) d (omega arith) ∙ sym (cell-suc w b i)
 
-take-front : {X : Type 0} (i j : ℕ) (xs : List X) → i ≤ j → take i (take j xs) ≡ take i xs
+pub take-front : {X : Type 0} (i j : ℕ) (xs : List X) → i ≤ j → take i (take j xs) ≡ take i xs
 take-front zero j xs l = refl
 take-front (suc i) zero xs l = absurd (omega arith)
 take-front (suc i) (suc j) [] l = refl
 take-front (suc i) (suc j) (x ∷ xs) l = ap (λ ys. x ∷ ys) (take-front i j xs (omega arith))
 
 -- A front of n whole cells has n cells.
-length-front : (w n : ℕ) (b : List ℕ) → 0 < w → n ≤ length b / w → length (take (n * w) b) / w ≡ n
+pub length-front : (w n : ℕ) (b : List ℕ) → 0 < w → n ≤ length b / w → length (take (n * w) b) / w ≡ n
 length-front w n b p l =
     let k = length-take-le (n * w) b ((le-div_iff_mul-le {k = w} {x = n} {y = length b} p).0 l) in
     ap (λ m. m / w) k ∙ mul-div_left n p
 
 -- They are the first cells.
-cell-front : (w n i : ℕ) (b : List ℕ) → i < n → cell w (take (n * w) b) i ≡ cell w b i
+pub cell-front : (w n i : ℕ) (b : List ℕ) → i < n → cell w (take (n * w) b) i ≡ cell w b i
 cell-front w n i b l =
     let m = n - suc i in
     let f : n ≡ i + suc m = omega (arith, l) in

@@ -6,4 +6,5 @@ pub mod Converted
 pub mod FirstFaultLemmas
 pub mod DrainLemmas
 mod Chunks
+mod PrefixLemmas
 mod CellSearches

@@ -7,7 +7,7 @@ ghost use Rattle.std.specs.Cmp.Lexicographic.{pointwise};
 ghost use Rattle.std.specs.Hash as fed;
 ghost use Rattle.icu_zerovec.specs.Cells.{cell, values_of, IsPacked, IsFault, same_bytes, one_write};
 
-use crate::raw::{cell_at, cell_below, cell_known};
+use crate::raw::{cell_at, cell_below, cell_known, likely_cell_below};
 use crate::ule::{AsULE, UleError};
 use std::alloc::{AllocError, Global};
 use std::hash::Hasher;
@@ -67,6 +67,19 @@ pub(crate) fn get_below<T: AsULE>(bytes: &[u8], end: usize, i: usize) -> Option<
     }
 }
 
+/// Returns what [`get_below`] returns, for an index that is usually less than `end`.
+#[inline(always)]
+pub(crate) fn get_likely_below<T: AsULE>(bytes: &[u8], end: usize, i: usize) -> Option<T>
+    requires packed { IsPacked T.unpack T.WIDTH bytes.now }
+    requires within { end ≤ length (values_of T.unpack T.WIDTH bytes.now) }
+    ensures { result ≡ (if nat_lt i end then slice_get (values_of T.unpack T.WIDTH bytes.now) i else None) }
+{
+    match likely_cell_below(bytes, T::WIDTH, end, i) {
+        Some(cell) => T::from_unaligned(cell),
+        None => None,
+    }
+}
+
 /// Returns the value at index `i` of packed bytes, or `None` if `i` is not less than the length. If
 /// `is_inside` is true, `i` must be less.
 #[inline(always)]
@@ -79,6 +92,18 @@ pub(crate) fn get_known<T: AsULE>(bytes: &[u8], i: usize, is_inside: bool) -> Op
         Some(cell) => T::from_unaligned(cell),
         None => None,
     }
+}
+
+/// Returns the packed bytes of the first `end` values.
+#[inline(always)]
+pub(crate) fn prefix<T: AsULE>(bytes: &[u8], end: usize) -> &[u8]
+    requires packed { IsPacked T.unpack T.WIDTH bytes.now }
+    requires within { end ≤ length (values_of T.unpack T.WIDTH bytes.now) }
+    ensures packed { IsPacked T.unpack T.WIDTH result.now }
+    ensures values { values_of T.unpack T.WIDTH result.now
+        ≡ take end (values_of T.unpack T.WIDTH bytes.now) }
+{
+    &bytes[..end * T::WIDTH]
 }
 
 /// Checks that bytes are packed values. The error is the length if it is not a multiple of the

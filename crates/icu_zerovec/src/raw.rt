@@ -4,4 +4,4 @@
 mod proved;
 mod tested;
 
-pub use proved::{cell_at, cell_below, cell_known};
+pub use proved::{cell_at, cell_below, cell_known, likely_cell_below};

@@ -1,5 +1,5 @@
 //! Views of packed vectors, with the same queries.
-ghost use Rattle.std.specs.Prelude.{◌≡◌, ◌-◌, ◌*◌, ◌^◌, ◌<◌, [], ◌∷◌, length, slice_get, Option, Some, None, IsTrue, ◌↔◌, ⊤, ◌≤◌, nat_lt, if◌then◌else◌};
+ghost use Rattle.std.specs.Prelude.{◌≡◌, ◌-◌, ◌*◌, ◌^◌, ◌<◌, [], ◌∷◌, length, take, slice_get, Option, Some, None, IsTrue, ◌↔◌, ⊤, ◌≤◌, nat_lt, if◌then◌else◌};
 ghost use Rattle.std.specs.Cmp.{on_equiv, on_per, partial_equiv_from_equiv};
 ghost use Rattle.std.specs.Cmp.Lexicographic.{pointwise, lists_per, lists_equiv, nat_list_eq_equiv, bytes_decides};
 ghost use Rattle.std.specs.Hash as fed;
@@ -112,6 +112,16 @@ impl<'a, T: AsULE> ZeroSlice<'a, T> {
         cells::get_below(self.bytes, end, i)
     }
 
+    /// Returns what [`get_below`](Self::get_below) returns, for an index that is usually less than `end`:
+    /// that path comes first in machine code.
+    #[inline(always)]
+    pub fn get_likely_below(&self, end: usize, i: usize) -> Option<T>
+        requires { end ≤ length (slice_values self.now) }
+        ensures { result ≡ (if nat_lt i end then slice_get (slice_values self.now) i else None) }
+    {
+        cells::get_likely_below(self.bytes, end, i)
+    }
+
     /// Returns the value at index `i`, or `None` if `i` is not less than the length. If `is_inside` is
     /// true, `i` must be less than the length; where a proof takes the place of tests, none is made then.
     #[inline(always)]
@@ -120,6 +130,15 @@ impl<'a, T: AsULE> ZeroSlice<'a, T> {
         ensures { result ≡ slice_get (slice_values self.now) i }
     {
         cells::get_known(self.bytes, i, is_inside)
+    }
+
+    /// Returns a view of the first `end` values. `end` must be at most the length.
+    #[inline(always)]
+    pub fn prefix(&self, end: usize) -> ZeroSlice<'a, T>
+        requires { end ≤ length (slice_values self.now) }
+        ensures { slice_values result ≡ take end (slice_values self.now) }
+    {
+        ZeroSlice::from_packed(cells::prefix::<T>(self.bytes, end))
     }
 
     /// Returns the first value, or `None` if there are no values.

@@ -45,3 +45,14 @@ pub fn cell_below(bytes: &[u8], width: usize, end: usize, i: usize) -> Option<&[
         None
     }
 }
+
+/// Returns what [`cell_below`] returns, for an index that is usually less than `end`.
+#[inline(always)]
+pub fn likely_cell_below(bytes: &[u8], width: usize, end: usize, i: usize) -> Option<&[u8]>
+    requires some { 0 < width }
+    requires few { width ≤ 4 }
+    requires within { end ≤ length bytes.now / width }
+    ensures { MatchOption result (end ≤ i) (λ c. (i < end) × (c.now ≡ cell width bytes.now i)) }
+{
+    cell_below(bytes, width, end, i)
+}

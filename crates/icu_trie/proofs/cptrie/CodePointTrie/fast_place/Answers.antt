@@ -3,8 +3,8 @@ use Rattle.std.proofs.Common.{arith}
 use Rattle.icu_trie.proofs.Positions.{below_limit, fast_inside, fast_position, past_limit, sound_of, whole_of}
 use Rattle.icu_trie.proofs.cptrie.CodePointTrie.fast_place.Goals as goal
 
-pub get_below-requires : goal.get_below-requires
-get_below-requires g c =
+pub get_likely_below-requires : goal.get_likely_below-requires
+get_likely_below-requires g c =
     let t = c.args.self.now in
     let whole = whole_of g.T.TrieValue.of_number t.header t.index t.values
     (sound_of g.T.TrieValue.of_number c.self.view_is c.self.invariant) in

@@ -9,4 +9,4 @@ returns g c =
     let w = g.row.WIDTH in
     let l : c.args.end * w ≤ length c.args.bytes.now = (le-div_iff_mul-le {k = w} {x = c.args.end} {y = length c.args.bytes.now} c.requires.some).0 c.requires.within in
     let e : c.min-front.result ≡ c.args.end * w = omega (arith, c.min-front.ensures, l) in
-    below_front w c.args.end c.min-front.result c.args.i c.args.bytes.now c.requires.some c.requires.within e c.usual_cell_of.result c.usual_cell_of.ensures
+    below_front w c.args.end c.min-front.result c.args.i c.args.bytes.now c.requires.some c.requires.within e c.cell_of.result c.cell_of.ensures

@@ -1,7 +1,7 @@
 -- The chunk at this index is the cell.
 use Rattle.std.proofs.Common.{◌/◌, ◌<◌, length, get_or, arith, ◌∙◌, ap}
 use Rattle.icu_zerovec.proofs.Chunks.{get_or-chunks}
-use Rattle.icu_zerovec.proofs.raw.tested.usual_cell_of.Goals as goal
+use Rattle.icu_zerovec.proofs.raw.tested.likely_cell_of.Goals as goal
 
 pub returns-then-i-cells : goal.returns-then-i-cells
 returns-then-i-cells g c =
