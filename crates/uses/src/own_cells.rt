@@ -2,7 +2,7 @@
 //! type that returns their cells implements [`Cells`], and [`Steps`] counts the reads for the
 //! proof. The counter has no bytes at run time.
 ghost use Rattle.std.specs.Prelude.{◌≡◌, ◌+◌, ◌<◌, ◌≤◌};
-ghost use Rattle.icu_collections.specs.CodePointTrie.{IsWhole, answer, contents_of};
+ghost use Rattle.icu_collections.specs.CodePointTrie.{IsWhole, answer, contents_of, fast_limit};
 
 use icu_collections::codepointtrie::{Cells, CodePointTrieHeader, Steps, look_up, look_up_whole};
 use std::marker::Brand;
@@ -76,7 +76,7 @@ pub fn look_up_in_slices(
 
 /// Looks up `c` in two ways. If the fast index is whole, `look_up_whole` returns what `look_up`
 /// returns, and both return the value of the format, over any cells. Together they make at most ten
-/// reads.
+/// reads, and at most four below the fast limit.
 pub fn both_look_ups<C: Cells<u32>>(
     header: &CodePointTrieHeader,
     cells: &mut C,
@@ -86,6 +86,7 @@ pub fn both_look_ups<C: Cells<u32>>(
     ensures answer { result.0 ≡ answer header.now (C.contents cells.old) c }
     ensures same { result.0 ≡ result.1 }
     ensures reads { C.reads cells.new ≤ C.reads cells.old + 10 }
+    ensures fast { c < fast_limit header.now.trie_type → C.reads cells.new ≤ C.reads cells.old + 4 }
 {
     let any = look_up(header, cells, c);
     let whole = look_up_whole(header, cells, c);
