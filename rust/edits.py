@@ -67,11 +67,6 @@ EDITS = {
     "icu_invlist/codepointinvlist/conversions": [(r"fn try_from(?=<R)", "fn try_from_range", 1)],
     # rust/face has one that takes a vector of strings or a list with the Rust crate's name.
     "icu_text_sets/codepointinvliststringlist/make": [(r"pub fn try_from(?=\()", "pub(crate) fn try_from_explained", 1)],
-    # The bounds of the Rust crate.
-    "icu_trie_core/value": [
-        (r"AsULE \+ Eq(?= \{)", "AsULE + Eq + 'static", 1),
-        (r"type TryFromU32Error;", "type TryFromU32Error: core::fmt::Display;", 1),
-    ],
     "icu_trie/typed": [
         (r"(const TRIE_TYPE: TrieType;\n)", rf"\1{UNTYPED}", 1),
         (r"(const TRIE_TYPE: TrieType = TrieType::\w+;\n)", rf"\1{UNTYPED_BODIES}", 2),

@@ -6,6 +6,7 @@ ghost use Rattle.icu_trie_core.specs.ValueNumbers.{fitting, signed_fitting, char
 ghost use Rattle.icu_trie_core.specs.ValueNumberLaws.{fitting-small, equal_numbers, signed_fitting-number, equal_signed_numbers, character-scalar};
 
 use icu_zerovec::ule::AsULE;
+use std::fmt;
 use thiserror::Error;
 
 /// A value that a trie can store: a packed value that has a 32-bit number.
@@ -14,7 +15,7 @@ use thiserror::Error;
 /// back from its number, and two values are equal exactly if their numbers are.
 pub trait TrieValue: AsULE + Eq {
     /// The error for a number that no value has.
-    type TryFromU32Error: Drop;
+    type TryFromU32Error: fmt::Display + Drop;
 
     /// The number of a value.
     ghost number: { Self → ℕ };
