@@ -36,8 +36,7 @@ EDITS = {
     "icu_trie/map_value": [
         (r"(\n +)(?=let index = self\.index)", r"\1assert_eq!(data.len(), self.data.len());\1", 1),
     ],
-    # serde spells ranges as JSON does, and reads tables from any format.
-    "icu_invlist/lib": [(r"(?m)^(?=mod spelling;)", "pub(crate) ", 1)],
+    # serde reads tables from any format.
     "icu_trie_formats/trie_toml": [
         (
             r"(?m)^( *)(?=use toml\b|pub fn from_table\b|fn (?:fields_of|(?:optional_)?numbers?_(?:at|of|of_items)"
@@ -59,14 +58,6 @@ EDITS = {
             1,
         ),
     ],
-    "icu_trie/convert": [
-        # rust/face has one with the error of the Rust crate.
-        (r"fn try_into_converted", "fn try_into_converted_explained", 1),
-    ],
-    # rust/face has a TryFrom whose error is no failed allocation.
-    "icu_invlist/codepointinvlist/conversions": [(r"fn try_from(?=<R)", "fn try_from_range", 1)],
-    # rust/face has one that takes a vector of strings or a list with the Rust crate's name.
-    "icu_text_sets/codepointinvliststringlist/make": [(r"pub fn try_from(?=\()", "pub(crate) fn try_from_explained", 1)],
     "icu_trie/typed": [
         (r"(const TRIE_TYPE: TrieType;\n)", rf"\1{UNTYPED}", 1),
         (r"(const TRIE_TYPE: TrieType = TrieType::\w+;\n)", rf"\1{UNTYPED_BODIES}", 2),

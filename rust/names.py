@@ -1,8 +1,8 @@
 """The names and paths of the Rust edition, and the rules of rust/rules.txt."""
 from files import Stop, rules_of, table
-from tokens import code_of, replaced, tokens_of
+from tokens import after_gap, code_of, functions, replaced, tokens_of
 
-FEATURES = table("features")
+FEATURES, RENAMED = table("features"), table("names")
 # Methods that allocate.
 TRIED = " ".join(table("tried").values()).split()
 # Modules of the edition that are no crate.
@@ -26,6 +26,19 @@ def ruled(tokens, rules):
     """Applies rules, one after another."""
     for pattern, put in rules:
         tokens = replaced(tokens, pattern, put)
+    return tokens
+
+
+def renamed(module, tokens):
+    """Gives functions the names that RENAMED has for them."""
+    tokens, names = list(tokens), dict(it.split("=") for it in RENAMED.get(module, "").split())
+    for it in reversed([it for it in functions(tokens) if it.name in names]):
+        name = names.pop(it.name)
+        tokens[after_gap(tokens, it.place + 1)] = name.removeprefix("crate::")
+        if name.startswith("crate::"):
+            tokens[it.start : it.start + 1] = ["pub", "(", "crate", ")"]
+    if names:
+        raise Stop(f" no function {' '.join(names)}, which rust/rules.txt names")
     return tokens
 
 

@@ -25,4 +25,4 @@ pub mod boundaries;
 pub mod codepointinvlist;
 mod fill;
 pub mod merge;
-mod spelling;
+pub(crate) mod spelling;
