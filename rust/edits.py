@@ -116,17 +116,6 @@ EDITS = {
             1,
         ),
     ],
-    # Every RangeBounds is a range: rust/face/src/codepointinvlist.rs says which numbers it contains.
-    # Only these know whether an inclusive range is used up; RangeBounds knows that here.
-    "icu_invlist/codepointinvlist/utils": [
-        (r"(?ms)^impl<X: RangePoint> RangeOf.*?^\}\n", "", 6),
-        (
-            r"fn is_used_up\(range: &RangeInclusive<Self>\) -> bool;",
-            "#[doc(hidden)]\n    #[must_use]\n    fn is_used_up(_: &RangeInclusive<Self>) -> bool {\n        false\n    }",
-            1,
-        ),
-        (r"(?m)^    (?=fn number\(self\) -> u32;)", "    #[must_use]\n    ", 1),
-    ],
 }
 
 

@@ -30,8 +30,8 @@ OTHER_NAMES = {
     "CodePointInversionListAndStringList::strings":
         "CodePointInversionListAndStringList::string_slice",
 }
-# Methods that only proofs use, which the edition lacks.
-ONLY_PROVED = r"::shown$"
+# Methods that the edition lacks: those that only proofs use, and one for Rattle's inclusive ranges.
+ONLY_PROVED = r"::shown$|^RangePoint::is_used_up$"
 # Functions whose allocations do not fail in turn: an internal one, and those that write JSON.
 NOT_SWEPT = r"::from_valid_slice$|::to_json$"
 # Forms that rust/make does not know.

@@ -5,7 +5,7 @@ ghost use Rattle.icu_zerovec.specs.CodePoints.{code_point_limit};
 ghost use Rattle.icu_invlist.specs.InversionList.{IsValid, holds, between, Acts, either, without, both, one_of};
 
 use crate::codepointinvlist::cpinvlist::CodePointInversionList;
-use crate::codepointinvlist::utils::RangeOf;
+use crate::codepointinvlist::range_of::RangeOf;
 use crate::fill;
 use crate::merge::{Difference, Intersection, SymmetricDifference, Union, change};
 use icu_zerovec::{CODE_POINT_LIMIT, MemoryError};

@@ -8,7 +8,7 @@ ghost use Rattle.icu_invlist.specs.Refusals.{IsRefusedRange};
 use crate::codepointinvlist::builder::CodePointInversionListBuilder;
 use crate::codepointinvlist::cpinvlist::CodePointInversionList;
 use crate::codepointinvlist::error::{RangeError, TryRangeError};
-use crate::codepointinvlist::utils::RangeOf;
+use crate::codepointinvlist::range_of::RangeOf;
 use icu_zerovec::MemoryError;
 use std::alloc::Global;
 use std::ops::RangeInclusive;

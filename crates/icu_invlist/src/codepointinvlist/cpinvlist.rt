@@ -19,8 +19,9 @@ mod words;
 
 use crate::codepointinvlist::error::{InvalidSetError, SetError};
 use crate::codepointinvlist::iter::{IterChars, IterRanges, IterRangesComplemented, start_of_gap};
+use crate::codepointinvlist::range_of::RangeOf;
 use crate::codepointinvlist::sizes::{size_of, valid_size};
-use crate::codepointinvlist::utils::{RangeOf, is_valid_slice};
+use crate::codepointinvlist::utils::is_valid_slice;
 use icu_zerovec::ule::AsULE;
 use icu_zerovec::{CODE_POINT_LIMIT, MemoryError, PotentialCodePoint, ZeroSlice, ZeroVec};
 use packing::{cut_to_points, pack, sum_of_sizes, unpack, unpacked};

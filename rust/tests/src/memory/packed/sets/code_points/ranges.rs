@@ -21,14 +21,14 @@ static OF_NUMBERS: [(u32, u32); 10] = [
 
 /// Ranges of numbers, one of which had a single number that was already taken.
 ///
-/// Calls: `codepointinvlist::deconstruct_range`, `RangePoint::number`, `RangePoint::is_used_up`.
+/// Calls: `codepointinvlist::deconstruct_range`, `RangePoint::number`.
 #[test]
 fn ranges_of_numbers_quiet() {
     none_asked(|| {
         let mut spent = 5..=5_u32;
         expect_same(spent.next(), Some(5), "its one number");
         say("call");
-        let points = (7_u32.number(), u32::is_used_up(&(5..=5)));
+        let point = 7_u32.number();
         let found = [
             deconstruct_range(spent),
             deconstruct_range(3..7),
@@ -43,7 +43,7 @@ fn ranges_of_numbers_quiet() {
         ];
         say("done");
         expect_same(found, OF_NUMBERS, "ends of ranges of numbers");
-        expect_same(points, (7, false), "a number, and a range not used up");
+        expect_same(point, 7, "a number");
     });
 }
 
@@ -58,13 +58,12 @@ static OF_CHARACTERS: [(u32, u32); 7] = [
     (0, 0x11_0000),
 ];
 
-/// Calls: `codepointinvlist::deconstruct_range`, `RangeOf::deconstruct`, `RangePoint::number`,
-/// `RangePoint::is_used_up`.
+/// Calls: `codepointinvlist::deconstruct_range`, `RangeOf::deconstruct`, `RangePoint::number`.
 #[test]
 fn ranges_of_characters_quiet() {
     none_asked(|| {
         say("call");
-        let points = ('A'.number(), char::is_used_up(&('A'..='Z')));
+        let point = 'A'.number();
         let found = [
             deconstruct_range('A'..'Z'),
             ('A'..='Z').deconstruct(),
@@ -76,6 +75,6 @@ fn ranges_of_characters_quiet() {
         ];
         say("done");
         expect_same(found, OF_CHARACTERS, "ends of ranges of characters");
-        expect_same(points, (0x41, false), "a code, and a range not used up");
+        expect_same(point, 0x41, "a code");
     });
 }
