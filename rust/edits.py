@@ -98,24 +98,6 @@ EDITS = {
             1,
         ),
     ],
-    # The range that the last character has been taken of, for DoubleEndedIterator.
-    "icu_invlist/codepointinvlist/iter": [
-        (
-            r"(?m)^(pub struct IterChars.*\n    next: u32,\n    end: u32,\n)",
-            r"\1    /// What `next_back` has left of the last range: inclusive start, exclusive end.\n"
-            r"    last: (u32, u32),\n",
-            1,
-        ),
-        (r"(\n +)end: 0,", r"\1end: 0,\1last: (0, 0),", 1),
-        (
-            r"(found;\n +\}\n +)let start = self\.ends\.next\(\)\?;",
-            r"\1let Some(start) = self.ends.next() else {\n                if self.last.0 >= self.last.1 {"
-            r"\n                    return None;\n                }"
-            r"\n                (self.next, self.end) = core::mem::take(&mut self.last);"
-            r"\n                continue;\n            };",
-            1,
-        ),
-    ],
 }
 
 

@@ -1,7 +1,9 @@
 -- The iteration over the characters of a set.
-use Rattle.std.proofs.Common.{◌≡◌, ℕ, ◌+◌, ◌-◌, ◌<◌, List, [], ◌∷◌, ◌++◌, refl, ◌∙◌, arith, zero, suc, ◌≤◌, ◌⊎◌, inl, inr, true, false, Option, Some, None}
+use Rattle.std.proofs.Common.{◌≡◌, ℕ, ◌+◌, ◌-◌, ◌<◌, List, [], ◌∷◌, ◌++◌, refl, ap, sym, ◌∙◌, append-nil, append_assoc, length, arith, rules, zero, suc, ◌≤◌, ◌⊎◌, inl, inr, true, false, Option, Some, None}
 use Rattle.std.specs.List.{filter, range_with_len}
+use Rattle.std.specs.Bool.{⊤}
 use Rattle.std.specs.Char.{IsScalar, InScalarRange, OutOfScalarRange}
+use Rattle.std.specs.Iterator.{MakesProgress, YieldsFirst, item_count}
 use Rattle.std.specs.Option.{MatchOption, SomeIff, is_some}
 use Rattle.std.proofs.Math.Utf8.{scalar, scalar_cases}
 use Rattle.std.proofs.lemmas.Bool.{cases_lt, cond-true, cond-false, false≢true, true≢false, false_from_ne_true}
@@ -81,12 +83,17 @@ char_or_none first n e None p f h s o = elim o [
 char_or_none first n e (Some c) p f h s o = char_found first n e (Some c) p h s refl
 
 -- ---- what is left, range by range
-members-one : (s : ℕ) → members (s ∷ []) ≡ []
+pub members-one : (s : ℕ) → members (s ∷ []) ≡ []
 unfolding members
 members-one s = refl
 
-pub left_is : (n e : ℕ) (ends : List ℕ) → characters_left n e ends ≡ between_chars n e ++ filter scalar (members ends)
-left_is n e ends = filter-append scalar (range_with_len n (e - n)) (members ends)
+-- Those of the ranges that have not begun, and of the last one.
+abbrev pub later_chars : List ℕ → ℕ → ℕ → List ℕ
+later_chars ends s f = filter scalar (members ends) ++ between_chars s f
+
+pub left_is : (n e : ℕ) (ends : List ℕ) (s f : ℕ) → characters_left n e ends s f ≡ between_chars n e ++ later_chars ends s f
+left_is n e ends s f = filter-append scalar (range_with_len n (e - n)) (members ends ++ range_with_len s (f - s))
+    ∙ rw (filter-append scalar (members ends) (range_with_len s (f - s))) refl
 
 -- The result of one search in a range.
 abbrev pub Taken : ℕ → ℕ → ℕ → Option ℕ → Type 0
@@ -96,16 +103,46 @@ none_taken : (n m e : ℕ) (r : Option ℕ) → Taken n m e r → false ≡ is_s
 none_taken n m e None t h = t
 none_taken n m e (Some c) t h = absurd (false≢true h)
 
-pub left_past : (n m e s f : ℕ) (ends zs : List ℕ) (r : Option ℕ) → Taken n m e r → false ≡ is_some r → ends ≡ s ∷ f ∷ zs
-    → characters_left n e ends ≡ characters_left s f zs
-left_past n m e s f ends zs r t h k = left_is n e ends ∙ rw ((none_taken n m e r t h).0, k, more_members s f zs) refl
+-- A character was found.
+pub left_found : (n m e : ℕ) (ends : List ℕ) (s f : ℕ) (r : Option ℕ) → Taken n m e r → true ≡ is_some r
+    → YieldsFirst (λ (xs : List ℕ). xs) (characters_left n e ends s f) r (characters_left m e ends s f)
+left_found n m e ends s f None t h = absurd (true≢false h)
+left_found n m e ends s f (Some c) t h = left_is n e ends s f ∙ rw (t, left_is m e ends s f) refl
 
-pub left_none : (n m e : ℕ) (ends zs : List ℕ) (r : Option ℕ) → Taken n m e r → false ≡ is_some r → ends ≡ [] → zs ≡ []
-    → (characters_left n e ends ≡ []) × (characters_left m e zs ≡ [])
-left_none n m e ends zs r t h k o = let q = none_taken n m e r t h in
-    (left_is n e ends ∙ rw (q.0, k, no_members) refl, left_is m e zs ∙ rw (q.1, o, no_members) refl)
+-- One item less is left.
+pub found_goes : (xs ys : List ℕ) (r : Option ℕ) → YieldsFirst (λ (xs : List ℕ). xs) xs r ys
+    → true ≡ is_some r → MakesProgress (λ (xs : List ℕ). ⊤) (item_count (λ (xs : List ℕ). xs)) xs r ys
+found_goes xs ys None t h = absurd (true≢false h)
+found_goes xs ys (Some c) t h = let e = ap length t in search rules
 
-pub left_one : (n m e s : ℕ) (ends ys zs : List ℕ) (r : Option ℕ) → Taken n m e r → false ≡ is_some r → ends ≡ s ∷ ys → ys ≡ [] → zs ≡ []
-    → (characters_left n e ends ≡ []) × (characters_left m e zs ≡ [])
-left_one n m e s ends ys zs r t h k l o = let q = none_taken n m e r t h in
-    (left_is n e ends ∙ rw (q.0, k, l, members-one s) refl, left_is m e zs ∙ rw (q.1, o, no_members) refl)
+-- No range is left if the next two boundaries are not both there.
+pub none_later : (xs ys zs : List ℕ) (p q : Option ℕ) → YieldsFirst (λ (xs : List ℕ). xs) xs p ys → YieldsFirst (λ (xs : List ℕ). xs) ys q zs
+    → (p ≡ None) ⊎ (q ≡ None) → (members xs ≡ []) × (zs ≡ [])
+none_later xs ys zs None None u v h = (rw u.0 no_members, v.1)
+none_later xs ys zs None (Some f) u v h = let n : 0 ≡ suc (length zs) = ap length (sym u.1 ∙ v) in absurd (omega (arith, n))
+none_later xs ys zs (Some s) None u v h = (rw (u, v.0) (members-one s), v.1)
+none_later xs ys zs (Some s) (Some f) u v (inl h) = absurd (true≢false (ap is_some h))
+none_later xs ys zs (Some s) (Some f) u v (inr h) = absurd (true≢false (ap is_some h))
+
+-- Then those of the last range are left.
+pub left_last : (n m e : ℕ) (xs : List ℕ) (s f : ℕ) (r : Option ℕ) → Taken n m e r → false ≡ is_some r → members xs ≡ []
+    → characters_left n e xs s f ≡ between_chars s f
+left_last n m e xs s f r t h k = left_is n e xs s f ∙ rw ((none_taken n m e r t h).0, k) refl
+
+pub left_end : (n m e : ℕ) (xs zs : List ℕ) (s f : ℕ) (r : Option ℕ) → Taken n m e r → false ≡ is_some r → (members xs ≡ []) × (zs ≡ [])
+    → f ≤ s → (characters_left n e xs s f ≡ []) × (characters_left m e zs s f ≡ [])
+left_end n m e xs zs s f r t h k l = (
+  left_last n m e xs s f r t h k.0 ∙ past_end s f l,
+  left_is m e zs s f ∙ rw ((none_taken n m e r t h).1, k.1, no_members, past_end s f l) refl,
+)
+
+pub last_begun : (n m e : ℕ) (xs zs : List ℕ) (s f : ℕ) (r : Option ℕ) (last : ℕ × ℕ) → Taken n m e r → false ≡ is_some r
+    → (members xs ≡ []) × (zs ≡ []) → (last.0 ≡ 0) × (last.1 ≡ 0) → characters_left n e xs s f ≡ characters_left s f zs last.0 last.1
+last_begun n m e xs zs s f r last t h k l = left_last n m e xs s f r t h k.0
+    ∙ sym (left_is s f zs last.0 last.1 ∙ rw (k.1, no_members, l.0, l.1) (append-nil (between_chars s f)))
+
+pub next_begun : (n m e a b : ℕ) (xs ys zs : List ℕ) (s f : ℕ) (r : Option ℕ) → Taken n m e r → false ≡ is_some r
+    → xs ≡ a ∷ ys → ys ≡ b ∷ zs → characters_left n e xs s f ≡ characters_left a b zs s f
+next_begun n m e a b xs ys zs s f r t h k l = left_is n e xs s f
+    ∙ (rw ((none_taken n m e r t h).0, k, l, more_members a b zs, filter-append scalar (range_with_len a (b - a)) (members zs))
+    (append_assoc (between_chars a b) (filter scalar (members zs)) (between_chars s f)) ∙ sym (left_is a b zs s f))

@@ -28,7 +28,8 @@ abbrev pub start_at : Option ℕ → Option ℕ
 start_at None = None
 start_at (Some end) = if nat_lt end code_point_limit then Some end else None
 
--- The characters from `next` to before `end`, followed by those in the ranges with the boundaries
--- `ends`.
-abbrev pub characters_left : ℕ → ℕ → List ℕ → List ℕ
-characters_left next end ends = filter scalar (range_with_len next (end - next) ++ members ends)
+-- The characters from `next` to before `end`, those in the ranges with the boundaries `ends`, and
+-- those from `last_start` to before `last_end`.
+abbrev pub characters_left : ℕ → ℕ → List ℕ → ℕ → ℕ → List ℕ
+characters_left next end ends last_start last_end =
+    filter scalar (range_with_len next (end - next) ++ (members ends ++ range_with_len last_start (last_end - last_start)))

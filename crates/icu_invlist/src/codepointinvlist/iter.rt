@@ -7,14 +7,15 @@ ghost use Rattle.std.specs.List.{filter, range_with_len};
 ghost use Rattle.std.specs.Option.{MatchOption};
 ghost use Rattle.std.proofs.Math.Utf8.{scalar};
 ghost use Rattle.icu_zerovec.specs.CodePoints.{code_point_limit};
-ghost use Rattle.icu_invlist.specs.InversionList.{IsValid, ranges_of};
-ghost use Rattle.icu_invlist.specs.Inside.StillGiven.{ends_in, ArePackedEnds, gaps_left, start_at, characters_left};
+ghost use Rattle.icu_invlist.specs.InversionList.{IsValid, characters, ranges_of};
+ghost use Rattle.icu_invlist.specs.Inside.StillGiven.{ends_in, ArePackedEnds, gaps_left, start_at};
 
 use icu_zerovec::iter::Iter;
 use icu_zerovec::ule::AsULE;
 use icu_zerovec::{CODE_POINT_LIMIT, PotentialCodePoint, ZeroVec};
 use std::fmt;
 use std::marker::Model;
+use std::mem::take;
 use std::ops::RangeInclusive;
 
 /// An iterator over the ranges of a set, in ascending order.
@@ -176,6 +177,9 @@ impl<'a> Iterator for IterRangesComplemented<'a> {
 pub struct IterChars<'a> {
     next: u32,
     end: u32,
+    /// What `next_back`, which only the Rust edition has, left of the last range: inclusive start,
+    /// exclusive end. `next` yields it after the ranges of `ends`.
+    last: (u32, u32),
     ends: Iter<'a, PotentialCodePoint>,
 }
 
@@ -185,17 +189,18 @@ impl<'a> Model for IterChars<'a> {
 
     ghost Value = { List ℕ };
 
-    ghost view = { λ a. characters_left a.next a.end a.ends };
+    ghost view = { λ a. characters_left a.next a.end a.ends a.last.0 a.last.1 };
 }
 
 impl<'a> IterChars<'a> {
     /// Returns an iterator over the characters in the ranges with these boundaries.
     pub(crate) fn from_ends(ends: Iter<'a, PotentialCodePoint>) -> Self
-        ensures { result ≡ characters_left 0 0 ends.entry }
+        ensures { result ≡ characters ends.entry }
     {
         IterChars {
             next: 0,
             end: 0,
+            last: (0, 0),
             ends,
         }
     }
@@ -259,8 +264,13 @@ impl<'a> Iterator for IterChars<'a> {
             if found.is_some() {
                 return found;
             }
-            let start = self.ends.next()?;
-            let end = self.ends.next()?;
+            let (Some(start), Some(end)) = (self.ends.next(), self.ends.next()) else {
+                if self.last.0 >= self.last.1 {
+                    return None;
+                }
+                (self.next, self.end) = take(&mut self.last);
+                continue;
+            };
             self.next = u32::from(start);
             self.end = u32::from(end);
         }
