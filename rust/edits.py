@@ -27,11 +27,6 @@ UNTYPED_BODIES = """
 """
 # Changes to one source: pattern, replacement, and how often the pattern occurs.
 EDITS = {
-    # The Rust crate passes a reference to a vector.
-    "icu_char16trie/cursor": [
-        (r"pub fn new\(trie: (ZeroSlice<'a, u16>)\)", r"pub fn new(trie: impl Into<\1>)", 1),
-        (r"units: trie,(?=\n +place: Place::Node)", "units: trie.into(),", 1),
-    ],
     # That there are as many cells as before is proved only for lawful types, so it is asserted.
     "icu_trie/map_value": [
         (r"(\n +)(?=let index = self\.index)", r"\1assert_eq!(data.len(), self.data.len());\1", 1),

@@ -47,14 +47,13 @@ impl<'a> Model for Char16TrieCursor<'a> {
 impl<'a> Char16TrieCursor<'a> {
     /// Creates a cursor at the root of the trie with these units.
     #[inline]
-    pub fn new(trie: ZeroSlice<'a, u16>) -> Self
-        ensures units { result.units ≡ slice_values trie.entry }
+    pub fn new<S: Into<ZeroSlice<'a, u16>>>(trie: S) -> Self
+        ensures units { (s : _) × S.converts trie s × (result.units ≡ slice_values s) }
         ensures place { result.place ≡ Node 0 }
-        ensures root { (m : UnitMap) → IsTrieOf (slice_values trie.entry) m
-            → HasPassed result m [] }
+        ensures root { (m : UnitMap) → IsTrieOf result.units m → HasPassed result m [] }
     {
         Char16TrieCursor {
-            units: trie,
+            units: trie.into(),
             place: Place::Node(0),
         }
     }

@@ -46,11 +46,10 @@ impl<'a> Char16TrieIterator<'a> {
 
     /// Creates an iterator at the root of the trie with these units.
     #[inline]
-    pub fn new(trie: ZeroSlice<'a, u16>) -> Self
-        ensures units { result.units ≡ slice_values trie.entry }
+    pub fn new<S: Into<ZeroSlice<'a, u16>>>(trie: S) -> Self
+        ensures units { (s : _) × S.converts trie s × (result.units ≡ slice_values s) }
         ensures place { result.place ≡ Node 0 }
-        ensures root { (m : UnitMap) → IsTrieOf (slice_values trie.entry) m
-            → HasPassed result m [] }
+        ensures root { (m : UnitMap) → IsTrieOf result.units m → HasPassed result m [] }
     {
         Char16TrieIterator {
             cursor: Char16TrieCursor::new(trie),

@@ -4,4 +4,4 @@ use Rattle.icu_char16trie.proofs.cursor.Char16TrieCursor.new.Goals as goal
 
 pub returns-clause-root : goal.returns-clause-root
 unfolding after_all
-returns-clause-root c = λ m h. root_stands _ m h
+returns-clause-root g c = λ m h. root_stands _ m h
