@@ -1,9 +1,10 @@
 //! Types that are ranges of numbers, in place of the source's module `range_of`.
 //!
-//! Rattle has no trait for ranges, so the source implements [`RangeOf`] for each of the six types of
-//! ranges. Here one impl is for all types that implement [`RangeBounds`], which the Rust crate accepts
-//! and which user-defined types may implement. What a range contains is as in the source; if `a..=b`
-//! was iterated to its end, its end bound is excluded.
+//! The contract of `RangeBounds` in Rattle says nothing of a range that was iterated to its end, so the
+//! source implements [`RangeOf`] for each of the six types of ranges. Here one impl is for all types
+//! that implement [`RangeBounds`], which the Rust crate accepts and which user-defined types may
+//! implement. What a range contains is as in the source; if `a..=b` was iterated to its end, its end
+//! bound is excluded.
 
 use crate::icu_zerovec::CODE_POINT_LIMIT;
 use core::ops::{Bound, RangeBounds};
