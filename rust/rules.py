@@ -3,6 +3,7 @@
 # Functions with a `requires` that only a proof can check. They are private.
 INSIDE = (
     "PotentialCodePoint::from_u24 ZeroSlice::at ZeroSlice::get_below ZeroSlice::get_known"
+    " ZeroSlice::get_likely_below ZeroSlice::prefix likely_cell_below"
     " ZeroVec::from_packed ZeroVec::try_into_converted cell_at cell_below cell_known"
     " CodePointInversionList::from_valid_slice size_of merge"
     " look_up_whole NumberMap::set_range NumberMap::repeats NumberMap::copy_block"

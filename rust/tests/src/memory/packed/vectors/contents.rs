@@ -191,8 +191,9 @@ fn packed_values_quiet() {
 
 /// Reads with an end, or of an index that is known to be inside.
 ///
-/// Calls: `ZeroVec::from_packed`, `ZeroSlice::get_below`, `ZeroSlice::get_known`,
-/// `icu_zerovec::cell_at`, `icu_zerovec::cell_below`, `icu_zerovec::cell_known`.
+/// Calls: `ZeroVec::from_packed`, `ZeroSlice::get_below`, `ZeroSlice::get_likely_below`,
+/// `ZeroSlice::get_known`, `ZeroSlice::prefix`, `icu_zerovec::cell_at`, `icu_zerovec::cell_below`,
+/// `icu_zerovec::likely_cell_below`, `icu_zerovec::cell_known`.
 #[test]
 fn known_reads_quiet() {
     none_asked(|| {
@@ -204,7 +205,11 @@ fn known_reads_quiet() {
             view.get_below(2, 1),
             view.get_below(2, 2),
             view.get_below(0, 0),
+            view.get_likely_below(2, 1),
+            view.get_likely_below(2, 2),
         ];
+        let two = view.prefix(2);
+        let prefix = [two.get(1), two.get(2), view.prefix(0).get(0)];
         let known = [
             view.get_known(2, true),
             view.get_known(2, false),
@@ -213,17 +218,20 @@ fn known_reads_quiet() {
         let cells = [
             Some(raw::cell_at(&bytes, 2, 1)),
             raw::cell_below(&bytes, 2, 1, 1),
+            raw::likely_cell_below(&bytes, 2, 1, 1),
             raw::cell_known(&bytes, 2, 2, true),
             raw::cell_known(&bytes, 2, 3, false),
         ];
         say("done");
-        expect_same(below, [Some(0x42), None, None], "values below an end");
+        let want = [Some(0x42), None, None, Some(0x42), None];
+        expect_same(below, want, "values below an end");
+        expect_same(prefix, [Some(0x42), None, None], "the first values");
         expect_same(
             known,
             [Some(0x43), Some(0x43), None],
             "values at a known index",
         );
-        let want: [Option<&[u8]>; 4] = [Some(&[0x42, 0]), None, Some(&[0x43, 0]), None];
+        let want: [Option<&[u8]>; 5] = [Some(&[0x42, 0]), None, None, Some(&[0x43, 0]), None];
         expect_same(cells, want, "cells");
     });
 }
