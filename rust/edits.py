@@ -57,41 +57,6 @@ EDITS = {
         (r"(const TRIE_TYPE: TrieType;\n)", rf"\1{UNTYPED}", 1),
         (r"(const TRIE_TYPE: TrieType = TrieType::\w+;\n)", rf"\1{UNTYPED_BODIES}", 2),
     ],
-    # Most blocks hold the number of the block before: one search finds where they end.
-    "icu_trie_map/blocks": [
-        (
-            r"(?s)(?:\x01\d+\x03\n| +\x01\d+\x03\n)+ +pub\(crate\) fn hold_one\(.*?\n    \}\n",
-            "    /// Returns how many of the `most` blocks from `first` on hold only the number of `first`.\n"
-            "    pub(crate) fn run_of_one(&self, first: usize, most: usize) -> usize {\n"
-            "        let (mixed, places) = (&self.mixed[first..first + most], &self.places[first..first + most]);\n"
-            "        let number = self.places[first];\n"
-            "        let end = mixed.iter().zip(places).position(|(is_mixed, place)| *is_mixed || *place != number);\n"
-            "        end.unwrap_or(most)\n    }\n",
-            1,
-        ),
-    ],
-    "icu_trie_map/number_map": [
-        (
-            r"(?s)(?: +\x01\d+\x03\n)+ +pub fn repeats\(.*?\n    \}\n",
-            "    /// Returns how many of the `most` blocks of `size` code points from block `number` on hold one and\n"
-            "    /// the same value. Returns 1 if block `number` holds several.\n"
-            "    pub fn repeats(&self, size: usize, number: usize, most: usize) -> usize {\n"
-            "        let Numbers::InBlocks(blocks) = &self.numbers else {\n            return most;\n        };\n"
-            "        let count = size / 16;\n"
-            "        (blocks.run_of_one(count * number, count * most) / count).max(1)\n    }\n",
-            1,
-        ),
-    ],
-    "icu_trie_builder/map_blocks": [
-        (
-            r"(?s)        for j in 0\.\.count \{\n.*?\n        \}\n(?=        Ok\(offsets\))",
-            "        let mut j = 0;\n        while j < count {\n"
-            "            self.map.copy_block(self.size, first + j, &mut room)?;\n"
-            "            let offset = store.place(&room, MAX_DATA_OFFSET)? as u32;\n"
-            "            j += self.map.repeats(self.size, first + j, count - j);\n"
-            "            offsets.try_resize(j, offset)?;\n        }\n",
-            1,
-        ),
     ],
 }
 

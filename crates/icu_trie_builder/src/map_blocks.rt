@@ -26,8 +26,8 @@ pub(crate) struct MapBlocks<'a> {
 impl MapBlocks<'_> {
     /// Places `count` blocks in `store`, from block number `first` on, and returns their offsets.
     ///
-    /// The offset of a block is the first position at which its numbers occur. If [`NumberMap`]
-    /// reports that a block repeats the one before it, the block is not read.
+    /// The offset of a block is the first position at which its numbers occur. If
+    /// [`NumberMap::repeats`] reports a run of equal blocks, only the first one is read.
     ///
     /// # Errors
     ///
@@ -58,14 +58,12 @@ impl MapBlocks<'_> {
     {
         let mut room = Vec::with_capacity(alloc, self.size)?;
         let mut offsets = Vec::with_capacity(alloc, count)?;
-        for j in 0..count {
-            if j > 0 && self.map.repeats(self.size, first + j) {
-                offsets.push(offsets[j - 1])?;
-                continue;
-            }
+        let mut j = 0;
+        while j < count {
             self.map.copy_block(self.size, first + j, &mut room)?;
-            let offset = store.place(alloc, &room, MAX_DATA_OFFSET)?;
-            offsets.push(offset as u32)?;
+            let offset = store.place(alloc, &room, MAX_DATA_OFFSET)? as u32;
+            j += self.map.repeats(self.size, first + j, count - j);
+            offsets.resize(j, offset)?;
         }
         Ok(offsets)
     }

@@ -4,7 +4,7 @@ pub use Rattle.icu_trie_compaction.proofs.Windows.{length-window, list_decides, 
 pub use Rattle.icu_trie_compaction.proofs.TableLemmas.{append-kept}
 pub use Rattle.icu_trie_compaction.proofs.Counts.{distinct_count-mono}
 pub use Rattle.icu_trie_compaction.proofs.Different.{block-block_of, count_different-by, count_different-le_count, count_different-within}
-pub use Rattle.icu_trie_compaction.proofs.Compacting.{count_different_but-le, count_different_but-within, Compacting, compacting-again, compacting-none, compacting-step, compacting-done, compacting-short, compacting-full}
+pub use Rattle.icu_trie_compaction.proofs.Compacting.{count_different_but-le, count_different_but-within, Compacting, compacting-none, compacting-run, compacting-done, compacting-short, compacting-full}
 pub use Rattle.icu_trie_compaction.proofs.Growing.{cell_there}
 pub use Rattle.icu_trie_compaction.proofs.Laying.{parts}
 pub use Rattle.icu_trie_compaction.proofs.NullIndex.{null-blocks, offset_of}

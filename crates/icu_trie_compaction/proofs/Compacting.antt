@@ -1,5 +1,5 @@
 -- Placing blocks anywhere among some cells.
-use Rattle.std.proofs.Common.{◌≡◌, ℕ, ◌+◌, ◌-◌, ◌*◌, ◌<◌, ◌≤◌, ◌≢◌, ◌&&◌, Bool, true, false, not, true≢false, List, [], ◌∷◌, ◌++◌, length, get_or, take, drop, map, refl, arith, ◌∙◌, sym, ap, subst, below_more, inl, inr}
+use Rattle.std.proofs.Common.{◌≡◌, ℕ, ◌+◌, ◌-◌, ◌*◌, ◌<◌, ◌≤◌, ◌≢◌, ◌&&◌, Bool, true, false, not, true≢false, List, [], ◌∷◌, ◌++◌, length, get_or, take, drop, map, replicate, refl, arith, ◌∙◌, sym, ap, subst, inl, inr}
 use Rattle.std.specs.Prelude.{nat_eq}
 use Rattle.std.specs.Cmp.Lexicographic.{pointwise}
 use Rattle.std.specs.List.{range_with_len, filter, Contains, IsDistinct, AllPass}
@@ -8,14 +8,13 @@ use Rattle.std.proofs.lemmas.Map.Made.{is_member-filter, is_member-Decides}
 use Rattle.std.proofs.lemmas.List.FromFn.{length-map-range_with_len, get_or-map-range_with_len}
 use Rattle.std.proofs.Math.Nat.{mul-le-mul_left}
 use Rattle.std.proofs.lemmas.Bool.{cases_lt, false_from_ne_true, or_cases}
-use Rattle.std.proofs.lemmas.List.{take_all, take-take, length-append, length-take, length-drop, get_or_append_left, get_or_at}
+use Rattle.std.proofs.lemmas.List.{take_all, take-take, length-append, length-replicate, length-take, length-drop, get_or_append_left, get_or-append_right, get_or-replicate}
 use Rattle.icu_trie_core.specs.Blocks.{window, count_different}
 use Rattle.icu_trie_compaction.specs.Different.{count_different_but}
 use Rattle.icu_trie_compaction.specs.Placed.{AllStandIn, IsPlaced, IsPlacedBlock, OccursNowhere}
 use Rattle.icu_trie_compaction.specs.Windows.{IsLeast}
 use Rattle.icu_trie_compaction.proofs.Counts.{length-le-distinct_count, unique_keys-member, unique_keys-apart, absent-apart, distinct_count-mono}
 use Rattle.icu_trie_compaction.proofs.Windows.{list_laws, list_decides, window-append, times-below}
-use Rattle.icu_trie_compaction.proofs.Placing.{placed-found}
 use Rattle.icu_trie_compaction.proofs.TableLemmas.{append-kept, least-same, least-kept}
 
 and-both : (a b : Bool) → a ≡ true → b ≡ false → (a && not b) ≡ true
@@ -153,33 +152,45 @@ module _ (k first j : ℕ) (b : ℕ → List ℕ) (before stored offsets : List 
       let more = count_different_but-more p b first j out (λ i lt e. (rw len at none) (get_or offsets i 0) ((l.least i lt).here ∙ e)) in
       omega (arith, l.short p st, times-below k (count_different_but p b first j) (count_different_but p b first (j + 1)) more)
 
+  -- More blocks, all equal.
+  pub compacting-run : (limit at m : ℕ) (stored' offsets' : List ℕ) → IsPlacedBlock limit (b (first + j)) stored stored' at
+      → 0 < m → ((i : ℕ) → i < m → b (first + j + i) ≡ b (first + j))
+      → offsets' ≡ offsets ++ replicate m at → Compacting k first (j + m) b before stored' offsets'
+  compacting-run limit at m stored' offsets' placed some same o =
+      let longer : length before ≤ length stored = omega (arith, ap length l.kept, length-take (length before) stored) in
+      record {
+        kept = sym (take-take (length before) (length stored) stored' longer) ∙ ap (λ xs. take (length before) xs) placed.kept ∙ l.kept;
+        count = omega (arith, ap length o, length-append offsets (replicate m at), length-replicate m at, l.count);
+        least = λ i lt. elim (cases_lt i j) [
+          | inl below ↦ rw (ap (λ os. get_or os i 0) o, get_or_append_left offsets (replicate m at) 0 i (omega (arith, below, l.count)))
+              (least-kept k (get_or offsets i 0) stored stored' (b (first + i)) placed.kept (l.least i below))
+          | inr from ↦
+              let is : b (first + i) ≡ b (first + j) = ap b (omega (arith, from)) ∙ same (i - j) (omega (arith, lt, from)) in
+              rw (
+                ap (λ os. get_or os i 0) o,
+                get_or-append_right offsets (replicate m at) j i 0 l.count from,
+                get_or-replicate m (i - j) at 0 (omega (arith, lt, from)),
+                is,
+              ) (rw len at placed.least)
+        ];
+        short = λ p st.
+            let more = count_different_but-mono p b first (j + 1) (j + m) (omega (arith, some)) in
+            let t : k * count_different_but p b first (j + 1) ≤ k * count_different_but p b first (j + m) = mul-le-mul_left k more in
+            elim (cases_lt (length stored) (length stored')) [
+              | inl lt ↦ let g = placed.grown lt in omega (arith, g.0, len, compacting-fresh g.1 p st, t)
+              | inr ge ↦
+                  let e = count_different_but-mono p b first j (j + 1) (omega arith) in
+                  let u : k * count_different_but p b first j ≤ k * count_different_but p b first (j + 1) = mul-le-mul_left k e in
+                  omega (arith, ge, l.short p st, t, u)
+            ];
+        drawn = λ p all pass. placed.drawn p (all j (omega (arith, some))) (l.drawn p (λ i lt. all i (omega (arith, lt))) pass);
+      }
+
   -- One more block.
   pub compacting-step : (limit at : ℕ) (stored' offsets' : List ℕ) → IsPlacedBlock limit (b (first + j)) stored stored' at
       → offsets' ≡ offsets ++ at ∷ [] → Compacting k first (j + 1) b before stored' offsets'
   compacting-step limit at stored' offsets' placed o =
-      let longer : length before ≤ length stored = omega (arith, ap length l.kept, length-take (length before) stored) in
-      record {
-        kept = sym (take-take (length before) (length stored) stored' longer) ∙ ap (λ xs. take (length before) xs) placed.kept ∙ l.kept;
-        count = omega (arith, ap length o, length-append offsets (at ∷ []), l.count);
-        least = below_more (λ i. IsLeast k (get_or offsets' i 0) stored' (b (first + i))) j
-            (λ i lt. rw (ap (λ os. get_or os i 0) o, get_or_append_left offsets (at ∷ []) 0 i (omega (arith, lt, l.count)))
-            (least-kept k (get_or offsets i 0) stored stored' (b (first + i)) placed.kept (l.least i lt)))
-            (rw (ap (λ os. get_or os j 0) o, get_or_at offsets at [] 0 j l.count) (rw len at placed.least));
-        short = λ p st. elim (cases_lt (length stored) (length stored')) [
-          | inl lt ↦ let g = placed.grown lt in omega (arith, g.0, len, compacting-fresh g.1 p st)
-          | inr ge ↦
-              let m = count_different_but-mono p b first j (j + 1) (omega arith) in
-              let t : k * count_different_but p b first j ≤ k * count_different_but p b first (j + 1) = mul-le-mul_left k m in
-              omega (arith, ge, l.short p st, t)
-        ];
-        drawn = λ p all pass. placed.drawn p (all j (omega arith)) (l.drawn p (λ i lt. all i (omega (arith, lt))) pass);
-      }
-
-  -- A block that equals the one before it.
-  pub compacting-again : (offsets' : List ℕ) → 0 < j → b (first + j) ≡ b (first + (j - 1))
-      → offsets' ≡ offsets ++ (get_or offsets (j - 1) 0) ∷ [] → Compacting k first (j + 1) b before stored offsets'
-  compacting-again offsets' some same o = compacting-step 0 (get_or offsets (j - 1) 0) stored offsets'
-      (placed-found 0 (get_or offsets (j - 1) 0) (b (first + j)) stored (rw (len, same) (l.least (j - 1) (omega (arith, some))))) o
+      compacting-run limit at 1 stored' offsets' placed (omega arith) (λ i lt. ap b (omega (arith, lt))) o
 
   -- The limit is exceeded.
   pub compacting-full : (m limit : ℕ) → j < m → OccursNowhere (b (first + j)) stored → limit < length stored

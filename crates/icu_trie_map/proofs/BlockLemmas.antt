@@ -1,9 +1,13 @@
 -- Lemmas about blocks of 16 code points.
-use Rattle.std.proofs.Common.{◌≡◌, ◌≢◌, ℕ, ◌+◌, ◌*◌, ◌/◌, ◌%◌, ◌<◌, ◌≤◌, ◌⊎◌, inl, inr, Bool, true, false, List, [], ◌∷◌, ◌++◌, length, get_or, set, replicate, take, drop, refl, sym, ◌∙◌, ap, arith, ◌-◌}
+use Rattle.std.proofs.Common.{◌≡◌, ◌≢◌, ℕ, ◌+◌, ◌*◌, ◌/◌, ◌%◌, ◌<◌, ◌≤◌, ◌⊎◌, inl, inr, Bool, true, false, List, [], ◌∷◌, ◌++◌, length, get_or, set, replicate, take, drop, refl, subst, sym, ◌∙◌, ap, arith, ◌-◌}
 use Rattle.std.proofs.lemmas.Bool.{cases_lt, cases_eq, cases_Bool, false≢true}
-use Rattle.std.proofs.lemmas.List.{get_or-set_same, get_or-set_other, length-set, get_or_default, get_or_past, same_lists, length-take, length-take-le, length-drop, get_or-take, get_or-drop, length-replicate, get_or-replicate, get_or_append_left, get_or_push, take-replicate, drop-replicate, drop-drop}
+use Rattle.std.proofs.lemmas.List.{get_or-set_same, get_or-set_other, length-set, get_or_default, get_or_past, same_lists, length-take, length-drop, get_or-take, get_or-drop, length-replicate, get_or-replicate, get_or_append_left, get_or_push, take-replicate, drop-replicate, drop-drop}
 use Rattle.std.proofs.Math.Seq.{take-add}
-use Rattle.std.proofs.Math.Nat.{mul_assoc, mul-add, zero-mul}
+use Rattle.std.specs.Bool.{⊤}
+use Rattle.std.specs.Prelude.{Option, None, Some, MatchOption, unwrap_or}
+use Rattle.std.specs.List.{zip, AllWithin, HoldsAt}
+use Rattle.std.proofs.lemmas.Slice.Zip.{get_or-zip, length-zip}
+use Rattle.std.proofs.Math.Nat.{mul_assoc, mul-add, mul-le-mul_left}
 use Rattle.std.proofs.lemmas.List.FromFn.{length-map-range_with_len, get_or-map-range_with_len}
 use Rattle.icu_trie_core.specs.Blocks.{block, window}
 use Rattle.icu_trie_map.specs.NumberMap.{code_points}
@@ -199,22 +203,40 @@ number-in xs ys n c held e = let at : c ≡ 16 * n + c % 16 = omega (arith, e) i
 pub number-in-one : (xs : List ℕ) (n c v : ℕ) → replicate 16 v ≡ block 16 xs n → c / 16 ≡ n → get_or xs c 0 ≡ v
 number-in-one xs n c v held e = number-in xs (replicate 16 v) n c held e ∙ get_or-replicate 16 (c % 16) v 0 (omega arith)
 
--- The number of a code point in a part of the blocks, none of which is mixed and all of which have this number.
-pub number-in-part : (m : List Bool) (n : List ℕ) (cs : List (List ℕ)) (first size c v : ℕ) → first + size ≤ 0x11000
-    → length n ≡ 0x11000
-    → ((i : ℕ) → i < length (take size (drop first n))
-    → (is_mixed (take size (drop first m)) i ≡ false) × (get_or (take size (drop first n)) i 0 ≡ v))
+-- A block, as whether it is mixed and its number or position, is not mixed and has this number.
+abbrev pub IsOf : ℕ → Bool × ℕ → Type 0
+IsOf v p = (p.0 ≡ false) × (p.1 ≡ v)
+
+-- `end` is the first block that need not be so, or None. Then all before it are, and otherwise all.
+pub run-before : (m : List Bool) (n : List ℕ) (v most : ℕ) (end : Option ℕ) → length m ≡ most → length n ≡ most
+    → MatchOption end (AllWithin (IsOf v) (zip m n) 0 (length (zip m n)))
+    (λ i. (i < length (zip m n)) × HoldsAt (λ _. ⊤) (zip m n) i × AllWithin (IsOf v) (zip m n) 0 i)
+    → (unwrap_or end most ≤ most)
+    × ((i : ℕ) → i < unwrap_or end most → (is_mixed m i ≡ false) × (get_or n i 0 ≡ v))
+run-before m n v most None em en all = (
+  omega arith,
+  λ i l. subst (IsOf v) (get_or-zip m n i (false, 0) (omega (arith, l, em)) (omega (arith, l, en)))
+      (all i (false, 0) (omega arith) (omega (arith, l, em, en, length-zip m n))),
+)
+run-before m n v most (Some end) em en found = (
+  omega (arith, found.0, em, en, length-zip m n),
+  λ i l. subst (IsOf v) (get_or-zip m n i (false, 0) (omega (arith, l, found.0, em, length-zip m n)) (omega (arith, l, found.0, en, length-zip m n)))
+      (found.2 i (false, 0) (omega arith) l),
+)
+
+-- The number of a code point in the first `size` blocks of a part, none of which is mixed and all of which have this number.
+pub number-in-part : (m : List Bool) (n : List ℕ) (cs : List (List ℕ)) (first most size c v : ℕ) → size ≤ most → first + size ≤ 0x11000
+    → ((i : ℕ) → i < size
+    → (is_mixed (take most (drop first m)) i ≡ false) × (get_or (take most (drop first n)) i 0 ≡ v))
     → 16 * first ≤ c → c < 16 * (first + size) → get_or (all_numbers (number_at m n cs)) c 0 ≡ v
-number-in-part m n cs first size c v there len given low high =
+number-in-part m n cs first most size c v within there given low high =
     let j : ℕ = c / 16 in let i : ℕ = j - first in
-    let at : first + i ≡ j = omega (arith, low) in let in_part : i < size = omega (arith, low, high) in
-    let long : length (take size (drop first n)) ≡ size
-    = length-take-le size (drop first n) (omega (arith, length-drop first n, len, there)) in
-    let h = given i (omega (arith, long, in_part)) in
+    let at : first + i ≡ j = omega (arith, low) in let in_part : i < most = omega (arith, low, high, within) in
+    let h = given i (omega (arith, low, high)) in
     let whole : is_mixed m j ≡ false = ap (λ x. is_mixed m x) (sym at) ∙ sym (get_or-drop first m i false)
-    ∙ sym (get_or-take size (drop first m) i false in_part) ∙ h.0 in
+    ∙ sym (get_or-take most (drop first m) i false in_part) ∙ h.0 in
     number-in-one (all_numbers (number_at m n cs)) j c (get_or n j 0) (holds-one m n cs j (omega (arith, high, there)) whole) refl
-    ∙ ap (λ x. get_or n x 0) (sym at) ∙ sym (get_or-drop first n i 0) ∙ sym (get_or-take size (drop first n) i 0 in_part) ∙ h.1
+    ∙ ap (λ x. get_or n x 0) (sym at) ∙ sym (get_or-drop first n i 0) ∙ sym (get_or-take most (drop first n) i 0 in_part) ∙ h.1
 
 -- The numbers of some blocks, and of one more.
 pub window-on : (xs : List ℕ) (first i : ℕ) → first ≤ i
@@ -223,29 +245,34 @@ window-on xs first i from = let ys : List ℕ = drop (16 * first) xs in
     ap (λ k. take k ys) (omega (arith, from)) ∙ take-add (16 * (i - first)) 16 ys ∙ ap (λ zs. take (16 * (i - first)) ys ++ take 16 zs)
     (drop-drop (16 * (i - first)) (16 * first) xs ∙ ap (λ at. drop at xs) (omega (arith, from)))
 
--- The previous block.
-pub before : (k n : ℕ) → 0 < n → k * n ≡ k * (n - 1) + k
-before k n h =
-    let e : n ≡ (n - 1) + 1 = omega (arith, h) in
-    let one : k * 1 ≡ k = omega arith in
-    ap (λ x. k * x) e ∙ mul-add k (n - 1) 1 ∙ ap (λ x. k * (n - 1) + x) one
-
 -- One block of one number, and two.
 pub block-of-one : (k n v : ℕ) → k * n + k ≤ 0x110000 → block k (replicate code_points v) n ≡ replicate k v
 block-of-one k n v inside = ap (λ xs. take k xs) (drop-replicate (k * n) code_points v)
     ∙ take-replicate k (code_points - k * n) v (omega (arith, inside, code_points-is))
 
-pub blocks-of-one : (k n v : ℕ) (xs : List ℕ) → 0 < n → k * n + k ≤ length xs
-    → ((c : ℕ) → k * (n - 1) ≤ c → c < k * n + k → get_or xs c 0 ≡ v) → block k xs n ≡ block k xs (n - 1)
-blocks-of-one k n v xs some inside one =
-    let step : k * n ≡ k * (n - 1) + k = before k n some in
-    block-is k (n - 1) xs (block k xs n) (omega (arith, step, inside)) (length-window k (k * n) xs inside) (λ i l.
-    window-read k (k * n) i xs 0 l ∙ one (k * n + i) (omega (arith, step)) (omega (arith, l))
-    ∙ sym (one (k * (n - 1) + i) (omega arith) (omega (arith, step, l))))
+pub blocks-of-one : (k n m v : ℕ) (xs : List ℕ) → k * n + k ≤ length xs → k * m + k ≤ length xs
+    → ((c : ℕ) → k * n ≤ c → c < k * n + k → get_or xs c 0 ≡ v) → ((c : ℕ) → k * m ≤ c → c < k * m + k → get_or xs c 0 ≡ v)
+    → block k xs n ≡ block k xs m
+blocks-of-one k n m v xs inside inside' one one' =
+    block-is k m xs (block k xs n) inside' (length-window k (k * n) xs inside) (λ i l.
+    window-read k (k * n) i xs 0 l ∙ one (k * n + i) (omega arith) (omega (arith, l))
+    ∙ sym (one' (k * m + i) (omega arith) (omega (arith, l))))
 
--- 16 times a number of blocks, and no block.
+-- 16 times a number of blocks.
 pub sixteen : (k n : ℕ) → k % 16 ≡ 0 → 16 * (k / 16 * n) ≡ k * n
 sixteen k n h = sym (mul_assoc 16 (k / 16) n) ∙ ap (λ x. x * n) (omega (arith, h))
 
-pub none-times : (k n : ℕ) → k ≡ 0 → k * n ≡ 0
-none-times k n h = rw h (zero-mul n)
+-- Block number n + j of k code points is in a run of blocks of 16 that starts with block number n.
+pub block-in-run : (k n j run : ℕ) → 0 < k → k % 16 ≡ 0 → j < run / (k / 16)
+    → (16 * (k / 16 * n) ≤ k * (n + j)) × (k * (n + j) + k ≤ 16 * (k / 16 * n + run))
+block-in-run k n j run some whole lt =
+    let count : ℕ = k / 16 in
+    let positive : 0 < count = omega (arith, some, whole) in
+    let fits : count * (run / count) ≤ run = omega (arith, positive) in
+    let next : j + 1 ≤ run / count = omega (arith, lt) in
+    let within : count * (j + 1) ≤ count * (run / count) = mul-le-mul_left count next in
+    let step = mul-add count j 1 in
+    let here = sixteen k n whole in
+    let there = sixteen k j whole in
+    let parts = mul-add k n j in
+    (omega (arith, here, parts), omega (arith, here, there, parts, step, fits, within, whole))

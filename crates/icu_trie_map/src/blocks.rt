@@ -253,7 +253,7 @@ impl Blocks {
             (16 * block + result) }
     {
         match self.block(block) {
-            Block::One(held) => if held == number { 16 } else { from },
+            Block::One(held) => { if held == number { 16 } else { from } }
             Block::Cells(cells) => {
                 for i in from..16 {
                     if cells[i] != number {
@@ -327,24 +327,25 @@ impl Blocks {
         0
     }
 
-    /// Returns true if none of `count` blocks from block number `first` on is mixed and all have
-    /// the same number. It reads no cells.
-    pub(crate) fn hold_one(&self, first: usize, count: usize) -> bool
+    /// Returns how many of the `most` blocks from block number `first` on hold only the number of
+    /// `first`. It reads no cells: a mixed block ends the run.
+    pub(crate) fn run_of_one(&self, first: usize, most: usize) -> usize
         requires first { first < block_count }
-        requires inside { first + count ≤ block_count }
-        ensures { IsTrue result → (c : ℕ) → 16 * first ≤ c → c < 16 * (first + count)
+        requires inside { first + most ≤ block_count }
+        ensures within { result ≤ most }
+        ensures same { (c : ℕ) → 16 * first ≤ c → c < 16 * (first + result)
             → slice_index self.now.numbers c ≡ slice_index self.now.numbers (16 * first) }
     {
-        let Block::One(number) = self.block(first) else {
-            return false;
-        };
-        for other in first + 1..first + count {
-            match self.block(other) {
-                Block::One(held) if held == number => {}
-                _ => return false,
-            }
-        }
-        true
+        let (mixed, places) = (
+            &self.mixed[first..first + most],
+            &self.places[first..first + most],
+        );
+        let number = self.places[first];
+        let end = mixed
+            .iter()
+            .zip(places)
+            .position(|(is_mixed, place)| *is_mixed || *place != number);
+        end.unwrap_or(most)
     }
 
     /// Appends the numbers of `count` blocks, from block number `first` on, to `room`.

@@ -137,22 +137,26 @@ impl NumberMap {
         blocks.used(self.last()).div_ceil(32) * 512
     }
 
-    /// Returns true only if the aligned block number `number` of `size` code points equals the
-    /// block before it.
+    /// Returns the length of a run of equal blocks: how many of the `most` aligned blocks of `size`
+    /// code points, from block number `number` on, are known to equal the first one. It is at least 1.
     ///
-    /// It compares no cells: it returns true if none of the blocks of 16 in both is mixed and all
-    /// have the same number. So it may return false for equal blocks.
-    pub fn repeats(&self, size: usize, number: usize) -> bool
+    /// It compares no cells. A block after the first one counts only if all code points of the run up
+    /// to its end have one number and no block of 16 is mixed. So further blocks may be equal.
+    pub fn repeats(&self, size: usize, number: usize, most: usize) -> usize
+        requires some { 0 < size }
         requires multiple { size % 16 ≡ 0 }
-        requires some { 0 < number }
-        requires inside { size * number + size ≤ code_point_limit }
-        ensures { IsTrue result → block size self.now number ≡ block size self.now (number - 1) }
+        requires more { 0 < most }
+        requires inside { size * (number + most) ≤ code_point_limit }
+        ensures some { 0 < result }
+        ensures within { result ≤ most }
+        ensures same { (j : ℕ) → j < result
+            → block size self.now (number + j) ≡ block size self.now number }
     {
         let Numbers::InBlocks(blocks) = &self.numbers else {
-            return true;
+            return most;
         };
         let count = size / 16;
-        blocks.hold_one(count * (number - 1), 2 * count)
+        (blocks.run_of_one(count * number, count * most) / count).max(1)
     }
 
     /// Replaces the contents of `room` by the numbers of the aligned block number `number` of

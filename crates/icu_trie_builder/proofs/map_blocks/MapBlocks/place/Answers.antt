@@ -1,10 +1,10 @@
-use Rattle.std.proofs.Common.{rules, ◌≡◌, ◌+◌, ◌-◌, ◌*◌, ◌<◌, ◌≤◌, ℕ, ◌∷◌, [], ◌++◌, Err, get_or, length, arith, ap, ◌∙◌}
-use Rattle.std.proofs.lemmas.List.{get_or_read}
+use Rattle.std.proofs.Common.{rules, ◌≡◌, ◌+◌, ◌-◌, ◌*◌, ◌<◌, ◌≤◌, ℕ, ◌++◌, Err, List, length, take, replicate, arith, ap, ◌∙◌}
+use Rattle.std.proofs.lemmas.List.{take_all}
 use Rattle.icu_zerovec.specs.CodePoints.{code_point_limit}
 use Rattle.icu_trie_builder.specs.Inside.MapBlocks.{HasBlocks, numbers_of}
 use Rattle.icu_trie_builder.specs.declared.map_blocks.MapBlocks.{MapBlocks}
 use Rattle.icu_trie_compaction.specs.declared.error.BuildError.TheVariants.{TooLarge}
-use Rattle.icu_trie_compaction.proofs.CallerLemmas.{length-window, times-below, compacting-again, compacting-step, compacting-done, compacting-short, compacting-full}
+use Rattle.icu_trie_compaction.proofs.CallerLemmas.{length-window, times-below, compacting-run, compacting-done, compacting-short, compacting-full}
 use Rattle.icu_trie_builder.proofs.map_blocks.MapBlocks.place.Goals as goal
 
 -- A block of the range is within the map, and has its length.
@@ -15,6 +15,11 @@ within b first j count has lt =
       omega (arith, fits, has.range),
       length-window b.size (b.size * (first + j)) b.map.now (omega (arith, fits, has.range, has.whole)),
     )
+
+-- Resizing a list of n numbers to n + m appends m copies of the value.
+resized : (xs ys : List ℕ) (n m len v : ℕ) → length xs ≡ n → len ≡ n → ys ≡ take (n + m) xs ++ replicate (n + m - len) v → ys ≡ xs ++ replicate m v
+resized xs ys n m len v e l is =
+    is ∙ ap (λ zs. zs ++ replicate (n + m - len) v) (take_all (n + m) xs (omega (arith, e))) ∙ ap (λ k. xs ++ replicate k v) (omega (arith, l))
 
 pub place-requires-clause-some : goal.place-requires-clause-some
 place-requires-clause-some c =
@@ -40,30 +45,17 @@ overflow_cast-offset c =
     let placed = rw (c.deref.ensures.value ∙ c.in_ok-copy_block.ensures) at c.in_ok-offset.ensures.placed in
     omega (arith, placed.least.inside, placed.capped, c.loop-j.invariant.capped, w.0, w.1, c.requires.room)
 
-pub loop-j-preserved-then-repeats : goal.loop-j-preserved-then-repeats
-loop-j-preserved-then-repeats c =
-    let v = c.loop-j.invariant in
-    let j : ℕ = c.loop-j.j in
-    let offsets = c.loop-j.offsets.items in
-    let w = within c.args.self.now _ j _ c.requires.blocks (omega arith) in
-    let before : c.args.first + j - 1 ≡ c.args.first + (j - 1) = omega (arith, c.if-j-gt0.true) in
-    let last : c.index.result.now ≡ get_or offsets (j - 1) 0 =
-    get_or_read offsets (j - 1) c.index.result.now (omega (arith, v.placed.count, c.if-j-gt0.true)) c.index.ensures 0 in
-    record {
-      placed = compacting-again _ _ _ _ _ _ _ v.placed c.requires.blocks.some w.1 c.push.new.self.items c.if-j-gt0.true
-          (c.repeats.ensures c.if-repeats.true ∙ ap (numbers_of c.args.self.now) before)
-          (c.in_ok-push.ensures.items ∙ ap (λ x. offsets ++ x ∷ []) last);
-      capped = v.capped;
-    }
-
 pub loop-j-preserved : goal.loop-j-preserved
 loop-j-preserved c =
     let v = c.loop-j.invariant in
     let w = within c.args.self.now _ c.loop-j.j _ c.requires.blocks (omega arith) in
     let placed = rw (c.deref.ensures.value ∙ c.in_ok-copy_block.ensures) at c.in_ok-offset.ensures.placed in
+    let grown : c.resize.new.self.items ≡ c.loop-j.offsets.items ++ replicate c.repeats.result c.in_ok-offset.field-0
+    = resized c.loop-j.offsets.items c.resize.new.self.items c.loop-j.j c.repeats.result _ _ v.placed.count (omega (arith, v.placed.count)) c.in_ok-resize.ensures.items in
     record {
-      placed = compacting-step _ _ _ _ _ _ _ v.placed c.requires.blocks.some w.1
-          0x3ffff c.in_ok-offset.offset c.place.new.self c.push-in-loop-j.new.self.items placed c.in_ok-push-2.ensures.items;
+      within = omega (arith, c.repeats.ensures.within, c.loop-j-test.true);
+      placed = compacting-run _ _ _ _ _ _ _ v.placed c.requires.blocks.some w.1
+          0x3ffff c.in_ok-offset.field-0 c.repeats.result c.place.new.self _ placed c.repeats.ensures.some c.repeats.ensures.same grown;
       capped = omega (arith, placed.capped, v.capped, w.1);
     }
 
