@@ -31,19 +31,6 @@ EDITS = {
     "icu_trie/map_value": [
         (r"(\n +)(?=let index = self\.index)", r"\1assert_eq!(data.len(), self.data.len());\1", 1),
     ],
-    # serde reads tables from any format.
-    "icu_trie_formats/trie_toml": [
-        (
-            r"(?m)^( *)(?=use toml\b|pub fn from_table\b|fn (?:fields_of|(?:optional_)?numbers?_(?:at|of|of_items)"
-            r"|value_at|items_of)\b)",
-            r'\1#[cfg(feature = "toml")]\n\1',
-            10,
-        ),
-        (r"(?m)^(?=struct TomlFields)", "pub(crate) ", 1),
-        (r"(?m)^(?=use crate::support::\{?AllocError\}?;)", '#[cfg(feature = "toml")]\n', 1),
-        (r"(\n +)(?=value_width: u8,\n)", r"\1#[allow(dead_code)] // The array that is there says the width.\1", 1),
-        (r"(?m)^    (?=(?:index|data_8|data_16|data_32|\w+_width|\w+_start|\w+_offset|trie_type|null_value|fields): [\w<>]+,$)", "    pub(crate) ", 12),
-    ],
     # A constant cannot read a value of any type, so the error value is not stored beside the data.
     "icu_trie/cptrie": [
         # One test for all cells of the fast index.

@@ -25,7 +25,7 @@ use bekstaudi::codepointtrie::planes::get_planes_trie;
 let planes = get_planes_trie();
 assert_eq!(planes.get32(0x1F600), 1);
 assert_eq!(planes.get32(0x10FFFF), 16);
-//# trie_toml from_table
+//# trie_toml/tables from_table
 use bekstaudi::codepointtrie::CodePointTrie;
 use bekstaudi::codepointtrie::trie_toml::CodePointTrieToml;
 

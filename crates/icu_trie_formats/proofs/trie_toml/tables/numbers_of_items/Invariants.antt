@@ -3,7 +3,7 @@ use Rattle.toml.specs.View.{view}
 use Rattle.icu_zerovec.specs.FirstFault.{read_from}
 use Rattle.icu_trie_formats.specs.TrieToml.{number_or, numbers_of}
 use Rattle.icu_zerovec.proofs.CallerLemmas.{with_front}
-use Rattle.icu_trie_formats.proofs.trie_toml.numbers_of_items.Given as goal
+use Rattle.icu_trie_formats.proofs.trie_toml.tables.numbers_of_items.Given as goal
 
 -- The numbers so far, followed by those of the items that are left, are all numbers.
 abbrev pub invariant-loop-item : goal.invariant-loop-item

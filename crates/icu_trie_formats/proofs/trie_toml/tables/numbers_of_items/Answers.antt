@@ -3,7 +3,7 @@ use Rattle.std.specs.Option.{ok_or}
 use Rattle.toml.specs.View.{view}
 use Rattle.icu_trie_formats.specs.TrieToml.{number_or, out_of_range}
 use Rattle.icu_zerovec.proofs.CallerLemmas.{stops, goes_on, at_end}
-use Rattle.icu_trie_formats.proofs.trie_toml.numbers_of_items.Goals as goal
+use Rattle.icu_trie_formats.proofs.trie_toml.tables.numbers_of_items.Goals as goal
 
 pub returns-in_default-number_of-clause-err : goal.returns-in_default-number_of-clause-err
 returns-in_default-number_of-clause-err g c =

@@ -2,7 +2,7 @@ use Rattle.std.proofs.Common.{Some, option_map, map, sym, ap, ◌∙◌}
 use Rattle.toml.specs.View.{view}
 use Rattle.icu_trie_formats.specs.TrieToml.{list_of}
 use Rattle.icu_trie_formats.proofs.TomlLemmas.{list_of-items_view}
-use Rattle.icu_trie_formats.proofs.trie_toml.items_of.Goals as goal
+use Rattle.icu_trie_formats.proofs.trie_toml.tables.items_of.Goals as goal
 
 pub returns-in-Some : goal.returns-in-Some
 returns-in-Some c = ap Some (ap (map view) c.as_slice.ensures.value ∙ sym (list_of-items_view c.in-Some.items.now.items))
