@@ -6,7 +6,7 @@ use bekstaudi::codepointinvlist::CodePointInversionList;
 use bekstaudi::codepointtrie::{
     CodePointTrie, CodePointTrieHeader, FastCodePointTrie, TrieType, text,
 };
-use bekstaudi::zerovec::{PotentialCodePoint, ZeroVec};
+use bekstaudi::zerovec::{PotentialCodePoint, ZeroSlice, ZeroVec};
 use bekstaudi::{trie_values, zeroslice};
 
 #[cfg(not(test))]
@@ -44,6 +44,16 @@ static SET: CodePointInversionList<'static> =
     CodePointInversionList::from_static(zeroslice!(PotentialCodePoint as u32; [0x41, 0x5B]));
 static WORDS: Char16Trie<'static> =
     Char16Trie::from_static(zeroslice!(u16; [0x31, 0x61, 0x62, 0x8003]));
+
+// rustc rejects a constant that takes as long to evaluate as this one, unless the macro allows the lint
+// `long_running_const_eval`.
+static LARGE: ZeroSlice<'static, u8> = zeroslice!(u8; [7; 500_000]);
+
+/// Returns true if the large table has its last cell, and none after it.
+#[unsafe(no_mangle)]
+pub extern "C" fn is_whole() -> bool {
+    LARGE.get(499_999) == Some(7) && LARGE.get(500_000).is_none()
+}
 
 #[unsafe(no_mangle)]
 pub extern "C" fn kind_of(c: u32) -> u8 {
@@ -100,5 +110,5 @@ pub extern "C" fn rejects() -> bool {
 #[cfg(test)]
 #[test]
 fn tables_are_copied_and_rejected() {
-    assert!(copies() && rejects());
+    assert!(copies() && rejects() && is_whole());
 }
