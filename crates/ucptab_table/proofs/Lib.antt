@@ -6,4 +6,5 @@ pub mod Printed
 pub mod RowSteps
 pub mod WordSteps
 mod Asked
+mod PatternLemmas
 mod RangeRuns

@@ -1,4 +1,5 @@
-//! The engine of `ucptab`: reads rows, and prints the values of a trie that is built of them.
+//! The engine of `ucptab`: reads rows, and prints the values of a trie that is built of them. For
+//! `ucptrie`, `pattern` writes the texts of source.
 #![tactic(auto)]
 
 ghost use Rattle.std.specs.Prelude.{◌≡◌, ◌≢◌, ◌⊎◌, ℕ, nat_eq, ◌<◌, ◌≤◌, List, [], ◌∷◌, ◌++◌, None, map, IfOk, IfErr, IfSome, string_bytes};
@@ -16,6 +17,7 @@ pub mod fault;
 pub mod hint;
 pub mod input;
 pub mod message;
+pub mod pattern;
 pub mod rows;
 pub mod streams;
 pub mod text;

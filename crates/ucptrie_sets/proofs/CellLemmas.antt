@@ -2,8 +2,8 @@
 use Rattle.std.proofs.Common.{◌≡◌, ℕ, ◌+◌, ◌-◌, ◌^◌, ◌<◌, false, List, [], ◌∷◌, ◌++◌, length, drop, get_or, append_assoc, append-nil, add-one, drop-cons, refl, sym, ap, ◌∙◌, arith}
 use Rattle.std.specs.Fmt.{digits, padded_integral, format_spec, char_count}
 use Rattle.std.proofs.Math.Nat.{zero-sub}
-use Rattle.ucptrie_source.specs.Patterns.{number_text}
-use Rattle.ucptrie_source.specs.declared.pattern.Number.TheVariants.{Hexadecimal}
+use Rattle.ucptab_table.specs.Patterns.{number_text}
+use Rattle.ucptab_table.specs.declared.pattern.Number.TheVariants.{Hexadecimal}
 use Rattle.ucptrie_sets.specs.SetSource.{cells_from, gap}
 
 -- `{:x}`

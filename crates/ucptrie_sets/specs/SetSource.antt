@@ -3,8 +3,8 @@ use Rattle.std.specs.Prelude.{◌≡◌, ℕ, ◌+◌, ◌%◌, ◌==◌, List, 
 use Rattle.icu_zerovec.specs.CodePoints.{code_point_limit}
 use Rattle.icu_invlist.specs.InversionList.{members_below, ranges_of}
 use Rattle.icu_frozen_sets.specs.CodePointBits.{AreTablesOf, BitTables}
-use Rattle.ucptrie_source.specs.Patterns.{filled, named, number_text}
-use Rattle.ucptrie_source.specs.declared.pattern.Number.TheVariants.{Decimal, Hexadecimal}
+use Rattle.ucptab_table.specs.Patterns.{filled, named, number_text}
+use Rattle.ucptab_table.specs.declared.pattern.Number.TheVariants.{Decimal, Hexadecimal}
 use Rattle.ucptrie_sets.specs.FrozenWords.{AreWordsOf}
 
 -- ---- What the texts have in common

@@ -3,8 +3,8 @@ use Rattle.std.specs.Prelude.{ℕ, List, [], ◌∷◌, ◌++◌, codes}
 use Rattle.std.specs.List.{flat_map}
 use Rattle.std.specs.declared.ops.RangeInclusive.{RangeInclusive}
 use Rattle.icu_invlist.specs.InversionList.{ranges_of}
-use Rattle.ucptrie_source.specs.Patterns.{filled, named}
-use Rattle.ucptrie_source.specs.declared.pattern.Number.TheVariants.{Hexadecimal}
+use Rattle.ucptab_table.specs.Patterns.{filled, named}
+use Rattle.ucptab_table.specs.declared.pattern.Number.TheVariants.{Hexadecimal}
 
 -- What precedes the ranges: a property with this long and short name.
 unfoldable pub toml_head : List ℕ → List ℕ

@@ -9,8 +9,8 @@ use crate::source::{
 use icu_frozen_sets::frozen::FrozenTables;
 use icu_invlist::codepointinvlist::CodePointInversionList;
 use std::alloc::{AllocError, Global};
-use ucptrie_source::pattern::Number::Decimal;
-use ucptrie_source::pattern::{push_named, push_pattern};
+use ucptab_table::pattern::Number::Decimal;
+use ucptab_table::pattern::{push_named, push_pattern};
 
 /// What precedes the boundaries. `@` is replaced by the name, and `%` by a number.
 const BOUNDARIES: &str = "

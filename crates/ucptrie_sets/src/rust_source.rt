@@ -6,8 +6,8 @@ use crate::source::{frozen_of, push_boundaries, push_indices, push_words, title_
 use icu_frozen_sets::frozen::FrozenTables;
 use icu_invlist::codepointinvlist::CodePointInversionList;
 use std::alloc::{AllocError, Global};
-use ucptrie_source::pattern::Number::Decimal;
-use ucptrie_source::pattern::{push_named, push_pattern};
+use ucptab_table::pattern::Number::Decimal;
+use ucptab_table::pattern::{push_named, push_pattern};
 
 /// The search in the boundaries.
 const SEARCH: &str = "

@@ -1,15 +1,15 @@
 //! What the sources in C and in Rust have in common.
 ghost use Rattle.std.specs.Prelude.{◌≡◌, ◌+◌, ◌*◌, ◌^◌, ◌<◌, ◌≤◌, ◌++◌, IfOk, OnOk, length, string_bytes};
-ghost use Rattle.ucptrie_source.specs.Patterns.{number_text};
-ghost use Rattle.ucptrie_source.specs.declared.pattern.Number.TheVariants.{Hexadecimal};
+ghost use Rattle.ucptab_table.specs.Patterns.{number_text};
+ghost use Rattle.ucptab_table.specs.declared.pattern.Number.TheVariants.{Hexadecimal};
 ghost use Rattle.ucptrie_sets.specs.FrozenWords.{packed, word_at};
 ghost use Rattle.ucptrie_sets.specs.SetSource.{cells_from, gap, title};
 
 use icu_frozen_sets::frozen::FrozenCodePointSet;
 use icu_invlist::codepointinvlist::CodePointInversionList;
 use std::alloc::{AllocError, Global};
-use ucptrie_source::pattern::Number::Decimal;
-use ucptrie_source::pattern::push_pattern;
+use ucptab_table::pattern::Number::Decimal;
+use ucptab_table::pattern::push_pattern;
 
 /// How many cells a line has.
 const CELLS_IN_LINE: usize = 8;

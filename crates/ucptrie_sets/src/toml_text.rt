@@ -5,8 +5,8 @@ ghost use Rattle.ucptrie_sets.specs.SetToml.{toml_head, toml_range, toml_ranges,
 use icu_invlist::codepointinvlist::CodePointInversionList;
 use std::alloc::{AllocError, Global};
 use std::ops::RangeInclusive;
-use ucptrie_source::pattern::Number::Hexadecimal;
-use ucptrie_source::pattern::{push_named, push_pattern};
+use ucptab_table::pattern::Number::Hexadecimal;
+use ucptab_table::pattern::{push_named, push_pattern};
 
 /// What precedes the ranges. Each `@` is replaced by the name.
 const HEAD: &str = "\

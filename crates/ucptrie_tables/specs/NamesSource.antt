@@ -3,8 +3,8 @@ use Rattle.std.specs.Prelude.{ℕ, ◌==◌, ◌&&◌, nat_le, nat_lt, Bool, tru
 use Rattle.std.specs.Char.{to_ascii_uppercase}
 use Rattle.std.specs.List.{flat_map}
 use Rattle.ucd_files.specs.declared.names.Name.{Name}
-use Rattle.ucptrie_source.specs.Patterns.{filled, named}
-use Rattle.ucptrie_source.specs.declared.pattern.Number.TheVariants.{Decimal}
+use Rattle.ucptab_table.specs.Patterns.{filled, named}
+use Rattle.ucptab_table.specs.declared.pattern.Number.TheVariants.{Decimal}
 use Rattle.ucptrie_tables.specs.ValueIdentifiers.{enum_name, listed, AreValuesOf}
 use Rattle.ucptrie_tables.specs.declared.value_names.EnumValue.{EnumValue}
 

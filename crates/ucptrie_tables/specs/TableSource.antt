@@ -4,9 +4,9 @@ use Rattle.icu_trie_core.specs.Format.{fast_limit, index1_start}
 use Rattle.icu_trie_core.specs.ValueNumbers.{type_number}
 use Rattle.icu_trie_core.specs.declared.header.TrieType.{TrieType}
 use Rattle.icu_trie_core.specs.declared.header.TrieType.TheVariants.{Fast, Small}
-use Rattle.ucptrie_source.specs.Patterns.{cell_number, filled, gap, named, number_text}
-use Rattle.ucptrie_source.specs.declared.pattern.Number.{Number}
-use Rattle.ucptrie_source.specs.declared.pattern.Number.TheVariants.{Decimal, Hexadecimal}
+use Rattle.ucptab_table.specs.Patterns.{cell_number, filled, gap, named, number_text}
+use Rattle.ucptab_table.specs.declared.pattern.Number.{Number}
+use Rattle.ucptab_table.specs.declared.pattern.Number.TheVariants.{Decimal, Hexadecimal}
 use Rattle.ucptrie_tables.specs.ValueWidth.{bits_of, bytes_of, code_of}
 use Rattle.ucptrie_tables.specs.declared.c_source.TheConstants.{LOOK_UP}
 use Rattle.ucptrie_tables.specs.declared.rust_source.TheConstants.{LOOK_UP as rust_look_up}

@@ -6,8 +6,8 @@ use crate::cells::{push_data, push_index};
 use crate::source::{header_numbers, index1_offset, push_sizes};
 use crate::table::Table;
 use std::alloc::{AllocError, Global};
-use ucptrie_source::pattern::Number::{Decimal, Hexadecimal};
-use ucptrie_source::pattern::{push_named, push_pattern};
+use ucptab_table::pattern::Number::{Decimal, Hexadecimal};
+use ucptab_table::pattern::{push_named, push_pattern};
 
 /// The look-up in the three stages of the format, without ICU. Each `@` is replaced by the
 /// name.

@@ -7,7 +7,7 @@ use crate::table::Table;
 use icu_trie::value::TrieValue;
 use icu_zerovec::ZeroSlice;
 use std::alloc::AllocError;
-use ucptrie_source::pattern::push_cell;
+use ucptab_table::pattern::push_cell;
 
 /// Appends the cells' numbers, sixteen to a line. Every line but the first starts with the indent
 /// (usrc_writeArray).

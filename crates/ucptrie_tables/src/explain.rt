@@ -8,8 +8,8 @@ use crate::source::{index1_offset, type_name};
 use crate::table::Table;
 use icu_trie::header::TrieType;
 use std::alloc::{AllocError, Global};
-use ucptrie_source::pattern::Number::Decimal;
-use ucptrie_source::pattern::push_pattern;
+use ucptab_table::pattern::Number::Decimal;
+use ucptab_table::pattern::push_pattern;
 
 /// Appends the line about a cell: which array it is in, its index, its value, and what it is. An
 /// untrusted trie may lack it.

@@ -7,8 +7,8 @@ use crate::value_names::name_length;
 use std::alloc::{AllocError, Global};
 use std::collections::BTreeMap;
 use ucd_files::names::Name;
-use ucptrie_source::pattern::Number::Decimal;
-use ucptrie_source::pattern::push_number;
+use ucptab_table::pattern::Number::Decimal;
+use ucptab_table::pattern::push_number;
 
 /// Sets the name of its number, unless the number has a name that is as long.
 fn set_longest<'a>(

@@ -6,8 +6,8 @@ use crate::cells::{push_data, push_index};
 use crate::source::{index1_offset, push_sizes, type_code};
 use crate::table::Table;
 use std::alloc::{AllocError, Global};
-use ucptrie_source::pattern::Number::{Decimal, Hexadecimal};
-use ucptrie_source::pattern::push_pattern;
+use ucptab_table::pattern::Number::{Decimal, Hexadecimal};
+use ucptab_table::pattern::push_pattern;
 
 /// The end of the data, and the look-up, by the three stages of the format.
 const LOOK_UP: &str = "

@@ -11,9 +11,9 @@ use crate::sizes::bounds_of;
 use crate::source::type_name;
 use crate::table::Table;
 use std::alloc::{AllocError, Global};
+use ucptab_table::pattern::Number::{Decimal, Hexadecimal};
+use ucptab_table::pattern::push_pattern;
 use ucptab_table::text::{answers_text, ranges_text};
-use ucptrie_source::pattern::Number::{Decimal, Hexadecimal};
-use ucptrie_source::pattern::push_pattern;
 
 /// The lines about the header.
 const HEADER: &str = "\

@@ -10,8 +10,8 @@ use crate::table::Table;
 use crate::width::ValueWidth;
 use icu_trie::header::TrieType;
 use std::alloc::AllocError;
-use ucptrie_source::pattern::Number::{self, Decimal, Hexadecimal};
-use ucptrie_source::pattern::push_pattern;
+use ucptab_table::pattern::Number::{self, Decimal, Hexadecimal};
+use ucptab_table::pattern::push_pattern;
 
 /// Returns whether a name in C and in Rust can have a byte: an ASCII letter or digit, or `_`.
 fn is_name_byte(byte: u8) -> bool

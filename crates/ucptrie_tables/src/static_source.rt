@@ -7,8 +7,8 @@ ghost use Rattle.ucptrie_tables.specs.declared.value_names.EnumValue.{EnumValue}
 use crate::value_names::{EnumValue, MOST, enum_name, enum_values, highest_of, push_values};
 use std::alloc::{AllocError, Global};
 use ucd_files::names::Name;
-use ucptrie_source::pattern::Number::Decimal;
-use ucptrie_source::pattern::{push_named, push_pattern};
+use ucptab_table::pattern::Number::Decimal;
+use ucptab_table::pattern::{push_named, push_pattern};
 
 /// What precedes the values of the enum. `@` is replaced by the name of the module.
 const ENUM: &str = "

@@ -6,8 +6,8 @@ use crate::cells::{push_data, push_index};
 use crate::source::header_numbers;
 use crate::table::Table;
 use std::alloc::{AllocError, Global};
-use ucptrie_source::pattern::Number::Decimal;
-use ucptrie_source::pattern::push_pattern;
+use ucptab_table::pattern::Number::Decimal;
+use ucptab_table::pattern::push_pattern;
 
 /// What follows the data: the numbers of the header.
 const HEADER: &str = "

@@ -4,7 +4,7 @@ ghost use Rattle.std.specs.Borrow.{Bor};
 ghost use Rattle.std.specs.Char.{is_ascii_digit};
 ghost use Rattle.std.specs.List.{flat_map, list_all, list_any};
 ghost use Rattle.std.specs.Str.{bytes_eq};
-ghost use Rattle.ucptrie_source.specs.Patterns.{named};
+ghost use Rattle.ucptab_table.specs.Patterns.{named};
 ghost use Rattle.ucptrie_tables.specs.NamesSource.{c_enum, c_enum_head, has_enum, highest_of, rust_arm, rust_attributes, rust_conversion, rust_conversion_end, rust_enum, rust_enum_head, rust_of, rust_titled, value_line, value_lines, AreRustValues};
 ghost use Rattle.ucptrie_tables.specs.Source.{has_names};
 ghost use Rattle.ucptrie_tables.specs.declared.value_names.EnumValue.{EnumValue};
@@ -14,8 +14,8 @@ use crate::written::Form;
 use std::alloc::{AllocError, Global};
 use ucd_files::kind::are_digits;
 use ucd_files::names::Name;
-use ucptrie_source::pattern::Number::Decimal;
-use ucptrie_source::pattern::{push_named, push_number, push_pattern};
+use ucptab_table::pattern::Number::Decimal;
+use ucptab_table::pattern::{push_named, push_number, push_pattern};
 
 /// How many names an enum is made of at most. More are no enum that a program would use.
 pub const MOST: usize = 4096;

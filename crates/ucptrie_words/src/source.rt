@@ -1,8 +1,8 @@
 //! The units of a trie as source in C and in Rust.
 use icu_zerovec::ZeroSlice;
 use std::alloc::{AllocError, Global};
-use ucptrie_source::pattern::Number::Decimal;
-use ucptrie_source::pattern::{push_cell, push_pattern};
+use ucptab_table::pattern::Number::Decimal;
+use ucptab_table::pattern::{push_cell, push_pattern};
 
 /// What precedes the units in C. `@` is replaced by the name, and `%` by the number of units, of
 /// bytes, and of units again.

@@ -1,7 +1,7 @@
 use Rattle.std.proofs.Common.{[], ◌≡◌, ◌++◌, ◌∙◌, append-nil, drop, get_or, string_bytes, sym, ap, arith}
 use Rattle.std.proofs.lemmas.List.{drop_all}
-use Rattle.ucptrie_source.specs.Patterns.{number_text}
-use Rattle.ucptrie_source.specs.declared.pattern.Number.TheVariants.{Hexadecimal}
+use Rattle.ucptab_table.specs.Patterns.{number_text}
+use Rattle.ucptab_table.specs.declared.pattern.Number.TheVariants.{Hexadecimal}
 use Rattle.ucptrie_sets.specs.FrozenWords.{packed}
 use Rattle.ucptrie_sets.specs.SetSource.{cells_from, gap}
 use Rattle.ucptrie_sets.proofs.CellLemmas.{cells-more}

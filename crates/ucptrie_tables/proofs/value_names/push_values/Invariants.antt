@@ -1,5 +1,5 @@
 use Rattle.std.proofs.Common.{◌≡◌, ◌++◌, take, string_bytes}
-use Rattle.ucptrie_source.specs.Patterns.{named}
+use Rattle.ucptab_table.specs.Patterns.{named}
 use Rattle.ucptrie_tables.specs.NamesSource.{value_lines}
 use Rattle.ucptrie_tables.proofs.value_names.push_values.Given as goal
 

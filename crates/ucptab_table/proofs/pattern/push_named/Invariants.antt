@@ -1,7 +1,7 @@
 use Rattle.std.proofs.Common.{◌≡◌, ◌++◌, length, string_bytes}
 use Rattle.std.specs.Str.{IsUtf8}
-use Rattle.ucptrie_source.specs.Patterns.{named}
-use Rattle.ucptrie_source.proofs.pattern.push_named.Given as goal
+use Rattle.ucptab_table.specs.Patterns.{named}
+use Rattle.ucptab_table.proofs.pattern.push_named.Given as goal
 
 -- the text so far and what is left give the whole, and what is left is text
 abbrev pub invariant-loop-piece : goal.invariant-loop-piece

@@ -5,8 +5,8 @@ use Rattle.std.specs.Fmt.{digits, padded_integral, format_spec, char_count}
 use Rattle.std.proofs.lemmas.List.{append-nil}
 use Rattle.std.proofs.Math.Nat.{zero-sub}
 use Rattle.std.proofs.lemmas.Bool.Decides.{nat_tests}
-use Rattle.ucptrie_source.specs.Patterns.{filled, first_text, named}
-use Rattle.ucptrie_source.specs.declared.pattern.Number.{Number}
+use Rattle.ucptab_table.specs.Patterns.{filled, first_text, named}
+use Rattle.ucptab_table.specs.declared.pattern.Number.{Number}
 
 -- a piece without `@` stays as it is
 pub named-without : (name piece : List ℕ) → ((i : ℕ) → i < length piece → get_or piece i 0 ≢ 64) → named name piece ≡ piece

@@ -1,6 +1,6 @@
 //! Texts with a name and numbers in them.
 ghost use Rattle.std.specs.Prelude.{◌≡◌, ◌++◌, drop, IfOk, OnOk, string_bytes};
-ghost use Rattle.ucptrie_source.specs.Patterns.{cell_number, filled, first_text, gap, named, number_text};
+ghost use Rattle.ucptab_table.specs.Patterns.{cell_number, filled, first_text, gap, named, number_text};
 
 use std::alloc::AllocError;
 

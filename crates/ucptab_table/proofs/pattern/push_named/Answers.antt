@@ -1,8 +1,8 @@
 use Rattle.std.proofs.Common.{Some, None, lit<, refl, rules, string_bytes}
 use Rattle.std.proofs.lemmas.Str.{IsUtf8-drop}
 use Rattle.std.proofs.lemmas.Str.Pattern.{split_parts}
-use Rattle.ucptrie_source.proofs.PatternLemmas.{named-more, named-last}
-use Rattle.ucptrie_source.proofs.pattern.push_named.Goals as goal
+use Rattle.ucptab_table.proofs.PatternLemmas.{named-more, named-last}
+use Rattle.ucptab_table.proofs.pattern.push_named.Goals as goal
 
 pub loop-piece-init : goal.loop-piece-init
 loop-piece-init c = record { whole = refl; utf8 = c.utf8.pattern }

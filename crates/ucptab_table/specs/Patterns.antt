@@ -2,8 +2,8 @@
 use Rattle.std.specs.Prelude.{ℕ, ◌==◌, ◌%◌, nat_le, List, [], ◌∷◌, ◌++◌, codes, decimal, drop, false, if◌then◌else◌}
 use Rattle.std.specs.Fmt.{digits}
 use Rattle.std.specs.List.{flat_map}
-use Rattle.ucptrie_source.specs.declared.pattern.Number.{Number}
-use Rattle.ucptrie_source.specs.declared.pattern.Number.TheVariants.{Decimal, Hexadecimal}
+use Rattle.ucptab_table.specs.declared.pattern.Number.{Number}
+use Rattle.ucptab_table.specs.declared.pattern.Number.TheVariants.{Decimal, Hexadecimal}
 
 -- A pattern with a name in place of each `@`.
 abbrev pub named : List ℕ → List ℕ → List ℕ
