@@ -47,7 +47,7 @@ def with_paths(crate, tokens):
     made = []
     for at, it in enumerate(tokens):
         is_path = tokens[at + 1 : at + 3] == [":", ":"] and (at == 0 or tokens[at - 1] != ":")
-        if is_path and it.startswith(("bzip2", "icu", "ucp", "ucd")):
+        if is_path and it.startswith(("icu", "ucp", "ucd")):
             made += ["crate", ":", ":"]
         made.append(it)
         if is_path and it == "crate" and tokens[at + 3] not in SHARED:

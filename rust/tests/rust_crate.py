@@ -134,7 +134,7 @@ def add_tests(made, folder):
     write(f"{folder}/Cargo.toml", needed, "a")
     names = "".join(
         f"#[cfg(test)]\n#[allow(dead_code, unused_imports, unused_variables)]\nmod {name};\n"
-        for name in ["ledger", "runtime", "refusals", "memory", "icu_collections", "tables", "callers", "compressed", "flags", *FORMS, *TESTED]
+        for name in ["ledger", "runtime", "refusals", "memory", "icu_collections", "tables", "callers", "flags", *FORMS, *TESTED]
     )
     write(f"{folder}/src/lib.rs", f"#[cfg(test)]\nextern crate std;\n{names}", "a")
 

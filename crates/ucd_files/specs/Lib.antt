@@ -8,5 +8,6 @@ pub mod Choices
 pub mod Coverage
 pub mod MissingValues
 pub mod Titles
+pub mod Compressions
 pub mod Messages
 pub mod Inside

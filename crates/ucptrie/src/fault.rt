@@ -1,6 +1,18 @@
 //! Why the program fails: the line that it prints, and the status that it ends with.
 use std::alloc::{AllocError, AllocFailed, Global};
 use std::fmt;
+use ucd_files::compression::Compression;
+
+/// An input that is compressed.
+#[derive(Drop)]
+pub struct CompressedInput {
+    /// What it was read from.
+    pub name: String,
+    /// How it is compressed.
+    pub how: Compression,
+    /// The option that names it, with a space, or nothing.
+    pub option: &'static str,
+}
 
 /// Why the program fails.
 #[derive(Drop)]
@@ -9,6 +21,8 @@ pub enum Fault {
     Arguments(String),
     /// Something else is, as this line says.
     Said(String),
+    /// An input is compressed. The line names the command, so its caller makes it.
+    Compressed(CompressedInput),
     /// An allocation failed.
     Memory,
     /// The reader of standard output has closed the pipe.
@@ -33,7 +47,7 @@ impl Fault {
         match self {
             Fault::Arguments(line) | Fault::Said(line) => Some(line.as_str()),
             Fault::Memory => Some("no memory"),
-            Fault::ClosedPipe => None,
+            Fault::Compressed(_) | Fault::ClosedPipe => None,
         }
     }
 
@@ -42,8 +56,8 @@ impl Fault {
     pub fn status(&self, is_diff: bool) -> u8 {
         match self {
             Fault::Arguments(_) => 2,
-            Fault::Said(_) | Fault::Memory if is_diff => 2,
-            Fault::Said(_) | Fault::Memory | Fault::ClosedPipe => 1,
+            Fault::Said(_) | Fault::Compressed(_) | Fault::Memory if is_diff => 2,
+            Fault::Said(_) | Fault::Compressed(_) | Fault::Memory | Fault::ClosedPipe => 1,
         }
     }
 }

@@ -32,8 +32,9 @@ mod words;
 
 use crate::asked::asked;
 use crate::build::build;
+use crate::compressed::compressed_line;
 use crate::convert::convert;
-use crate::fault::{Fault, about, about_arguments};
+use crate::fault::{Fault, about, about_arguments, said};
 use crate::heading::with_heading;
 use crate::names::test_name;
 use crate::offsets::{Start, start_of};
@@ -247,6 +248,10 @@ fn status_of(rt: &HostRuntime, matches: &ArgMatches<'_>) -> u8 {
     };
     match run(rt, name, matches) {
         Ok(status) => status,
+        Err(Fault::Compressed(input)) => {
+            let fault = said(compressed_line(rt.alloc(), name, &input));
+            failed(rt, &fault, name == "diff")
+        }
         Err(fault) => failed(rt, &fault, name == "diff"),
     }
 }

@@ -1,6 +1,6 @@
 //! The program ucptrie: crates/ucptrie, crates/ucptrie_sets, crates/ucptrie_tables,
-//! crates/ucptrie_words, crates/bzip2_reader, crates/ucd_files and crates/ucptab_table without their
-//! proofs, over `bekstaudi`, `clap`, `serde_json` and `toml`.
+//! crates/ucptrie_words, crates/ucd_files and crates/ucptab_table without their proofs, over
+//! `bekstaudi`, `clap`, `serde_json` and `toml`.
 #![deny(unsafe_code)]
 // Each module imports the same names of `host` and `support`. What the proved sources have in another
 // form than clippy asks for is allowed. A format has whole lines.
@@ -19,8 +19,6 @@
 
 extern crate alloc;
 
-#[allow(dead_code, unused_variables)]
-mod bzip2_reader;
 #[allow(dead_code)]
 mod clap;
 mod host;

@@ -1,6 +1,0 @@
-use Rattle.bzip2_reader.specs.Inside.Readers.{IsLater}
-use Rattle.bzip2_reader.proofs.symbols.read_all_codes.Given as goal
-
--- the reader has only read on
-abbrev pub invariant-loop : goal.invariant-loop
-invariant-loop l = IsLater l.initial.reader l.reader

@@ -1,6 +1,0 @@
-use Rattle.bzip2_reader.specs.Inside.Readers.{IsLater}
-use Rattle.bzip2_reader.proofs.symbols.read_used.Given as goal
-
--- the reader has only read on
-abbrev pub invariant-loop-row : goal.invariant-loop-row
-invariant-loop-row l = IsLater l.initial.reader l.reader

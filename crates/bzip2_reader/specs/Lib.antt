@@ -1,4 +1,0 @@
-pub mod Bits
-pub mod Checksums
-pub mod Streams
-pub mod Inside
