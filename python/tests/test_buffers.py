@@ -2,7 +2,6 @@
 import array
 import ctypes
 import mmap
-import os
 import tempfile
 import tracemalloc
 import unittest

@@ -11,7 +11,6 @@ ITEM = re.compile(
     r"(?P<kind>fn|struct|enum|trait|type|static|const) (?P<name>\w+)",
     re.M,
 )
-ATTRIBUTE = re.compile(r"^\s*(?:#!?\[.*|.*\)\]$)")
 # Docs that leave their text to another item's.
 BORROWED = re.compile(r"(?:As|Like) (?:\[|`|in\b|the one)|The same (?:as|of|by|for)\b|Plainly\b|See (?:\[|`)")
 PANICKING = re.compile(r"\b(?:panic|assert|assert_eq|unreachable)!\(|\.(?:unwrap|expect)\(")
