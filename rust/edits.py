@@ -44,7 +44,6 @@ EDITS = {
         (r"(const TRIE_TYPE: TrieType;\n)", rf"\1{UNTYPED}", 1),
         (r"(const TRIE_TYPE: TrieType = TrieType::\w+;\n)", rf"\1{UNTYPED_BODIES}", 2),
     ],
-    ],
 }
 
 
