@@ -31,14 +31,6 @@ EDITS = {
     "icu_trie/map_value": [
         (r"(\n +)(?=let index = self\.index)", r"\1assert_eq!(data.len(), self.data.len());\1", 1),
     ],
-    # A constant cannot read a value of any type, so the error value is not stored beside the data.
-    "icu_trie/cptrie": [
-        # One test for all cells of the fast index.
-        (
-            r"( +)(?=for i in 0\.\.half \{\n)",
-            r"\1let index: ZeroSlice<'_, u16> = ZeroSlice::from_packed(&index.as_bytes()[..4 * half]);\n\1",
-            1,
-        ),
     ],
     "icu_trie/typed": [
         (r"(const TRIE_TYPE: TrieType;\n)", rf"\1{UNTYPED}", 1),

@@ -28,10 +28,12 @@ fn fast_block_passes(trie_type: TrieType, index: ZeroSlice<'_, u16>, len: usize)
     ensures { result ≡ passes_data trie_type (slice_values index.entry) len }
 {
     let half = trie_type.fast_index_len() / 2;
+    // One bounds check for all cells.
+    let cells = index.prefix(2 * half);
     let (mut lower, mut upper) = (0, 0);
     for i in 0..half {
-        lower = index.at(i).max(lower);
-        upper = index.at(half + i).max(upper);
+        lower = cells.at(i).max(lower);
+        upper = cells.at(half + i).max(upper);
     }
     len < lower.max(upper) as usize + FAST_TYPE_DATA_BLOCK_LENGTH as usize
 }

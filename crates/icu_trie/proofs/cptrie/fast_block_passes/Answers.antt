@@ -1,6 +1,6 @@
-use Rattle.std.proofs.Common.{◌≡◌, ◌+◌, ◌/◌, ◌<◌, drop, nat_lt, take, arith, refl, ap, sym, subst, ◌∙◌}
+use Rattle.std.proofs.Common.{◌≡◌, ◌+◌, ◌*◌, ◌/◌, ◌<◌, ◌≤◌, length, drop, nat_lt, take, arith, refl, ap, sym, subst, ◌∙◌}
 use Rattle.std.specs.List.{list_any}
-use Rattle.std.proofs.lemmas.List.{get_or-drop, length-drop}
+use Rattle.std.proofs.lemmas.List.{get_or-drop, length-drop, length-take-le, take-take}
 use Rattle.std.proofs.lemmas.Option.{get_or_from_slice_get, slice_get_within}
 use Rattle.icu_zerovec.specs.Slice.{slice_values}
 use Rattle.icu_trie_core.specs.declared.header.TrieType.{TrieType}
@@ -20,7 +20,7 @@ some Small = omega arith
 
 pub loop-i-preserved : goal.loop-i-preserved
 loop-i-preserved c =
-    let cells = slice_values c.args.index in
+    let cells = slice_values c.prefix-cells.result in
     let half = c.fast_index_len-half.result / 2 in
     let at = c.at.ensures in
     let above = c.at-in-loop-i.ensures in
@@ -38,15 +38,26 @@ loop-i-preserved c =
 
 pub returns : goal.returns
 returns c =
-    let cells = slice_values c.args.index in
+    let index = slice_values c.args.index in
+    let cells = slice_values c.prefix-cells.result in
     let half = c.fast_index_len-half.result / 2 in
     let len = c.args.len in
+    let first : cells ≡ take (2 * half) index = c.prefix-cells.ensures in
     let all : half + half ≡ fast_index_len c.args.trie_type =
     ap (λ n. n / 2 + n / 2) c.fast_index_len-half.ensures ∙ even c.args.trie_type in
     let one : 0 < half = subst (λ n. 0 < n / 2) (sym c.fast_index_len-half.ensures) (some c.args.trie_type) in
+    let within : half + half ≤ length cells = omega (
+      arith,
+      all,
+      c.requires,
+      ap length first,
+      length-take-le (2 * half) index (omega (arith, all, c.requires)),
+    ) in
     let end : c.loop-i.i ≡ half = omega (arith, c.loop-i-test.false, c.loop-i.auto.i-end) in
     ap (λ n. nat_lt len (n + 64)) c.max.ensures
-    ∙ halves len cells half c.loop-i.lower c.loop-i.upper one (omega (arith, all, c.requires))
+    ∙ halves len cells half c.loop-i.lower c.loop-i.upper one within
     (subst (λ i. Decides len cells i c.loop-i.lower) end c.loop-i.invariant.0)
     (subst (λ i. Decides len (drop half cells) i c.loop-i.upper) end c.loop-i.invariant.1)
-    ∙ ap (λ n. list_any (passes len) (take n cells)) all
+    ∙ ap (λ xs. list_any (passes len) (take (half + half) xs)) first
+    ∙ ap (list_any (passes len)) (take-take (half + half) (2 * half) index (omega arith))
+    ∙ ap (λ n. list_any (passes len) (take n index)) all

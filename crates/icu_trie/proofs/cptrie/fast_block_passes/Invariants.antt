@@ -4,5 +4,5 @@ use Rattle.icu_trie.proofs.FastCells.{Decides}
 use Rattle.icu_trie.proofs.cptrie.fast_block_passes.Given as goal
 
 abbrev pub invariant-loop-i : goal.invariant-loop-i
-invariant-loop-i l = Decides l.len (slice_values l.index) l.i l.lower
-    × Decides l.len (drop l.half (slice_values l.index)) l.i l.upper
+invariant-loop-i l = Decides l.len (slice_values l.cells) l.i l.lower
+    × Decides l.len (drop l.half (slice_values l.cells)) l.i l.upper
