@@ -27,10 +27,6 @@ UNTYPED_BODIES = """
 """
 # Changes to one source: pattern, replacement, and how often the pattern occurs.
 EDITS = {
-    # That there are as many cells as before is proved only for lawful types, so it is asserted.
-    "icu_trie/map_value": [
-        (r"(\n +)(?=let index = self\.index)", r"\1assert_eq!(data.len(), self.data.len());\1", 1),
-    ],
     ],
     "icu_trie/typed": [
         (r"(const TRIE_TYPE: TrieType;\n)", rf"\1{UNTYPED}", 1),
