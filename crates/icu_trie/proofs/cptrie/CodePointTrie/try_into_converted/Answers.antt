@@ -27,8 +27,8 @@ returns-in-Err-Cell-clause-err g c = λ one i is.
     rw (← which, ← c.self.view_is) (converted_err g.T.AsULE.unpack g.T.AsULE.WIDTH g.P.AsULE.unpack g.T.AsULE.pack one c.self.inside.«data»
     (Err (bytes.Cell c.in-Err-Cell.i)) at)
 
-pub returns-in-Some-clause-ok : goal.returns-in-Some-clause-ok
-returns-in-Some-clause-ok g c = λ one.
+pub returns-clause-ok : goal.returns-clause-ok
+returns-clause-ok g c = λ one.
     let same : g.P.AsULE.WIDTH ≡ g.T.AsULE.WIDTH = sym c.WIDTH-2.ensures ∙ (sym c.if-WIDTH.false ∙ c.WIDTH.ensures) in
     let at : IsConverted g.T.AsULE.unpack g.T.AsULE.WIDTH g.P.AsULE.unpack g.T.AsULE.WIDTH c.self.inside.«data» (Ok c.in-Ok.«data»)
     = subst (λ w. IsConverted g.T.AsULE.unpack g.T.AsULE.WIDTH g.P.AsULE.unpack w c.self.inside.«data» (Ok c.in-Ok.«data»)) same
