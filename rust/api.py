@@ -1,11 +1,10 @@
 """What the Rust API guidelines ask for beside what the proved sources have: derived traits, attributes,
 and the code of rust/added, which needs the private parts of a module."""
 import os
-import re
 
-from files import HERE, Stop, read, table
+from files import HERE, Stop, parts, table
 from rules import INSIDE, PANICS
-from tokens import after_gap, attributes_of, before_gap, functions, match, past_group, start_of, tokens_of
+from tokens import after_gap, attributes_of, before_gap, functions, match, matches, past_group, start_of, tokens_of
 
 CONST, ITERATORS = table("const"), table("iterators")["names"].split()
 DERIVED = {trait: types.split() for trait, types in table("derives").items()}
@@ -42,8 +41,8 @@ def must_use(tokens, it):
 
 def inline(tokens, it):
     """Returns the attribute of a short function: rustc sees one crate at a time, Rattle's compiler all."""
-    text = "".join(tokens[it.start : it.end])
-    is_short = text.count("\n") <= 12 and not re.search(r"\n *\n", text) and tokens[it.head_end] == "{"
+    ends = [token.count("\n") for token in tokens[it.start : it.end]]
+    is_short = sum(ends) <= 12 and max(ends) < 2 and tokens[it.head_end] == "{"
     is_plain = tokens[before_gap(tokens, it.start)] != "]" and "super" not in tokens[it.start : it.place]
     return "#[inline]\n" * (is_short and is_plain)
 
@@ -76,21 +75,21 @@ def with_modifiers(module, tokens, asked):
 def with_added(module, tokens):
     """Appends code of rust/added. What follows a line `//# NAME` is a method of the iterator NAME."""
     path, tokens = f"{HERE}/added/{module}.rs", list(tokens)
-    rest, *parts = re.split(r"(?m)^//# (\w+)\n", read(path)) if os.path.exists(path) else [""]
-    for name, part in zip(parts[::2], parts[1::2]):
-        heads = [i for i, it in enumerate(tokens) if it == "Iterator" and match(tokens, i, [it, "for", name])]
+    (_, rest), *added = parts(path) if os.path.exists(path) else [("", "")]
+    for name, part in added:
+        heads = [at for at, _, _ in matches(tokens, ["Iterator", "for", name])]
         if len(heads) != 1:
             raise Stop(f" rust/added: expected one iterator {name}, found {len(heads)}")
         end = past_group(tokens, tokens.index("{", heads[0])) - 1
-        tokens[end:end] = tokens_of(f"\n{part}")
+        tokens[end:end] = tokens_of(f"\n{part}\n")
     return tokens + tokens_of(f"\n{rest}")
 
 
 def guided(module, tokens, is_library):
     """Returns the tokens of a module with all of these, or, if it is not of the library, with `inline`."""
-    for at, it in enumerate(tokens if is_library else []):
-        if (found := match(tokens, at, ["Iterator", "for", "$x"])) and it == "Iterator":
-            if found[1]["$x"][0] not in ITERATORS:
-                raise Stop(f" {found[1]['$x'][0]} is an iterator, but not in the table of rust/rules.txt")
-    tokens = with_attributes(derived(tokens) if is_library else tokens, is_library)
-    return with_added(module, tokens) if is_library else tokens
+    if not is_library:
+        return with_attributes(tokens, False)
+    for _, _, found in matches(tokens, ["Iterator", "for", "$name"]):
+        if found["$name"][0] not in ITERATORS:
+            raise Stop(f" {found['$name'][0]} is an iterator, but not in the table of rust/rules.txt")
+    return with_added(module, with_attributes(derived(tokens), True))

@@ -7,27 +7,28 @@ replaces the example of that item, which is in Rattle, or comes before the item'
 """
 import glob
 import os
-import re
 
-from files import HERE, Stop, read, rules_of, table
-from tokens import after_gap, past_group
+from files import HERE, Stop, parts, rules_of, table
+from tokens import after_gap, past_group, tokens_of
 
-RULES = rules_of("docs")
-TRIED = "|".join(table("tried")["library"].split())
-FENCES = {" ```", " ```text", " ```ignore"}
+# What comments say in other words, beside paths: texts, and what replaces each.
+WORDS = [it[:2] for it in rules_of("docs")]
+WORDS += [(f"{mark}{it}(", f"{mark}try_{it}(") for it in table("tried")["library"].split() for mark in (".", "::", "`")]
 # What the last line of an example with `?` says: the type of its errors.
 ERRORS = "# Ok::<(), Box<dyn std::error::Error>>(())"
+# How a line starts that begins or ends an example, and how a heading does.
+FENCE, HEADING = "\n ```", "\n # "
 
 
 def examples():
     """Returns the examples: for each module, pairs of an item and its example, as lines of docs."""
     found = {}
     for path in sorted(glob.glob(f"{HERE}/examples/*.rs")):
-        for head, example in re.findall(r"(?m)^//# (.*)\n((?:(?!//# ).*\n)*)", read(path)):
+        for head, example in parts(path)[1:]:
             module, item = head.split() if " " in head else ("lib", head)
-            lines = example.splitlines() + [ERRORS] * bool(re.search(r"(?m)\?[;,).]|\?$", example))
-            lines = [f" {it}".rstrip() for it in ["```", *lines, "```"]] if example else []
-            found.setdefault(f"{os.path.basename(path)[:-3]}/{module}", []).append((item, lines))
+            lines = ["```", *example.splitlines(), *[ERRORS] * ("?" in tokens_of(example)), "```"]
+            text = "".join(f"\n {it}" for it in lines) if example else ""
+            found.setdefault(f"{os.path.basename(path)[:-3]}/{module}", []).append((item, text))
     return found
 
 
@@ -36,19 +37,18 @@ EXAMPLES = examples()
 
 def mark_of(token):
     """Returns what a comment starts with, or nothing."""
-    return re.match("(?://[/!]?)?", token)[0]
+    return next((it for it in ("///", "//!", "//") if token.startswith(it)), "")
 
 
 class Block:
-    """Lines of comments of one kind, one after another: their positions, and the item behind them."""
+    """Lines of comments of one kind, one after another: their positions, their text, and the item behind
+    them. Each line of the text starts with its line end."""
 
     def __init__(self, tokens, start):
         self.start, self.end, self.mark = start, start + 1, mark_of(tokens[start])
-        while [mark_of(it) for it in tokens[self.end + 1 : self.end + 2]] == [self.mark] and (
-            tokens[self.end].count("\n") == 1
-        ):
+        while tokens[self.end].count("\n") == 1 and mark_of(tokens[self.end + 1]) == self.mark:
             self.end += 2
-        self.lines = [it[len(self.mark) :] for it in tokens[start : self.end : 2]]
+        self.text = "".join(f"\n{it[len(self.mark) :]}" for it in tokens[start : self.end : 2])
         self.gap = tokens[start + 1] if self.end > start + 1 else "\n"
         at = after_gap(tokens, self.end)
         while at < len(tokens) and tokens[at] in ("#", "pub", "const", "unsafe", "extern", '"C"', "("):
@@ -56,68 +56,51 @@ class Block:
         is_item = tokens[at : at + 1] and tokens[at] in ("fn", "struct", "enum", "trait")
         self.item = "mod" if self.mark == "//!" else tokens[after_gap(tokens, at + 1)] if is_item else ""
 
-    def tokens(self):
-        """Returns the lines as tokens."""
-        lines = [f"{self.mark}{it}".rstrip() for it in self.lines]
-        return [token for it in lines for token in (self.gap, it)][1:]
 
-
-def renamed(crate, lines):
-    """Returns lines of comments with the names of this edition."""
-    text = "\n".join(lines)
-    for said, put, *_ in RULES:
+def renamed(crate, text):
+    """Returns the text of comments with the names of this edition."""
+    for said, put in [*WORDS, ("(crate::", f"(crate::{crate}::"), ("](icu_", "](crate::icu_")]:
         text = text.replace(said, put)
-    text = re.sub(r"(?<=\()crate::", f"crate::{crate}::", text)
-    text = re.sub(r"(?<=\]\()(?=icu_\w+::)", "crate::", text)
-    return re.sub(rf"(\.|::|`)({TRIED})(?=\()", r"\1try_\2", text).split("\n")
+    return text
 
 
-def trimmed(lines):
-    """Returns the lines without empty ones at their end."""
-    while lines and not lines[-1].strip():
-        lines = lines[:-1]
-    return lines
+def first_heading(text):
+    """Returns the position of the first heading, or of the end."""
+    return (text + HEADING).index(HEADING)
 
 
-def heading_from(lines, start, heading=" # "):
-    """Returns the position of the first heading from a line on, or of the end."""
-    return next((i for i in range(start, len(lines)) if lines[i].startswith(heading)), len(lines))
-
-
-def without_contract(lines):
+def without_contract(text):
     """Removes the section `# Contract`, which says what a contract means."""
-    start = heading_from(lines, 0, " # Contract")
-    return lines if start == len(lines) else trimmed(lines[:start]) + lines[heading_from(lines, start + 1) :]
+    before, mark, after = text.partition(f"{HEADING}Contract\n")
+    return before.rstrip() + after[first_heading(after) :] if mark else text
 
 
-def with_example(lines, example):
+def with_example(text, example):
     """Puts an example in place of that in Rattle, or else before the headings."""
-    fence = next((i for i, it in enumerate(lines) if it in FENCES), None)
-    heading = heading_from(lines, 0)
-    if fence is not None:
-        end = lines.index(" ```", fence + 1) + 1
-        if fence < heading:
-            return lines[:fence] + example + lines[end:]
-        lines = trimmed(lines[:fence] + lines[end:])
-    return trimmed(lines[:heading]) + ["", *example] + [""] * (heading < len(lines)) + lines[heading:]
+    heading, (before, fence, after) = first_heading(text), text.partition(FENCE)
+    after = after.partition(FENCE)[2]
+    if fence and len(before) < heading:
+        return before + example + after
+    text = (before + after).rstrip() if fence else text
+    return text[:heading].rstrip() + "\n" + example + "\n" * (heading < len(text)) + text[heading:]
 
 
 def documented(crate, module, tokens, is_library):
     """Returns the tokens of a module with its comments as they are in the edition."""
-    blocks, tokens = [], list(tokens)
+    blocks, tokens = [], [*tokens, "", ""]
     for at, it in enumerate(tokens):
         if it.startswith("//") and (not blocks or at >= blocks[-1].end):
             blocks.append(Block(tokens, at))
-    for it in blocks:
-        it.lines = without_contract(renamed(crate, it.lines))
+            blocks[-1].text = without_contract(renamed(crate, blocks[-1].text))
     for item, example in EXAMPLES.get(module, []) if is_library else []:
         places = [it for it in blocks if it.item == item and it.mark != "//"]
-        places = [it for it in places if FENCES & {*it.lines}] or places
+        places = [it for it in places if FENCE in it.text] or places
         if len(places) != 1:
             raise Stop(f" rust/examples: expected one {item} with docs, found {len(places)}")
-        places[0].lines, places[0].item = with_example(places[0].lines, example), ""
+        places[0].text, places[0].item = with_example(places[0].text, example), ""
     for it in reversed(blocks):
-        if is_library and it.item and FENCES & {*it.lines}:
+        if is_library and it.item and FENCE in it.text:
             raise Stop(f" rust/examples has no example for {it.item}")
-        tokens[it.start : it.end] = it.tokens()
+        lines = [f"{it.mark}{line}".rstrip() for line in it.text.split("\n")[1:]]
+        tokens[it.start : it.end] = tokens_of(it.gap.join(lines))
     return tokens

@@ -14,20 +14,22 @@ KEYWORDS = set(
     " mut pub ref return self Self static struct super trait type unsafe use where while true false".split()
 )
 BEFORE_NAMES = KEYWORDS - set("break continue crate loop self Self super true false".split())
-ATTRIBUTES = set("allow derive error from inline cold test cfg tactic repr".split())
-MACROS = set("anyhow assert assert_eq eprintln format json matches panic println unreachable vec write writeln".split())
-# The proofs: the word that each starts with, whether its docs are removed too, and its form. If the
-# form ends with `(?={)`, braces of the proof language follow.
+ATTRIBUTES = set("allow cold derive error from inline repr".split())
+MACROS = set("assert assert_eq eprintln json matches unreachable vec write writeln".split())
+# The proofs: how each starts, and how it goes on. If that ends with `(?={)`, braces of the proof language
+# follow.
+GHOST = r"ghost\b"
 PROOFS = [
-    (r"requires|ensures", False, r"(?:requires|ensures)(?:\s+[a-z_]\w*)?\s*(?={)"),
-    (r"ghost(?=\s+use\b)", False, r"ghost\s+use\b[^;{]*(?:\{[^{}]*\})?\s*;"),
-    (r"ghost", True, r"ghost\s+\w+\s*[:=]\s*(?={)"),
-    (r"prove!", False, r"prove!\([^{]*?\);(?=\n)"),
-    (r"impl(?=(?:<[^{};]*>)?\s+Model\b)", True, r"impl(?:<[^{};]*>)?\s+Model\s+for\b[^{};]*(?={)"),
-    (r"#!?\[tactic\b", False, r"#!?\[tactic\((?:[^()]|\((?:[^()]|\([^()]*\))*\))*\)\]"),
+    (r"(?:requires|ensures)\b", r"(?:\s+[a-z_]\w*)?\s*(?={)"),
+    (r"ghost\s+use\b", r"[^;{]*(?:\{[^{}]*\})?\s*;"),
+    (GHOST, r"\s+\w+\s*[:=]\s*(?={)"),
+    (r"prove!", r"\([^{]*?\);(?=\n)"),
+    (r"impl(?:<[^{};]*>)?\s+Model\b", r"\s+for\b[^{};]*(?={)"),
+    (r"#!?\[tactic\b", r"\((?:[^()]|\((?:[^()]|\([^()]*\))*\))*\)\]"),
 ]
-CLAUSE = re.compile(r"\s*(?:ghost|requires|ensures)\b")
 BY = re.compile(r"\s*(?:by|=)\s*(?={)")
+# What ends a ghost item. A parameter of a proof has no end: a clause of the function follows it.
+END = re.compile(r"[,;]|(?=\s*(?:ghost|requires|ensures)\b)")
 # What is left in place of a `requires`, until rust/make has noted whose it is.
 ASKED = "//requires"
 
@@ -42,11 +44,9 @@ class Eraser:
         raise Stop(f"{self.text.count(chr(10), 0, self.place) + 1}: {why}: {self.text[self.place:][:50]!r}")
 
     def past_braces(self, start):
-        """Returns the position after the braces of the proof language at `start`, or `start`."""
+        """Returns the position after the braces of the proof language at `start`."""
         depth = 0
         for found in re.compile(r'--[^\n]*|"[^"\n]*"|[{}]').finditer(self.text, start):
-            if depth == 0 and self.text[start] != "{":
-                return start
             depth += {"{": 1, "}": -1}.get(found[0], 0)
             if depth == 0:
                 return found.end()
@@ -54,36 +54,27 @@ class Eraser:
 
     def proof(self):
         """Skips a proof, if one starts here, and returns whether one did."""
-        for word, docs, form in PROOFS:
-            if not re.compile(rf"(?:{word})(?!\w)").match(self.text, self.place):
-                continue
-            found = re.compile(form).match(self.text, self.place)
-            if not found:
-                self.refuse("a proof of an unknown form")
-            end = found.end() if found[0].endswith((";", "]")) else self.past_braces(found.end())
-            if word == "ghost":
-                by = BY.match(self.text, end)
-                end = self.past_braces(by.end()) if by else end
-                # A parameter of a proof has no end: a clause of the function follows it.
-                if self.text[end] in ",;":
-                    end += 1
-                elif not CLAUSE.match(self.text, end):
-                    self.refuse("a ghost item that does not end with `,` or `;`")
-            while self.kept and (self.kept[-1].isspace() or docs and self.kept[-1].startswith("///")):
-                self.kept.pop()
-            self.kept += [ASKED] * found[0].startswith("requires")
-            self.place = end
-            return True
-        return False
+        start, rest = next((it for it in PROOFS if re.compile(it[0]).match(self.text, self.place)), ("", ""))
+        if not start:
+            return False
+        found = re.compile(start + rest).match(self.text, self.place) or self.refuse("a proof of an unknown form")
+        end = found.end() if found[0][-1] in ";]" else self.past_braces(found.end())
+        if start == GHOST:
+            by = BY.match(self.text, end)
+            end = self.past_braces(by.end()) if by else end
+            end = (END.match(self.text, end) or self.refuse("a ghost item that does not end with `,` or `;`")).end()
+        while self.kept and (self.kept[-1].isspace() or start[0] != "#" and self.kept[-1].startswith("///")):
+            self.kept.pop()
+        self.kept += [ASKED] * found[0].startswith("requires")
+        self.place = end
+        return True
 
     def erased(self):
         """Returns the tokens that are left."""
         while self.place < len(self.text):
             if self.proof():
                 continue
-            found = TOKEN.match(self.text, self.place)
-            if not found:
-                self.refuse("an unknown character")
+            found = TOKEN.match(self.text, self.place) or self.refuse("an unknown character")
             if not is_gap(found[0]):
                 self.admit(found[0])
             self.kept.append(found[0])

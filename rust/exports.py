@@ -6,17 +6,16 @@ with c/bekstaudi.h.
 """
 import glob
 import os
-import re
 
 from files import Stop, read, rules_of, write
 from names import compiled, ruled
-from tokens import code_of, match, tokens_of
+from tokens import code_of, matches, tokens_of
 
 CRATE = "icu_collections_c"
 CALLS = [
     code_of(f'#[unsafe(no_mangle)] pub extern "C" fn $name{it}($$parameters) -> $$returned {{') for it in ("", "<$$of>")
 ]
-STRUCT = re.compile(r"#\[repr\(C\)\]\n#\[derive\(Clone, Copy\)\]\npub struct (\w+) \{")
+STRUCT = code_of("#[repr(C)] #[derive(Clone, Copy)] pub struct $name {")
 # The function and the struct that rust/c/src/trie.rs has.
 OPEN, TRIE = "bks_trie_open", "Trie"
 HEAD = """//! The functions of c/bekstaudi.h. rust/make writes this file.
@@ -33,12 +32,12 @@ use crate::{slice, slice_mut, trie::Trie};
 
 def parameter(name, of, homes):
     """A parameter in exports.rs, and the argument that the safe function gets."""
-    found = re.fullmatch(r"&(?:'\w+ )?(mut )?(\[)?(\w+)(?:<'\w+>)?\]?", of)
-    if not found:
+    words = [it for it in code_of(of) if it[0] not in "<'>"]
+    if words[0] != "&":
         return f"{name}: {of}", name
-    mutable, is_slice, item = found[1] or "", found[2], found[3]
+    mutable, item = "mut " * ("mut" in words), [it for it in words if it.isidentifier()][-1]
     pointer = f"{name}: *{mutable or 'const '}{homes.get(item, item)}"
-    if is_slice:
+    if "[" in words:
         return f"{pointer}, {name}_count: usize", f"slice{'_mut' if mutable else ''}({name}, {name}_count)"
     return pointer, f"&(*{name}).slices()" if item == TRIE else f"&{mutable}*{name}"
 
@@ -55,15 +54,13 @@ def function(module, found, homes):
 
 def exported(folder):
     """Makes safe functions of the package's exported ones, and writes those of C."""
-    sources = {os.path.basename(it)[:-3]: it for it in sorted(glob.glob(f"{folder}/src/{CRATE}/*.rs"))}
-    texts = {module: read(path) for module, path in sources.items()}
-    homes = {name: f"crate::{CRATE}::{module}::{name}" for module, it in texts.items() for name in STRUCT.findall(it)}
+    paths = sorted(glob.glob(f"{folder}/src/{CRATE}/*.rs"))
+    modules = {os.path.basename(it)[:-3]: tokens_of(read(it)) for it in paths}
+    structs = [(found["$name"][0], it) for it, tokens in modules.items() for _, _, found in matches(tokens, STRUCT)]
+    homes = {name: f"crate::{CRATE}::{module}::{name}" for name, module in structs}
     exports, rules = HEAD, compiled(rules_of("exports"))
-    for module, path in sources.items():
-        tokens = tokens_of(texts[module])
-        for at in (i for i, it in enumerate(tokens) if it == "#"):
-            for found in filter(None, (match(tokens, at, form) for form in CALLS)):
-                exports += function(module, found[1], homes)
+    for path, (module, tokens) in zip(paths, modules.items()):
+        exports += "".join(function(module, found, homes) for _, _, found in matches(tokens, *CALLS))
         tokens = ruled(tokens, rules)
         if {"extern", "no_mangle"} & {*tokens}:
             raise Stop(f"crates/{CRATE}/src/{module}.rt: an exported function of a form that is not known")

@@ -18,6 +18,18 @@ def write(path, text):
         file.write(text)
 
 
+def parts(path):
+    """Returns the parts of a file that start with a line `//# NAME`, each with its NAME, and first what is
+    before them, with an empty one."""
+    return [it.partition("\n")[::2] for it in ("\n" + read(path)).split("\n//# ")]
+
+
+def file_of(module):
+    """Returns the file of a module below a package's folder `src`."""
+    folder, _, name = module.rpartition("/")
+    return f"{folder}/{'mod' if name in ('lib', 'main') else name}.rs"
+
+
 def section(name):
     """Returns the lines of a section of rust/rules.txt."""
     lines = read(f"{HERE}/rules.txt").split(f"== {name}\n")[1].split("\n== ")[0].splitlines()

@@ -77,6 +77,14 @@ def match(tokens, at, pattern):
     return None
 
 
+def matches(tokens, *patterns):
+    """Yields each position at which one of the patterns matches, which all have the same first token, the
+    first that does, and its variables."""
+    for at in [i for i, it in enumerate(tokens) if it == patterns[0][0]]:
+        found = ((pattern, match(tokens, at, pattern)) for pattern in patterns)
+        yield from [(at, pattern, it[1]) for pattern, it in found if it][:1]
+
+
 def replaced(tokens, pattern, put):
     """Returns the tokens with `put` in place of each match of a pattern."""
     has_docs = pattern[0] == "$docs"
@@ -102,19 +110,17 @@ def replaced(tokens, pattern, put):
     return kept
 
 
-# A function: what it is in (the type of its `impl`, or `trait` and its name, and the whole head of that),
-# and the positions of its first token after docs and attributes, of `fn`, of what ends its head, and
-# after it.
+OWNERS = [(code_of("pub trait $name"), "trait "), (code_of("impl<$$of> $name"), ""), (code_of("impl $name"), "")]
+# A function: what it is in (the first type of its `impl`, or `trait` and its name, and the whole head of
+# that), and the positions of its first token after docs and attributes, of `fn`, of what ends its head,
+# and after it.
 Function = namedtuple("Function", "name owner home start place head_end end")
 
 
 def owner_of(head):
-    """Returns what the functions of an item belong to: the type of an `impl`, or `trait` and its name."""
-    text = "".join(it for it in head if not it.startswith("//"))
-    if trait := re.search(r"\bpub trait (\w+)", text):
-        return f"trait {trait[1]}"
-    found = re.search(r"\bimpl(?:<.*?>)?\s+(?:.*\bfor\s+)?&?(\w+)", text, re.S)
-    return found[1] if found else ""
+    """Returns what the functions of an item belong to: the first type of an `impl`, or `trait` and its name."""
+    found = [kind + it["$name"][0] for form, kind in OWNERS for _, _, it in matches(head, form)]
+    return found[0] if found else ""
 
 
 def functions(tokens):
