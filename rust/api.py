@@ -3,10 +3,10 @@ and the code of rust/added, which needs the private parts of a module."""
 import os
 
 from files import HERE, Stop, parts, table
-from rules import INSIDE, PANICS
 from tokens import after_gap, attributes_of, before_gap, functions, match, matches, past_group, start_of, tokens_of
 
-CONST, ITERATORS = table("const"), table("iterators")["names"].split()
+CONST, PANICS, ITERATORS = table("const"), table("panics"), table("iterators")["names"].split()
+PRIVATE, HARMLESS = table("requires")["private"].split(), table("requires")["harmless"].split()
 DERIVED = {trait: types.split() for trait, types in table("derives").items()}
 # What iterators that are not used get, as those of Rust's std.
 LAZY = '#[must_use = "iterators are lazy and do nothing unless consumed"]\n'
@@ -57,13 +57,13 @@ def with_attributes(tokens, is_library):
 
 def with_modifiers(module, tokens, asked):
     """Makes functions `const`, and those that have a `requires` private, or says that they panic, as the
-    tables of rust/rules.py say."""
+    tables of rust/rules.txt say."""
     tokens, names = list(tokens), CONST.get(module, "").split()
     for it in reversed(functions(tokens)):
         key = f"{it.owner}::{it.name}".lstrip(":")
-        if it.name in names and not it.owner.startswith("trait ") and "for" not in it.home:
+        if it.name in names and not {"trait", "for"} & {*it.home}:
             tokens[it.place : it.place] = ["const", " "]
-        if key in asked and key in INSIDE and match(tokens, it.start, ["pub", "fn"]):
+        if key in asked and key in PRIVATE and match(tokens, it.start, ["pub", "fn"]):
             tokens[it.start : it.start + 1] = ["pub", "(", "crate", ")"]
         if key in asked and key in PANICS:
             tokens[it.start : it.start] = tokens_of(f"///\n/// # Panics\n/// {PANICS[key]}\n")

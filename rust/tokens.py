@@ -110,16 +110,16 @@ def replaced(tokens, pattern, put):
     return kept
 
 
-OWNERS = [(code_of("pub trait $name"), "trait "), (code_of("impl<$$of> $name"), ""), (code_of("impl $name"), "")]
-# A function: what it is in (the first type of its `impl`, or `trait` and its name, and the whole head of
-# that), and the positions of its first token after docs and attributes, of `fn`, of what ends its head,
-# and after it.
+OWNERS = [code_of(it) for it in ("pub trait $name", "impl<$$of> $name", "impl $name")]
+# A function: what it is in (the public trait or the first type of the `impl`, and the whole head of that),
+# and the positions of its first token after docs and attributes, of `fn`, of what ends its head, and
+# after it.
 Function = namedtuple("Function", "name owner home start place head_end end")
 
 
 def owner_of(head):
-    """Returns what the functions of an item belong to: the first type of an `impl`, or `trait` and its name."""
-    found = [kind + it["$name"][0] for form, kind in OWNERS for _, _, it in matches(head, form)]
+    """Returns what the functions of an item belong to: a public trait, or the first type of an `impl`."""
+    found = [it["$name"][0] for form in OWNERS for _, _, it in matches(head, form)]
     return found[0] if found else ""
 
 

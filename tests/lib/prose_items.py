@@ -75,12 +75,11 @@ def faults_of(path, text):
 
 
 def panics_faults():
-    """The functions of rust/rules.py's PANICS whose generated docs have no `# Panics`."""
-    rules = {}
-    with open("rust/rules.py", encoding="utf-8") as file:
-        exec(compile(file.read(), "rust/rules.py", "exec"), rules)
+    """The functions in the table `panics` of rust/rules.txt whose generated docs have no `# Panics`."""
+    with open("rust/rules.txt", encoding="utf-8") as file:
+        table = file.read().split("== panics\n")[1].split("\n== ")[0]
     text = "\n".join(open(it, encoding="utf-8").read() for it in glob.glob("rust/bekstaudi/src/**/*.rs", recursive=True))
-    for key in rules["PANICS"]:
+    for key in re.findall(r"(?m)^(\w+::\w+): ", table):
         name = key.rpartition("::")[2]
         found = re.findall(rf"((?:^ *///[^\n]*\n)*)(?:^ *#\[[^\n]*\n)* *(?:pub )?fn {name}\b", text, re.M)
         if not any("# Panics" in it for it in found):
