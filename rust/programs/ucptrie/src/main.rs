@@ -22,7 +22,6 @@ extern crate alloc;
 #[allow(dead_code)]
 mod clap;
 mod host;
-mod ledger;
 mod serde_json;
 #[allow(dead_code, unused_macros)]
 mod support;
