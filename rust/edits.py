@@ -27,7 +27,6 @@ UNTYPED_BODIES = """
 """
 # Changes to one source: pattern, replacement, and how often the pattern occurs.
 EDITS = {
-    ],
     "icu_trie/typed": [
         (r"(const TRIE_TYPE: TrieType;\n)", rf"\1{UNTYPED}", 1),
         (r"(const TRIE_TYPE: TrieType = TrieType::\w+;\n)", rf"\1{UNTYPED_BODIES}", 2),

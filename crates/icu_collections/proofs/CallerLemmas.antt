@@ -11,10 +11,12 @@ pub use Rattle.icu_frozen_sets.proofs.CallerLemmas.{spans_of_drained}
 pub use Rattle.icu_trie_core.proofs.CallerLemmas.{AreMaximalRuns-same, AreMaximalRuns-some, LongestRun-from_gives, runs-unique, value_runs-some}
 pub use Rattle.icu_trie.proofs.CallerLemmas.{All-given, All-selected, AreMappedRunsFrom-same, joined_ranges-are}
 -- Values along a text: the items of an iterator until nothing is left.
-pub use Rattle.icu_trie_text.proofs.CallerLemmas.{indices_of_drained, length-code_points, values_of_bytes_drained, values_of_drained, values_of_text}
+pub use Rattle.icu_trie_text.proofs.CallerLemmas.{indices_of_drained, values_of_bytes_drained, values_of_drained, values_of_text}
+pub use Rattle.icu_utf.proofs.CallerLemmas.{length-code_points}
 -- Values that are copied to a buffer: the first parts of bytes, then those of the bytes that follow, are
 -- all parts, a part is copied if there is a byte and room for a value, and no part is empty.
-pub use Rattle.icu_trie_text.proofs.CallerLemmas.{copied_some, first_values_append, part_size}
+pub use Rattle.icu_trie_text.proofs.CallerLemmas.{copied_some, first_values_append}
+pub use Rattle.icu_utf.proofs.CallerLemmas.{part_size}
 -- A trie and the one that is read back after it was written in ICU's binary form.
 pub use Rattle.icu_trie_binary.proofs.CallerLemmas.{answers-stored, coherent-stored, coherent-stored_far, coherent-stored_in, stored-one, stored_form-same}
 -- If the trie was built, the one that is read back is coherent.

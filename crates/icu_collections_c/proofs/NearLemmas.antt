@@ -4,8 +4,8 @@ use Rattle.std.specs.Prelude.{◌⊎◌}
 use mathlib.Core.Bool.{beq, not}
 use Rattle.std.proofs.lemmas.Bool.{cases_lt}
 use Rattle.std.proofs.lemmas.Str.{encode_same}
-use Rattle.icu_trie_text.specs.Utf8.{IsFirstPart}
-use Rattle.icu_trie_text.proofs.CallerLemmas.{four_bytes_found, three_bytes_found, two_bytes_found}
+use Rattle.icu_utf.specs.Utf8.{IsFirstPart}
+use Rattle.icu_utf.proofs.CallerLemmas.{four_bytes_found, three_bytes_found, two_bytes_found}
 use Rattle.icu_collections_c.specs.Frozen.{is_held}
 use Rattle.icu_collections_c.specs.Inside.WideCharacters.{IsPassed}
 use Rattle.icu_collections_c.specs.declared.wide_characters.Passed.{Passed}

@@ -10,7 +10,7 @@ use Rattle.std.proofs.lemmas.List.{drop-drop, get_or-drop, get_or-set_other, get
 use Rattle.std.proofs.lemmas.Nat.Bits.{bit_at_mask_above, bit_at_mask_below}
 use Rattle.std.proofs.lemmas.Str.{length-encode}
 use Rattle.icu_zerovec.specs.CodePoints.{code_point_limit}
-use Rattle.icu_trie_text.proofs.CallerLemmas.{two_bytes_found}
+use Rattle.icu_utf.proofs.CallerLemmas.{two_bytes_found}
 use Rattle.icu_collections_c.specs.Frozen.{bit_in, is_held, place_in}
 use Rattle.icu_collections_c.specs.Spans.{AllHeld}
 use Rattle.icu_collections_c.specs.Inside.ShortCharacters.{AreShortWords, OfEach, has_bit, is_paired, word_of}

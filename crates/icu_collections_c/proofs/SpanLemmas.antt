@@ -11,9 +11,9 @@ use Rattle.std.proofs.lemmas.List.Sums.{take_while-cons}
 use Rattle.std.proofs.lemmas.List.{append-nil, drop_more, drop-append-le, drop-drop, drop-take, length-append, length-drop, length-take-le, nil_from_length, take-append-drop, take-take, take_all, drop_at, take_at}
 use Rattle.std.proofs.lemmas.List.Elements.{All-append, All-cons, All-drop, All-head, All-nil, All-tail, All-take, All-weaker}
 use Rattle.std.proofs.lemmas.Str.{IsCharBoundary-from_drop, IsCharBoundary-from_take, IsUtf8-append, IsUtf8-drop, IsUtf8-encode, IsUtf8-nil, IsUtf8-take, chars-append, chars-nil, chars_from_encodes, chars_past_char, drop_past_char, encode_ascii, encode_same, encodes-chars, len_utf8_bounds, length-encode}
-use Rattle.icu_trie_text.specs.Utf8.{EndsWithNoChar, IsLastCharacter}
-use Rattle.icu_trie_text.specs.Utf16.{code_points_of}
-use Rattle.icu_trie_text.proofs.CallerLemmas.{last_same, length-code_points}
+use Rattle.icu_utf.specs.Utf8.{EndsWithNoChar, IsLastCharacter}
+use Rattle.icu_utf.specs.Utf16.{code_points_of}
+use Rattle.icu_utf.proofs.CallerLemmas.{last_same, length-code_points, size_of}
 use Rattle.icu_collections_c.specs.Spans.{AllHeld, AnswersSpan, AnswersSpanBack, AnswersTextSpan, AnswersTextSpanBack, IsSpan, IsSpanBack, unit_count}
 use Rattle.icu_collections_c.specs.Status.{refused}
 use Rattle.icu_collections_c.specs.declared.status.Refusal.TheVariants.{NoText}
@@ -60,9 +60,6 @@ tail bytes u some = tail_of bytes u.0 u.1.0 u.1.1 some
 
 one_character : (c : ℕ) → IsScalar c → chars (encode_utf8 c) ≡ c ∷ []
 one_character c s = sym (chars_from_encodes (c ∷ []) (encode_utf8 c) (IsUtf8-encode c s) (append-nil (encode_utf8 c)))
-
-pub size_of : (c : ℕ) → 1 ≤ length (encode_utf8 c)
-size_of c = let b = len_utf8_bounds c in let e = length-encode c in omega (arith, b.0)
 
 module _ (is_in : ℕ → Bool) (held : Bool) where
   abbrev IsAlike : ℕ → Type 0
@@ -156,7 +153,7 @@ module _ (is_in : ℕ → Bool) (held : Bool) where
           length-drop n bytes,
           ap (λ (bs : List ℕ). length bs) p,
           length-append (encode_utf8 c) more,
-          size_of c,
+          (size_of c).0,
         ))
         (λ z some none. omega (arith, e, z, some))
 
@@ -239,7 +236,7 @@ module _ (is_in : ℕ → Bool) (held : Bool) where
           length-take-le n bytes within,
           ap (λ (bs : List ℕ). length bs) p,
           length-append front (encode_utf8 c),
-          size_of c,
+          (size_of c).0,
         ))
         (λ e some none. omega (arith, e, z, some))
 
@@ -526,22 +523,3 @@ text_span_back is_in held bytes r (inr found) u =
     let n = found.1.0 in
     let s = found.1.2 in
     (n, found.1.1, IsCharBoundary-from_drop bytes n s.within s.alike.0)
-
--- The first part of the rest is inside.
-pub past_part : (bytes : List ℕ) (n size c : ℕ) → n ≤ length bytes → size ≡ len_utf8 c
-    → drop n bytes ≡ encode_utf8 c ++ drop size (drop n bytes) → n + size ≤ length bytes
-past_part bytes n size c l e p =
-    let long = ap (λ (bs : List ℕ). length bs) p ∙ length-append (encode_utf8 c) (drop size (drop n bytes)) in
-    omega (arith, l, long, e, length-encode c, length-drop n bytes, length-drop size (drop n bytes))
-
--- The last character of the first bytes.
-pub last_part : (bytes : List ℕ) (n c size : ℕ) → n ≤ length bytes → IsLastCharacter (take n bytes) c size
-    → (size ≤ n) × (take n bytes ≡ take (n - size) bytes ++ encode_utf8 c)
-last_part bytes n c size l p =
-    let long = length-take-le n bytes l in
-    let there : size ≤ n = omega (arith, long, p.within) in
-    let less : length (take n bytes) - size ≡ n - size = omega (arith, long) in (
-      there,
-      p.bytes_are ∙ ap (λ (bs : List ℕ). bs ++ encode_utf8 c)
-          (ap (λ (k : ℕ). take k (take n bytes)) less ∙ take-take (n - size) n bytes (omega arith)),
-    )

@@ -19,7 +19,7 @@ use Rattle.icu_char16trie.proofs.CallerLemmas.{along_then, bytes_next, units_mor
 use Rattle.icu_collections_c.specs.Inside.TextSteps.{PassesCharacter, Stops, last_of}
 use Rattle.icu_collections_c.specs.UnitPrefixes.{AreValued, bytes_before}
 use Rattle.icu_collections_c.specs.UnitTries.{EndsAtBoundary}
-use Rattle.icu_collections_c.proofs.SpanLemmas.{size_of}
+use Rattle.icu_utf.proofs.CallerLemmas.{size_of}
 use Rattle.icu_collections_c.proofs.UnitPrefixLemmas.{AllValued, HasLooked, few-looked, looked_all_exact, looked_all_keys, looked_ends_exact, looked_ends_keys, looked_first, looked_next}
 
 -- ---- the longest prefix that is UTF-8
@@ -93,7 +93,7 @@ module _ (bytes : List ℕ) (n : ℕ) (t : IsTextUpTo bytes n) where
       let same : take (length front) bytes ≡ front =
       ap (λ (bs : List ℕ). take (length front) bs) parts ∙ take_at front more (length front) refl in
       let long = length-append (take n bytes) (encode_utf8 c) in
-      t.longest (length front) (omega (arith, long, length-take-le n bytes t.within, size_of c))
+      t.longest (length front) (omega (arith, long, length-take-le n bytes t.within, (size_of c).0))
       (omega (arith, ap (λ (bs : List ℕ). length bs) parts, length-append front more))
       (subst IsUtf8 (sym same) (IsUtf8-append (take n bytes) (encode_utf8 c) t.front (IsUtf8-encode c s)))
 

@@ -8,8 +8,8 @@ use Rattle.std.proofs.lemmas.Bool.{cases_lt, cond-false, cond-true, eq-eqb, lt-l
 use Rattle.std.proofs.lemmas.List.{drop-drop, length-append, length-drop}
 use Rattle.std.proofs.lemmas.Str.{length-encode}
 use Rattle.icu_zerovec.specs.CodePoints.{code_point_limit}
-use Rattle.icu_trie_text.specs.Utf8.{IsFirstPart}
-use Rattle.icu_trie_text.proofs.CallerLemmas.{three_bytes_found}
+use Rattle.icu_utf.specs.Utf8.{IsFirstPart}
+use Rattle.icu_utf.proofs.CallerLemmas.{three_bytes_found}
 use Rattle.icu_collections_c.specs.Frozen.{bit_in, is_held, place_in}
 use Rattle.icu_collections_c.specs.Spans.{AllHeld, AnswersSpan}
 use Rattle.icu_collections_c.specs.Inside.WideCharacters.{AreBitsOf, AreOfThree, IsPassed, IsThree, wide_place}

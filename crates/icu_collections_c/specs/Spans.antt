@@ -4,8 +4,8 @@ use Rattle.std.specs.Prelude.{◌≡◌, ◌⊎◌, ℕ, ℤ, pos, ◌+◌, ◌<
 use Rattle.std.specs.List.{All, take_while}
 use Rattle.std.specs.Str.{IsCharBoundary, IsUtf8, StartsWithNoChar, chars, encode_utf8_all}
 use mathlib.Core.Bool.{beq}
-use Rattle.icu_trie_text.specs.Utf8.{EndsWithNoChar}
-use Rattle.icu_trie_text.specs.Utf16.{code_points_of}
+use Rattle.icu_utf.specs.Utf8.{EndsWithNoChar}
+use Rattle.icu_utf.specs.Utf16.{code_points_of}
 use Rattle.icu_collections_c.specs.Status.{refused}
 use Rattle.icu_collections_c.specs.declared.status.Refusal.TheVariants.{NoText}
 

@@ -1,7 +1,7 @@
 //! The characters of a span as long as it is short, without tables. Those of each size have a loop
 //! of their own: in a text, a character mostly has the size of the one before it.
 ghost use Rattle.std.specs.Prelude.{◌≡◌, ℕ, ◌+◌, ◌<◌, ◌≤◌, Some, false, length, drop, slice_index};
-ghost use Rattle.icu_trie_text.specs.Utf8.{IsFirstPart};
+ghost use Rattle.icu_utf.specs.Utf8.{IsFirstPart};
 ghost use Rattle.icu_collections_c.specs.Frozen.{is_held};
 ghost use Rattle.icu_collections_c.specs.Inside.WideCharacters.{IsPassed, size_by_lead};
 

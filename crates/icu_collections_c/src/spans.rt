@@ -12,8 +12,8 @@ use crate::plain_characters::others_of;
 use crate::short_characters::{past_short, short_words};
 use crate::status::Refusal;
 use crate::wide_characters::wide_places;
-use icu_trie_text::characters::{first_character, last_character};
-use icu_trie_text::first_utf16::first_code_point;
+use icu_utf::characters::{first_character, last_character};
+use icu_utf::first_utf16::first_code_point;
 
 /// Returns the offset of the first byte from `start` to before `limit` that is not ASCII or not of
 /// the kind. If there is none, returns `limit`.

@@ -5,7 +5,7 @@ ghost use Rattle.icu_collections_c.specs.Inside.TextSteps.{PassesCharacter, Stop
 ghost use Rattle.icu_collections_c.specs.UnitTries.{StartsIllFormed};
 
 use icu_char16trie::char16trie::Char16TrieCursor;
-use icu_trie_text::characters::first_character;
+use icu_utf::characters::first_character;
 
 /// Returns true if the bytes are not empty and do not start with a character.
 #[inline(always)]

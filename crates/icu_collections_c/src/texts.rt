@@ -5,7 +5,7 @@ ghost use Rattle.icu_zerovec.specs.Cells.{values_of};
 ghost use Rattle.icu_trie_core.specs.FastIndex.{fast_index_len};
 ghost use Rattle.icu_trie.specs.Parts.{trie_value};
 ghost use Rattle.icu_trie_text.specs.InPlace.{HasAsciiInPlace};
-ghost use Rattle.icu_trie_text.specs.Utf16.{code_points_of};
+ghost use Rattle.icu_utf.specs.Utf16.{code_points_of};
 ghost use Rattle.icu_collections_c.specs.Answers.{AnswersText};
 ghost use Rattle.icu_zerovec.specs.Buffers.{written};
 ghost use Rattle.icu_collections_c.specs.BytesTrie.{cells_of, header_of, parts_in, value_at};
@@ -18,8 +18,8 @@ use crate::tries::{Trie, header_of, value_of};
 use crate::well_formed::{count_of_characters, is_utf8};
 use icu_trie_core::header::CodePointTrieHeader;
 use icu_trie_text::copy_parts::{Copied, copy_characters, copy_parts};
-use icu_trie_text::first_utf16::first_code_point;
 use icu_trie_text::part_values::PartValues;
+use icu_utf::first_utf16::first_code_point;
 use icu_zerovec::CODE_POINT_LIMIT;
 use std::alloc::AllocError;
 

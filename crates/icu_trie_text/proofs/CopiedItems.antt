@@ -7,11 +7,11 @@ use Rattle.std.proofs.lemmas.Str.{IsUtf8-past_char, chars_past_char, encodes-cha
 use Rattle.icu_trie.specs.Parts.{Parts}
 use Rattle.icu_trie_text.specs.Copied.{AreFirstValues, IsCopied}
 use Rattle.icu_trie_text.specs.CopiedParts.{HasCopiedParts, HaveFirstValues}
-use Rattle.icu_trie_text.specs.Utf8.{IsFirstPart}
+use Rattle.icu_utf.specs.Utf8.{IsFirstPart}
 use Rattle.icu_trie_text.specs.Utf8Values.{AreValuesOfBytes, part_value}
 use Rattle.icu_trie_text.specs.Values.{AreValuesOf}
 use Rattle.icu_trie_text.specs.declared.copy_parts.Copied.{Copied}
-use Rattle.icu_trie_text.proofs.Utf8Parts.{part_of_ascii, part_size}
+use Rattle.icu_utf.proofs.CallerLemmas.{part_of_ascii, part_size}
 use Rattle.icu_trie_text.proofs.Utf8ValueLemmas.{some_begins, values_of_text}
 
 nothing : (bs : List ℕ) → length bs ≤ 0 → bs ≡ []

@@ -7,8 +7,8 @@ use Rattle.std.proofs.lemmas.Slice.{drop-put_mid, take-put_mid}
 use borrow.Rule.Slice.PartMut.{put_mid, same_len_mid}
 use Rattle.std.proofs.lemmas.List.{append-nil, append_assoc, drop_all, drop-drop, get_or-drop, length-drop, length-set, length-take-le, take_more_set, take_rest}
 use Rattle.icu_trie_text.specs.CopiedParts.{AreCopiedParts, HasCopiedParts, HasFirstValue, HaveFirstValues}
-use Rattle.icu_trie_text.specs.Utf8.{IsFirstPart}
-use Rattle.icu_trie_text.proofs.Utf8Parts.{part_of_ascii, part_size}
+use Rattle.icu_utf.specs.Utf8.{IsFirstPart}
+use Rattle.icu_utf.proofs.CallerLemmas.{part_of_ascii, part_size}
 
 -- ---- lists with the same cells
 module _ {T : Type 0} where

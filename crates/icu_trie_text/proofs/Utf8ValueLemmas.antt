@@ -7,10 +7,10 @@ use Rattle.std.proofs.lemmas.Bool.{and_parts}
 use Rattle.std.proofs.lemmas.List.Elements.{All-cons, All-nil}
 use Rattle.std.proofs.lemmas.Str.{IsUtf8-past_char, chars-nil, chars_past_char}
 use Rattle.icu_trie.specs.Parts.{Parts, trie_value}
-use Rattle.icu_trie_text.specs.Utf8.{IsFirstPart}
+use Rattle.icu_utf.specs.Utf8.{IsFirstPart}
 use Rattle.icu_trie_text.specs.Utf8Values.{AreValuesOfBytes, BytesToValue, GivesPart, IsFirstItem, part_value}
 use Rattle.icu_trie_text.specs.Values.{AreValuesOf}
-use Rattle.icu_trie_text.proofs.Utf8Parts.{part_of_ascii}
+use Rattle.icu_utf.proofs.CallerLemmas.{part_of_ascii}
 
 -- A text that is not empty starts with a character.
 pub some_begins : (bytes cs : List ℕ) → all_scalars cs ≡ true → encode_utf8_all cs ≡ bytes → 0 < length bytes → StartsWithNoChar bytes → ⊥

@@ -11,9 +11,9 @@ use Rattle.std.proofs.lemmas.Iterator.Consumers.{YieldsList-from_first}
 use Rattle.std.proofs.lemmas.List.Elements.{All-cons, All-nil}
 use Rattle.icu_trie.specs.Parts.{Parts, trie_value}
 use Rattle.icu_trie_text.specs.FirstCharacter.{IsFirstValue}
-use Rattle.icu_trie_text.specs.Utf16.{code_points_of}
+use Rattle.icu_utf.specs.Utf16.{code_points_of}
 use Rattle.icu_trie_text.specs.Values.{AreValuesOf, GivesValue, value_item, with_values}
-use Rattle.icu_trie_text.proofs.Utf16Lemmas.{length-code_points}
+use Rattle.icu_utf.proofs.CallerLemmas.{length-code_points}
 
 module _ {T : Type 0} (trie : Parts T) where
   length-with_values : (cs : List ℕ) → length (with_values trie cs) ≡ length cs

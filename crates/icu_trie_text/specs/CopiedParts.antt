@@ -1,7 +1,7 @@
 -- Values of the first parts of bytes, as a function copies them to a buffer. `value` gives the
 -- value of a character, or for None that of an ill-formed part.
 use Rattle.std.specs.Prelude.{◌≡◌, ℕ, ◌+◌, ◌≤◌, ◌⊎◌, List, [], ◌∷◌, length, take, drop, slice_get, Option, Some}
-use Rattle.icu_trie_text.specs.Utf8.{IsFirstPart}
+use Rattle.icu_utf.specs.Utf8.{IsFirstPart}
 use Rattle.icu_trie_text.specs.declared.copy_parts.Copied.{Copied}
 
 -- The parts are the first ones of the bytes, and take `size` bytes in all. Each part starts where

@@ -1,4 +1,3 @@
 -- Definitions for the functions inside the crate and their proofs. No public contract uses them.
 pub mod Ascii
 pub mod NearBlocks
-pub mod Trails

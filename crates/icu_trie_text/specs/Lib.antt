@@ -5,7 +5,5 @@ pub mod Found
 pub mod InPlace
 pub mod Indices
 pub mod Inside
-pub mod Utf16
-pub mod Utf8
 pub mod Utf8Values
 pub mod Values

@@ -2,7 +2,7 @@
 use Rattle.std.specs.Prelude.{◌≡◌, ℕ, List, [], ◌∷◌, drop, Option, Some, None, MatchOption}
 use Rattle.std.specs.Option.{unwrap_or}
 use Rattle.icu_trie.specs.Parts.{Parts, last_cell, trie_value}
-use Rattle.icu_trie_text.specs.Utf8.{IsFirstPart}
+use Rattle.icu_utf.specs.Utf8.{IsFirstPart}
 
 -- A trie, and the bytes that are left.
 pub record BytesToValue (T : Type 0) : Type 0 where

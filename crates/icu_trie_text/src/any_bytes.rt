@@ -3,12 +3,12 @@ ghost use Rattle.std.specs.Prelude.{◌≡◌, ◌+◌, ◌*◌, ◌<◌, ◌≤
 ghost use Rattle.std.specs.Option.{MatchOption};
 ghost use Rattle.std.specs.Str.{StartsWithNoChar};
 ghost use Rattle.icu_trie_text.specs.CopiedParts.{HasFirstValue};
-ghost use Rattle.icu_trie_text.specs.Utf8.{IsFirstPart};
+ghost use Rattle.icu_utf.specs.Utf8.{IsFirstPart};
 
-use crate::first_utf8::{
+use crate::part_values::{PartValues, Reading};
+use icu_utf::first_utf8::{
     ill_formed_size, is_high_of_four, is_high_of_three, of_four, of_three, of_two, trail_of,
 };
-use crate::part_values::{PartValues, Reading};
 
 /// Returns the character at the start of the bytes, which are not empty, and its size in bytes.
 /// `None` if they do not start with a character.

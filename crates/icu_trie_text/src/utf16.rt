@@ -2,12 +2,12 @@
 ghost use Rattle.std.specs.Prelude.{◌≡◌, ◌^◌, ◌<◌, ℕ, List, length};
 ghost use Rattle.std.specs.Iterator.{Drains, item_count};
 ghost use Rattle.std.specs.Iterator.Runs.{EveryRun, ItemsMapTo};
-ghost use Rattle.icu_trie_text.specs.Utf16.{code_points_of};
+ghost use Rattle.icu_utf.specs.Utf16.{code_points_of};
 ghost use Rattle.icu_trie_text.specs.Values.{AreValuesOf, GivesValue, value_item, with_values};
 
-use crate::first_utf16::first_code_point;
 use icu_trie::cptrie::CodePointTrie;
 use icu_trie_core::value::TrieValue;
+use icu_utf::first_utf16::first_code_point;
 use std::marker::Model;
 
 /// An iterator over the code points of 16-bit units, each with its value in a trie.
@@ -21,7 +21,7 @@ pub struct ValuesOfUtf16<'a, T: TrieValue> {
 
 impl<'a, T: TrieValue> Model for ValuesOfUtf16<'a, T> {
     ghost use Rattle.std.specs.Prelude.{ℕ, List, Option};
-    ghost use Rattle.icu_trie_text.specs.Utf16.{code_points_of};
+    ghost use Rattle.icu_utf.specs.Utf16.{code_points_of};
     ghost use Rattle.icu_trie_text.specs.Values.{with_values};
 
     ghost Value = { List (ℕ × Option T) };

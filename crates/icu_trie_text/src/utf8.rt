@@ -5,14 +5,14 @@ ghost use Rattle.std.specs.Iterator.{Drains, item_count};
 ghost use Rattle.std.specs.Option.{MatchOption};
 ghost use Rattle.std.specs.Str.{IsUtf8, StartsWithNoChar, chars};
 ghost use Rattle.icu_trie.specs.Parts.{Parts, trie_value};
-ghost use Rattle.icu_trie_text.specs.Utf8.{IsFirstPart};
+ghost use Rattle.icu_utf.specs.Utf8.{IsFirstPart};
 ghost use Rattle.icu_trie_text.specs.Utf8Values.{AreValuesOfBytes, GivesPart, IsFirstItem};
 ghost use Rattle.icu_trie_text.specs.Values.{AreValuesOf};
 
 use crate::ascii::AsciiInPlace;
-use crate::first_utf8::{ill_formed_size, of_four, place_of_three, place_of_two};
 use icu_trie::cptrie::CodePointTrie;
 use icu_trie_core::value::TrieValue;
+use icu_utf::first_utf8::{ill_formed_size, of_four, place_of_three, place_of_two};
 use std::marker::Model;
 use std::slice::Iter;
 

@@ -2,7 +2,7 @@
 ghost use Rattle.std.specs.Prelude.{true};
 
 use crate::part_values::{PartValues, Reading, THREE_BYTE_BLOCKS};
-use crate::places::{number_of_four, place_of_three, place_of_two};
+use icu_utf::places::{number_of_four, place_of_three, place_of_two};
 
 /// Bytes that are well-formed UTF-8. The first `NEAR` blocks are known to be near.
 pub(crate) struct WellFormed<const NEAR: u32>;

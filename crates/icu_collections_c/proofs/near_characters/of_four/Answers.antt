@@ -1,6 +1,6 @@
 use Rattle.std.proofs.Common.{◌+◌, ◌-◌, ◌*◌, List, Option, Some, arith, subst, ℕ}
-use Rattle.icu_trie_text.specs.Utf8.{IsFirstPart}
-use Rattle.icu_trie_text.proofs.CallerLemmas.{bytes_of_four}
+use Rattle.icu_utf.specs.Utf8.{IsFirstPart}
+use Rattle.icu_utf.proofs.CallerLemmas.{bytes_of_four}
 use Rattle.icu_collections_c.proofs.NearLemmas.{four_part, same_part}
 use Rattle.icu_collections_c.proofs.near_characters.of_four.Goals as goal
 use Rattle.icu_collections_c.proofs.near_characters.of_four.Goals.{then-both-lt15504-via-else-both-lt15504+then-both-ge15760, then-both-lt15504-via-then-both-lt15504, then-bytes-ne2-via-else-bytes-ne2+else-bytes-ne2-2+then-bytes-ne2-3, then-bytes-ne2-via-else-bytes-ne2+then-bytes-ne2-2, then-bytes-ne2-via-then-bytes-ne2}

@@ -1,6 +1,6 @@
 use Rattle.std.proofs.Common.{◌+◌, ◌-◌, ◌*◌, List, Option, Some, arith, inl, inr, subst, ℕ}
-use Rattle.icu_trie_text.specs.Utf8.{IsFirstPart}
-use Rattle.icu_trie_text.proofs.CallerLemmas.{bytes_of_three}
+use Rattle.icu_utf.specs.Utf8.{IsFirstPart}
+use Rattle.icu_utf.proofs.CallerLemmas.{bytes_of_three}
 use Rattle.icu_collections_c.proofs.NearLemmas.{same_part, three_part}
 use Rattle.icu_collections_c.proofs.near_characters.of_three.Goals as goal
 use Rattle.icu_collections_c.proofs.near_characters.of_three.Goals.{then-both-lt14496-via-else-both-lt14496+else-both-ge15488+then-both-eq479, then-both-lt14496-via-else-both-lt14496+then-both-ge15488, then-both-lt14496-via-then-both-lt14496, then-bytes-ne2-via-else-bytes-ne2+then-bytes-ne2-2, then-bytes-ne2-via-then-bytes-ne2}

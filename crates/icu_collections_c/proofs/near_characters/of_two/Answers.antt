@@ -1,6 +1,6 @@
 use Rattle.std.proofs.Common.{◌+◌, ◌*◌, List, Option, Some, arith, subst, ℕ}
-use Rattle.icu_trie_text.specs.Utf8.{IsFirstPart}
-use Rattle.icu_trie_text.proofs.CallerLemmas.{bytes_of_two}
+use Rattle.icu_utf.specs.Utf8.{IsFirstPart}
+use Rattle.icu_utf.proofs.CallerLemmas.{bytes_of_two}
 use Rattle.icu_collections_c.proofs.NearLemmas.{same_part, two_part}
 use Rattle.icu_collections_c.proofs.near_characters.of_two.Goals as goal
 use Rattle.icu_collections_c.proofs.near_characters.of_two.Goals.{then-bytes-lt194-via-then-bytes-lt194, then-bytes-lt194-via-else-bytes-lt194+then-bytes-ge224, then-bytes-lt194-via-else-bytes-lt194+else-bytes-ge224+then-bytes-ne2}

@@ -2,7 +2,8 @@
 use Rattle.std.proofs.Common.{◌≡◌, ◌∙◌, ◌-◌, ◌^◌, ◌<◌, arith, length, refl, rules, sym, take, w64, ℕ, List}
 use Rattle.std.proofs.lemmas.Int.{to_z_pos}
 use mathlib.Core.Bool.{beq}
-use Rattle.icu_collections_c.proofs.SpanLemmas.{back_fault, back_other, back_start, is_alike, is_other, last_part, one_less, starts_back}
+use Rattle.icu_collections_c.proofs.SpanLemmas.{back_fault, back_other, back_start, is_alike, is_other, one_less, starts_back}
+use Rattle.icu_utf.proofs.CallerLemmas.{last_part}
 use Rattle.icu_collections_c.proofs.spans.span_back.Goals as goal
 
 pub loop-start-init : goal.loop-start-init

@@ -2,7 +2,8 @@
 use Rattle.std.proofs.Common.{◌≡◌, ◌∙◌, ◌+◌, ◌^◌, ◌<◌, ◌≤◌, arith, drop, length, rules, sym, ℕ, List}
 use Rattle.std.proofs.lemmas.List.{take_rest}
 use mathlib.Core.Bool.{beq}
-use Rattle.icu_collections_c.proofs.SpanLemmas.{after_ascii, answers_end, answers_fault, answers_other, as_returned, ascii_to_end, ascii_to_other, is_other, past_part}
+use Rattle.icu_collections_c.proofs.SpanLemmas.{after_ascii, answers_end, answers_fault, answers_other, as_returned, ascii_to_end, ascii_to_other, is_other}
+use Rattle.icu_utf.proofs.CallerLemmas.{past_part}
 use Rattle.icu_collections_c.proofs.WideLemmas.{answers_passed, next_held}
 use Rattle.icu_collections_c.proofs.spans.span_from.Goals as goal
 

@@ -1,7 +1,7 @@
 -- The loop counts the units of one code point after another.
 use Rattle.std.proofs.Common.{◌≡◌, ◌∙◌, ◌^◌, ◌<◌, arith, length, refl, rules, sym, ℕ, Bool}
 use mathlib.Core.Bool.{beq}
-use Rattle.icu_trie_text.specs.Utf16.{code_points_of}
+use Rattle.icu_utf.specs.Utf16.{code_points_of}
 use Rattle.icu_collections_c.proofs.SpanLemmas.{units_end, units_none, units_one, units_room, units_stop}
 use Rattle.icu_collections_c.proofs.spans.span_units.Goals as goal
 

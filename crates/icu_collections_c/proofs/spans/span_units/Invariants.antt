@@ -1,6 +1,6 @@
 use Rattle.std.proofs.Common.{◌≡◌, length}
 use mathlib.Core.Bool.{beq}
-use Rattle.icu_trie_text.specs.Utf16.{code_points_of}
+use Rattle.icu_utf.specs.Utf16.{code_points_of}
 use Rattle.icu_collections_c.proofs.SpanLemmas.{PassesUnits}
 use Rattle.icu_collections_c.proofs.spans.span_units.Given as goal
 

@@ -1,6 +1,6 @@
 use Rattle.std.proofs.Common.{◌∙◌, ◌+◌, ◌++◌, List, ℕ, ap, encode_utf8, inl, inr, sym}
 use Rattle.std.proofs.lemmas.List.{drop-drop, take_rest}
-use Rattle.icu_collections_c.proofs.SpanLemmas.{past_part}
+use Rattle.icu_utf.proofs.CallerLemmas.{past_part}
 use Rattle.icu_collections_c.proofs.UnitPrefixLemmas.{no_more}
 use Rattle.icu_collections_c.proofs.text_steps.pass_character.Goals as goal
 

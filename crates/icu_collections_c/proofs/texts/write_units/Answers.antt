@@ -2,10 +2,10 @@
 use Rattle.std.proofs.Common.{◌≡◌, ◌∙◌, ap, sym, arith, length, get_or, ℕ}
 use Rattle.std.specs.Prelude.{min, unwrap_or}
 use Rattle.icu_trie.specs.Parts.{trie_value}
-use Rattle.icu_trie_text.specs.Utf16.{code_points_of}
+use Rattle.icu_utf.specs.Utf16.{code_points_of}
 use Rattle.icu_collections_c.specs.BytesTrie.{parts_in}
 use Rattle.icu_collections_c.proofs.BufferLemmas.{filled_next, filled_all}
-use Rattle.icu_trie_text.proofs.CallerLemmas.{length-code_points}
+use Rattle.icu_utf.proofs.CallerLemmas.{length-code_points}
 use Rattle.icu_collections_c.proofs.DropLemmas.{all-drop, next-drop}
 use Rattle.icu_collections_c.proofs.texts.write_units.Goals as goal
 

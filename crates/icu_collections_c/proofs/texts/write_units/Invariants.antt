@@ -1,7 +1,7 @@
 use Rattle.std.proofs.Common.{◌≡◌, ◌≤◌, ◌++◌, length, take, drop}
 use Rattle.std.specs.Prelude.{map, min, unwrap_or}
 use Rattle.icu_trie.specs.Parts.{trie_value}
-use Rattle.icu_trie_text.specs.Utf16.{code_points_of}
+use Rattle.icu_utf.specs.Utf16.{code_points_of}
 use Rattle.icu_collections_c.specs.BytesTrie.{parts_in}
 use Rattle.icu_collections_c.proofs.texts.write_units.Given as goal
 

@@ -2,7 +2,7 @@
 use Rattle.std.proofs.Common.{◌≡◌, ◌∙◌, sym, refl, ℕ, ◌+◌, ◌*◌, ◌%◌, ◌<◌, ◌≤◌, List, arith, get_or, length}
 use Rattle.std.proofs.lemmas.List.{take_rest}
 use mathlib.Core.Bool.{beq}
-use Rattle.icu_trie_text.proofs.CallerLemmas.{part_of_ascii}
+use Rattle.icu_utf.proofs.CallerLemmas.{part_of_ascii}
 use Rattle.icu_collections_c.specs.Frozen.{is_held}
 use Rattle.icu_collections_c.proofs.WideLemmas.{bit_says, other_of, passed_end, same_of, three_starts, walks_more}
 use Rattle.icu_collections_c.proofs.wide_characters.past_threes.Goals as goal

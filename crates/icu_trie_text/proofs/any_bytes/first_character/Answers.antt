@@ -1,5 +1,5 @@
 use Rattle.std.proofs.Common.{inl}
-use Rattle.icu_trie_text.proofs.Utf8Parts.{not_first}
+use Rattle.icu_utf.proofs.CallerLemmas.{not_first}
 use Rattle.icu_trie_text.proofs.any_bytes.first_character.Goals as goal
 
 pub returns-then-lead-lt194 : goal.returns-then-lead-lt194

@@ -1,6 +1,6 @@
 use Rattle.std.proofs.Common.{◌≡◌, ℕ, ◌+◌, ◌-◌, ◌*◌, ◌<◌, get_or, bit_or, Some, arith}
 use Rattle.std.proofs.lemmas.Nat.{le_or_l, le_or_r}
-use Rattle.icu_trie_text.proofs.Utf8Parts.{four_found, trail_at}
+use Rattle.icu_utf.proofs.CallerLemmas.{four_found, trail_at}
 use Rattle.icu_trie_text.proofs.any_bytes.near_four.Goals as goal
 
 pub returns : goal.returns

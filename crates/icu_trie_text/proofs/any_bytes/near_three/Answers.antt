@@ -1,7 +1,7 @@
 use Rattle.std.proofs.Common.{◌≡◌, ℕ, ◌+◌, ◌-◌, ◌*◌, ◌<◌, get_or, arith}
 use Rattle.std.proofs.lemmas.Nat.{le_or_l, le_or_r}
 use Rattle.icu_trie_text.proofs.CopiedLemmas.{value_if}
-use Rattle.icu_trie_text.proofs.Utf8Parts.{three_found, trail_at}
+use Rattle.icu_utf.proofs.CallerLemmas.{three_found, trail_at}
 use Rattle.icu_trie_text.proofs.any_bytes.near_three.Goals as goal
 
 pub is_high_of_three-requires : goal.is_high_of_three-requires

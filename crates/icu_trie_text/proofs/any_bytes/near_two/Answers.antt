@@ -1,6 +1,6 @@
 use Rattle.std.proofs.Common.{◌≡◌, ℕ, ◌+◌, ◌-◌, ◌*◌, get_or, Some, arith}
-use Rattle.icu_trie_text.specs.Inside.Trails.{IsTrail}
-use Rattle.icu_trie_text.proofs.Utf8Parts.{two_found}
+use Rattle.icu_utf.specs.Trails.{IsTrail}
+use Rattle.icu_utf.proofs.CallerLemmas.{two_found}
 use Rattle.icu_trie_text.proofs.any_bytes.near_two.Goals as goal
 
 pub returns : goal.returns

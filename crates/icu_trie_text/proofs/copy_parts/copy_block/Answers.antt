@@ -2,7 +2,7 @@ use Rattle.std.proofs.Common.{◌≡◌, ◌∙◌, true, ℕ, ◌+◌, ◌-◌,
 use Rattle.std.proofs.lemmas.List.{length-set, take_rest}
 use Rattle.icu_trie_text.proofs.CopiedItems.{text_next}
 use Rattle.icu_trie_text.proofs.CopiedLemmas.{copied_more, left_from, rest_after}
-use Rattle.icu_trie_text.proofs.Utf8Parts.{part_near, part_size}
+use Rattle.icu_utf.proofs.CallerLemmas.{part_near, part_size}
 use Rattle.icu_trie_text.proofs.copy_parts.copy_block.Goals as goal
 
 pub loop-rest-preserved : goal.loop-rest-preserved

@@ -1,5 +1,5 @@
 use Rattle.std.proofs.Common.{arith}
-use Rattle.icu_trie_text.specs.Utf16.{code_points_of}
+use Rattle.icu_utf.specs.Utf16.{code_points_of}
 use Rattle.icu_trie_text.proofs.ValueLemmas.{units_fit, value_runs, values_of_drained}
 use Rattle.icu_trie_text.proofs.utf16.values_of_utf16.Goals as goal
 

@@ -1,8 +1,0 @@
-use Rattle.icu_trie_text.proofs.CharacterLemmas.{PastTrails}
-use Rattle.icu_trie_text.proofs.characters.last_lead.Given as goal
-
-abbrev pub invariant-loop-start : goal.invariant-loop-start
-invariant-loop-start l = PastTrails l.bytes l.start
-
-abbrev pub decreases-loop-start : goal.decreases-loop-start
-decreases-loop-start l = l.start

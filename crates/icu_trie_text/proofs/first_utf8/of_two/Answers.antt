@@ -1,5 +1,0 @@
-use Rattle.icu_trie_text.proofs.Utf8Parts.{made_character}
-use Rattle.icu_trie_text.proofs.first_utf8.of_two.Goals as goal
-
-pub returns : goal.returns
-returns c = made_character c.args.bytes.now c.from_u32.result _ 2 c.from_u32.ensures.value c.in_ok-block.ensures.1

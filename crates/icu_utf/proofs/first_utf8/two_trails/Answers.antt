@@ -1,0 +1,34 @@
+use Rattle.std.proofs.Common.{ℕ, ◌<◌, arith, inl, inr}
+use Rattle.std.proofs.lemmas.Bool.{cases_lt}
+use Rattle.std.proofs.lemmas.Nat.{le_or_l, le_or_r}
+use lib.Bits.{or_lt}
+use Rattle.icu_utf.proofs.Utf8Parts.{trail_at}
+use Rattle.icu_utf.proofs.first_utf8.two_trails.Goals as goal
+
+pub returns-then-second-third-ge64 : goal.returns-then-second-third-ge64
+returns-then-second-third-ge64 c =
+    let bytes = c.args.bytes.now in
+    let s : ℕ = c.trail_of-second.result in
+    let t : ℕ = c.trail_of-third.result in
+    elim (cases_lt s 64) [
+      | inl small ↦ inr (
+        s,
+        trail_at bytes 1 s (omega arith) (omega (arith, c.trail_of-second.ensures.byte small)) small,
+        (λ there. c.trail_of-third.ensures.other (elim (cases_lt t 64) [
+          | inl small_too ↦ omega (arith, or_lt 6 s t small small_too, c.if-second-third-ge64.true)
+          | inr large ↦ large
+        ])),
+      )
+      | inr large ↦ inl (λ there. c.trail_of-second.ensures.other large)
+    ]
+
+pub returns : goal.returns
+returns c =
+    let bytes = c.args.bytes.now in
+    let s : ℕ = c.trail_of-second.result in
+    let t : ℕ = c.trail_of-third.result in
+    let small : s < 64 = omega (arith, le_or_l s t, c.if-second-third-ge64.false) in
+    let small_too : t < 64 = omega (arith, le_or_r s t, c.if-second-third-ge64.false) in
+    let second = trail_at bytes 1 s (omega arith) (omega (arith, c.trail_of-second.ensures.byte small)) small in
+    let third = trail_at bytes 2 t (omega arith) (omega (arith, c.trail_of-third.ensures.byte small_too)) small_too in
+    (second, third)

@@ -1,0 +1,3 @@
+pub mod Trails
+pub mod Utf16
+pub mod Utf8
