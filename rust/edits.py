@@ -4,34 +4,8 @@ import re
 from files import Stop
 from tokens import tokens_of
 
-# Methods that the Rust crate has in the trait of typed tries.
-UNTYPED = """
-    /// Returns a reference to the trie as a [`CodePointTrie`].
-    fn as_untyped_ref(&self) -> &CodePointTrie<'trie, T>;
-
-    /// Converts the trie into a [`CodePointTrie`].
-    fn to_untyped(self) -> CodePointTrie<'trie, T>
-    where
-        Self: Sized;
-"""
-UNTYPED_BODIES = """
-    #[inline(always)]
-    fn as_untyped_ref(&self) -> &CodePointTrie<'trie, T> {
-        &self.inner
-    }
-
-    #[inline(always)]
-    fn to_untyped(self) -> CodePointTrie<'trie, T> {
-        self.inner
-    }
-"""
 # Changes to one source: pattern, replacement, and how often the pattern occurs.
-EDITS = {
-    "icu_trie/typed": [
-        (r"(const TRIE_TYPE: TrieType;\n)", rf"\1{UNTYPED}", 1),
-        (r"(const TRIE_TYPE: TrieType = TrieType::\w+;\n)", rf"\1{UNTYPED_BODIES}", 2),
-    ],
-}
+EDITS = {}
 
 
 def edited(module, tokens):

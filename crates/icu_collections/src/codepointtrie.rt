@@ -20,6 +20,7 @@ pub use icu_trie::ranges::{CodePointMapRange, CodePointMapRangeIterator};
 pub use icu_trie::ranges_of_value::IterRangesForValue;
 pub use icu_trie::typed::{
     FastCodePointTrie, SmallCodePointTrie, Typed, TypedCodePointTrie, TypedCodePointTrieError,
+    Untyped,
 };
 pub use icu_trie::value::{NotAValue, TrieValue};
 pub use icu_trie::walk::walk;

@@ -24,6 +24,25 @@ use icu_trie_core::value::TrieValue;
 use std::marker::Model;
 use thiserror::Error;
 
+/// A value that contains a trie, from which [`TypedCodePointTrie`] takes it.
+pub trait Untyped {
+    /// The type of the trie: a [`CodePointTrie`].
+    type Trie;
+
+    /// The header, the index and the data of the trie.
+    ghost parts: { Self → Self.Trie };
+
+    /// Returns a reference to the trie.
+    fn untyped_ref(&self) -> &Self::Trie
+        ensures { result.now ≡ parts self.now };
+
+    /// Converts the value into the trie.
+    fn into_untyped(self) -> Self::Trie
+    where
+        Self: Sized,
+        ensures { result ≡ parts self };
+}
+
 /// A trie whose type is known at compile time, so that look-ups do not test it.
 ///
 /// ```
@@ -36,33 +55,48 @@ use thiserror::Error;
 ///
 /// # Contract
 /// Contracts name it `trie_type`, since they cannot name a constant of a type that borrows.
-pub trait TypedCodePointTrie<'trie, T: TrieValue> {
+pub trait TypedCodePointTrie<'trie, T: TrieValue>: Untyped<Trie = CodePointTrie<'trie, T>> {
     /// The type of the trie.
     const TRIE_TYPE: TrieType;
 
     /// The value of the constant, for contracts.
     ghost trie_type: { TrieType };
 
-    /// The header, the index and the data of the trie.
-    ghost parts: { Self → Parts T };
+    /// Returns a reference to the trie as a [`CodePointTrie`].
+    #[inline(always)]
+    final fn as_untyped_ref(&self) -> &CodePointTrie<'trie, T>
+        ensures { result.now ≡ Self.parts self.now }
+    {
+        self.untyped_ref()
+    }
+
+    /// Converts the trie into a [`CodePointTrie`].
+    #[inline(always)]
+    final fn to_untyped(self) -> CodePointTrie<'trie, T>
+    where
+        Self: Sized,
+        ensures { result ≡ Self.parts self }
+    {
+        self.into_untyped()
+    }
 
     /// Shows a proof that the type of this trie is the constant. It does nothing at run time.
     fn shown(&self)
-        ensures { (parts self.now).header.trie_type ≡ trie_type };
+        ensures { (Self.parts self.now).header.trie_type ≡ trie_type };
 
     /// Returns the value of the code point `c`, as [`CodePointTrie::get32`] does.
     fn get32(&self, c: u32) -> T
-        ensures { Some result ≡ trie_value (parts self.now) c };
+        ensures { Some result ≡ trie_value (Self.parts self.now) c };
 
     /// Returns the value of the character `c`.
     fn get(&self, c: char) -> T
-        ensures { Some result ≡ trie_value (parts self.now) c };
+        ensures { Some result ≡ trie_value (Self.parts self.now) c };
 
     /// Returns the value of a code point in the Basic Multilingual Plane (0..=0xFFFF), which may be
     /// a surrogate. In a fast trie this takes two reads.
     #[inline(always)]
     final fn get16(&self, bmp: u16) -> T
-        ensures { Some result ≡ trie_value (parts self.now) bmp }
+        ensures { Some result ≡ trie_value (Self.parts self.now) bmp }
     {
         self.get32(u32::from(bmp))
     }
@@ -71,7 +105,7 @@ pub trait TypedCodePointTrie<'trie, T: TrieValue> {
     /// it returns what [`get32`](Self::get32) returns.
     #[inline(always)]
     final fn get32_supplementary(&self, supplementary: u32) -> T
-        ensures { Some result ≡ trie_value (parts self.now) supplementary }
+        ensures { Some result ≡ trie_value (Self.parts self.now) supplementary }
     {
         self.get32(supplementary)
     }
@@ -80,7 +114,7 @@ pub trait TypedCodePointTrie<'trie, T: TrieValue> {
     /// [`get32`](Self::get32) returns.
     #[inline(always)]
     final fn get32_u32(&self, c: u32) -> u32
-        ensures { Some result ≡ option_map T.number (trie_value (parts self.now) c) }
+        ensures { Some result ≡ option_map T.number (trie_value (Self.parts self.now) c) }
     {
         self.get32(c).to_u32()
     }
@@ -89,7 +123,7 @@ pub trait TypedCodePointTrie<'trie, T: TrieValue> {
     /// fast limit is 0x10000 for a fast trie and 0x1000 for a small one.
     fn get32_by_fast_index(&self, c: u32) -> Option<T>
         ensures { result
-            ≡ (if nat_lt c (fast_limit trie_type) then trie_value (parts self.now) c else None) };
+            ≡ (if nat_lt c (fast_limit trie_type) then trie_value (Self.parts self.now) c else None) };
 }
 
 /// A trie of the type `Fast`: look-ups in the whole Basic Multilingual Plane take two reads.
@@ -107,20 +141,18 @@ impl<'trie, T: TrieValue> Model for FastCodePointTrie<'trie, T> {
     ghost invariant = { λ t. t.inner.header.trie_type ≡ Fast };
 }
 
-impl<'trie, T: TrieValue> FastCodePointTrie<'trie, T> {
-    /// Returns a reference to the trie as a [`CodePointTrie`].
+impl<'trie, T: TrieValue> Untyped for FastCodePointTrie<'trie, T> {
+    type Trie = CodePointTrie<'trie, T>;
+
+    ghost parts = { λ t. t };
+
     #[inline(always)]
-    pub fn as_untyped_ref(&self) -> &CodePointTrie<'trie, T>
-        ensures { result.now ≡ self.now }
-    {
+    fn untyped_ref(&self) -> &CodePointTrie<'trie, T> {
         &self.inner
     }
 
-    /// Converts the trie into a [`CodePointTrie`].
     #[inline(always)]
-    pub fn to_untyped(self) -> CodePointTrie<'trie, T>
-        ensures { result ≡ self.entry }
-    {
+    fn into_untyped(self) -> CodePointTrie<'trie, T> {
         self.inner
     }
 }
@@ -129,8 +161,6 @@ impl<'trie, T: TrieValue> TypedCodePointTrie<'trie, T> for FastCodePointTrie<'tr
     const TRIE_TYPE: TrieType = TrieType::Fast;
 
     ghost trie_type = { Fast };
-
-    ghost parts = { λ t. t };
 
     #[inline(always)]
     fn shown(&self) {
@@ -168,20 +198,18 @@ impl<'trie, T: TrieValue> Model for SmallCodePointTrie<'trie, T> {
     ghost invariant = { λ t. t.inner.header.trie_type ≡ Small };
 }
 
-impl<'trie, T: TrieValue> SmallCodePointTrie<'trie, T> {
-    /// Returns a reference to the trie as a [`CodePointTrie`].
+impl<'trie, T: TrieValue> Untyped for SmallCodePointTrie<'trie, T> {
+    type Trie = CodePointTrie<'trie, T>;
+
+    ghost parts = { λ t. t };
+
     #[inline(always)]
-    pub fn as_untyped_ref(&self) -> &CodePointTrie<'trie, T>
-        ensures { result.now ≡ self.now }
-    {
+    fn untyped_ref(&self) -> &CodePointTrie<'trie, T> {
         &self.inner
     }
 
-    /// Converts the trie into a [`CodePointTrie`].
     #[inline(always)]
-    pub fn to_untyped(self) -> CodePointTrie<'trie, T>
-        ensures { result ≡ self.entry }
-    {
+    fn into_untyped(self) -> CodePointTrie<'trie, T> {
         self.inner
     }
 }
@@ -190,8 +218,6 @@ impl<'trie, T: TrieValue> TypedCodePointTrie<'trie, T> for SmallCodePointTrie<'t
     const TRIE_TYPE: TrieType = TrieType::Small;
 
     ghost trie_type = { Small };
-
-    ghost parts = { λ t. t };
 
     #[inline(always)]
     fn shown(&self) {

@@ -4,7 +4,9 @@ use bekstaudi::char16trie::Char16Trie;
 use bekstaudi::codepointinvlist::CodePointInversionList;
 use bekstaudi::codepointinvliststringlist::CodePointInversionListAndStringList;
 use bekstaudi::codepointtrie::planes::get_planes_trie;
-use bekstaudi::codepointtrie::{CodePointTrie, FastCodePointTrie, SmallCodePointTrie};
+use bekstaudi::codepointtrie::{
+    CodePointTrie, FastCodePointTrie, SmallCodePointTrie, TypedCodePointTrie,
+};
 use bekstaudi::zerovec::ule::AsULE;
 use bekstaudi::zerovec::{ZeroSlice, ZeroVec};
 

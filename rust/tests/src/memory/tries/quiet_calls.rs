@@ -3,7 +3,9 @@
 use super::{ONES, ZEROS, data, expect_same, small_header, trie_of};
 use crate::icu_trie::cptrie::CodePointTrie;
 use crate::icu_trie::iterator_utils::RangeListIteratorCoalescer;
-use crate::icu_trie::typed::{FastCodePointTrie, SmallCodePointTrie, Typed, TypedCodePointTrie};
+use crate::icu_trie::typed::{
+    FastCodePointTrie, SmallCodePointTrie, Typed, TypedCodePointTrie, Untyped,
+};
 use crate::icu_trie_core::header::{CodePointTrieHeader, TrieType};
 use crate::icu_trie_core::value::TrieValue;
 use crate::refusals::{none_asked, say};
@@ -81,7 +83,7 @@ fn typed_reads<'a, X: TypedCodePointTrie<'a, u8>>(trie: &X, past: u32) -> TypedR
 /// The value of the small trie at 0x1000, through a typed trie that borrows it.
 fn lent_value(trie: &CodePointTrie<'_, u8>) -> u8 {
     match trie.as_typed_ref() {
-        Typed::Small(small) => small.to_untyped().get32(0x1000),
+        Typed::Small(small) => small.into_untyped().get32(0x1000),
         Typed::Fast(_) => 0,
     }
 }
@@ -90,7 +92,7 @@ fn lent_value(trie: &CodePointTrie<'_, u8>) -> u8 {
 fn small_values(trie: &CodePointTrie<'_, u8>) -> Option<(u8, TypedReads)> {
     match SmallCodePointTrie::try_from(trie) {
         Ok(small) => Some((
-            small.as_untyped_ref().get32(0x1000),
+            small.untyped_ref().get32(0x1000),
             typed_reads(&small, 0x1000),
         )),
         Err(_) => None,
@@ -107,7 +109,7 @@ fn told_value(trie: CodePointTrie<'_, u8>) -> (u8, bool) {
 }
 
 /// Calls: `CodePointTrie::as_typed_ref`, `CodePointTrie::to_typed`, `SmallCodePointTrie::try_from`,
-/// `SmallCodePointTrie::as_untyped_ref`, `SmallCodePointTrie::to_untyped`,
+/// `Untyped::untyped_ref`, `Untyped::into_untyped`,
 /// `TypedCodePointTrie::get32`, `TypedCodePointTrie::get`, `TypedCodePointTrie::get16`,
 /// `TypedCodePointTrie::get32_supplementary`, `TypedCodePointTrie::get32_u32`,
 /// `TypedCodePointTrie::get32_by_fast_index`.
@@ -142,8 +144,8 @@ fn fast_values(trie: CodePointTrie<'_, u8>) -> Option<(u8, u8, TypedReads, bool)
     Some((lent, fast.to_untyped().get32(0x41), reads, refused))
 }
 
-/// Calls: `FastCodePointTrie::try_from`, `FastCodePointTrie::as_untyped_ref`,
-/// `FastCodePointTrie::to_untyped`.
+/// Calls: `FastCodePointTrie::try_from`, `TypedCodePointTrie::as_untyped_ref`,
+/// `TypedCodePointTrie::to_untyped`.
 #[test]
 fn fast_tries_quiet() {
     none_asked(|| {
