@@ -8,6 +8,7 @@ pub mod Listing
 pub mod Opening
 pub mod Ranges
 pub mod SetBuilding
+pub mod SetOperations
 pub mod SetQueries
 pub mod Spans
 pub mod Status

@@ -1,7 +1,8 @@
 //! Sets made from two sets.
 ghost use Rattle.std.specs.Prelude.{◌≡◌, ◌↔◌, IsTrue};
-ghost use Rattle.icu_invlist.specs.InversionList.{IsValid, Acts, holds, either, both, without, one_of};
+ghost use Rattle.icu_invlist.specs.InversionList.{IsValid, either, both, without, one_of};
 ghost use Rattle.icu_collections_c.specs.Answers.{CountsEnds};
+ghost use Rattle.icu_collections_c.specs.SetOperations.{IsSetOf};
 ghost use Rattle.icu_collections_c.specs.declared.status.Refusal.TheVariants.{NoSet};
 
 use crate::sets::bks_set_test;
@@ -22,7 +23,7 @@ fn are_sets(a: &[u32], b: &[u32]) -> bool
 #[inline(always)]
 fn write_set<O: SetOperation>(a: &[u32], b: &[u32], ends: &mut [u32]) -> i64
     ensures { CountsEnds (IsValid a.now × IsValid b.now) NoSet
-        (Acts O.gives a.now (holds b.now)) ends.old ends.new result }
+        (IsSetOf O.gives a.now b.now) ends.old ends.new result }
 {
     if !are_sets(a, b) {
         return Refusal::NoSet.number();
@@ -41,7 +42,7 @@ fn write_set<O: SetOperation>(a: &[u32], b: &[u32], ends: &mut [u32]) -> i64
 #[unsafe(no_mangle)]
 pub extern "C" fn bks_set_union(a: &[u32], b: &[u32], ends: &mut [u32]) -> i64
     ensures { CountsEnds (IsValid a.now × IsValid b.now) NoSet
-        (Acts either a.now (holds b.now)) ends.old ends.new result }
+        (IsSetOf either a.now b.now) ends.old ends.new result }
 {
     write_set::<Union>(a, b, ends)
 }
@@ -57,7 +58,7 @@ pub extern "C" fn bks_set_union(a: &[u32], b: &[u32], ends: &mut [u32]) -> i64
 #[unsafe(no_mangle)]
 pub extern "C" fn bks_set_intersection(a: &[u32], b: &[u32], ends: &mut [u32]) -> i64
     ensures { CountsEnds (IsValid a.now × IsValid b.now) NoSet
-        (Acts both a.now (holds b.now)) ends.old ends.new result }
+        (IsSetOf both a.now b.now) ends.old ends.new result }
 {
     write_set::<Intersection>(a, b, ends)
 }
@@ -73,7 +74,7 @@ pub extern "C" fn bks_set_intersection(a: &[u32], b: &[u32], ends: &mut [u32]) -
 #[unsafe(no_mangle)]
 pub extern "C" fn bks_set_difference(a: &[u32], b: &[u32], ends: &mut [u32]) -> i64
     ensures { CountsEnds (IsValid a.now × IsValid b.now) NoSet
-        (Acts without a.now (holds b.now)) ends.old ends.new result }
+        (IsSetOf without a.now b.now) ends.old ends.new result }
 {
     write_set::<Difference>(a, b, ends)
 }
@@ -90,7 +91,7 @@ pub extern "C" fn bks_set_difference(a: &[u32], b: &[u32], ends: &mut [u32]) -> 
 #[unsafe(no_mangle)]
 pub extern "C" fn bks_set_symmetric_difference(a: &[u32], b: &[u32], ends: &mut [u32]) -> i64
     ensures { CountsEnds (IsValid a.now × IsValid b.now) NoSet
-        (Acts one_of a.now (holds b.now)) ends.old ends.new result }
+        (IsSetOf one_of a.now b.now) ends.old ends.new result }
 {
     write_set::<SymmetricDifference>(a, b, ends)
 }

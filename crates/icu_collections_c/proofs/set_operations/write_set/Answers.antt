@@ -9,5 +9,5 @@ returns g c =
     let small : c.merge.result < 2 ^ 63 = omega (arith, c.merge.ensures.few) in
     rw (to_z_pos w64 c.merge.result small) (inl (
       c.are_sets.ensures.0 c.if-not-are_sets.false,
-      (c.merge.result, refl, record { ends = m.ends; valid = m.valid; set = m.set; count = m.count; buffer = m.buffer }),
+      (c.merge.result, refl, record { ends = m.ends; valid = m.valid; set = record { acts = m.set; few = omega (arith, c.merge.ensures.few, m.count) }; count = m.count; buffer = m.buffer }),
     ))
