@@ -172,6 +172,9 @@ mod icu_trie_map;
 #[path = "../../bekstaudi/src/icu_trie_text/mod.rs"]
 mod icu_trie_text;
 #[forbid(unsafe_code)]
+#[path = "../../bekstaudi/src/icu_utf/mod.rs"]
+mod icu_utf;
+#[forbid(unsafe_code)]
 #[path = "../../bekstaudi/src/icu_zerovec/mod.rs"]
 mod icu_zerovec;
 #[forbid(unsafe_code)]

@@ -41,15 +41,15 @@ pub use crate::icu_invlist_binary::serialized;
 
 #[cfg(feature = "alloc")]
 use crate::codepointinvliststringlist::CodePointInversionListAndStringList;
-use crate::icu_zerovec::CODE_POINT_LIMIT;
 #[cfg(feature = "alloc")]
 use crate::plain::{plain, plain_calls, plain_clone};
 use crate::zerovec::{PotentialCodePoint, ZeroVec};
 #[cfg(feature = "alloc")]
 use alloc::vec::Vec;
-use core::ops::{Bound, RangeBounds};
 #[cfg(feature = "alloc")]
-use core::ops::{Range, RangeFrom, RangeFull, RangeInclusive, RangeTo, RangeToInclusive};
+use core::ops::{
+    Range, RangeBounds, RangeFrom, RangeFull, RangeInclusive, RangeTo, RangeToInclusive,
+};
 
 #[cfg(feature = "alloc")]
 plain_clone! {
@@ -271,23 +271,5 @@ impl FrozenCodePointSetAndStrings {
     #[must_use]
     pub fn freeze(set: &CodePointInversionListAndStringList<'_>) -> FrozenCodePointSetAndStrings {
         plain(FrozenCodePointSetAndStrings::try_freeze(set))
-    }
-}
-
-/// Every `RangeBounds` is a range. It contains the numbers between its bounds, except that
-/// `u32::MAX` as an included upper bound counts as an excluded one, since no number follows it.
-impl<X: RangePoint, R: RangeBounds<X>> RangeOf<X> for R {
-    fn deconstruct(self) -> (u32, u32) {
-        let start = match self.start_bound() {
-            Bound::Included(start) => start.number(),
-            Bound::Excluded(before) => before.number().saturating_add(1),
-            Bound::Unbounded => 0,
-        };
-        let end = match self.end_bound() {
-            Bound::Included(last) => last.number().saturating_add(1),
-            Bound::Excluded(end) => end.number(),
-            Bound::Unbounded => CODE_POINT_LIMIT,
-        };
-        (start, end)
     }
 }

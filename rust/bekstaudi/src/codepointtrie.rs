@@ -51,6 +51,7 @@ pub use crate::icu_trie::ranges::{CodePointMapRange, CodePointMapRangeIterator};
 pub use crate::icu_trie::ranges_of_value::IterRangesForValue;
 pub use crate::icu_trie::typed::{
     FastCodePointTrie, SmallCodePointTrie, Typed, TypedCodePointTrie, TypedCodePointTrieError,
+    Untyped,
 };
 pub use crate::icu_trie::value::{NotAValue, TrieValue};
 pub use crate::icu_trie_binary::binary;

@@ -172,8 +172,8 @@ macro_rules! modules {
 
 // The crates of crates.txt, and those of which nothing works without the feature `alloc`.
 generated! {
-    icu_zerovec icu_invlist icu_invlist_binary icu_char16trie icu_trie_core icu_trie icu_trie_formats
-    icu_trie_binary icu_trie_text
+    icu_zerovec icu_utf icu_invlist icu_invlist_binary icu_char16trie icu_trie_core icu_trie
+    icu_trie_formats icu_trie_binary icu_trie_text
 }
 generated_with_alloc! {
     icu_text_sets icu_frozen_sets icu_char16trie_builder icu_trie_map icu_trie_compaction

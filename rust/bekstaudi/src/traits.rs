@@ -7,7 +7,8 @@ use crate::codepointinvlist::{
 use crate::codepointtrie::binary::AnyWidthTrie;
 use crate::codepointtrie::{
     CodePointMapRange, CodePointMapRangeIterator, CodePointTrie, FastCodePointTrie,
-    IterRangesForValue, IterRangesMapped, SmallCodePointTrie, TrieValue, Typed, text,
+    IterRangesForValue, IterRangesMapped, SmallCodePointTrie, TrieValue, Typed, TypedCodePointTrie,
+    text,
 };
 use crate::icu_trie::iterator_utils::RangeListIteratorCoalescer;
 use crate::icu_trie::mapped_ranges::MappedRanges;

@@ -1,6 +1,6 @@
-//! The program ucptrie: crates/ucptrie, crates/ucptrie_sets, crates/ucptrie_source,
-//! crates/ucptrie_tables, crates/ucptrie_words, crates/bzip2_reader, crates/ucd_files and
-//! crates/ucptab_table without their proofs, over `bekstaudi`, `clap`, `serde_json` and `toml`.
+//! The program ucptrie: crates/ucptrie, crates/ucptrie_sets, crates/ucptrie_tables,
+//! crates/ucptrie_words, crates/ucd_files and crates/ucptab_table without their proofs, over
+//! `bekstaudi`, `clap`, `serde_json` and `toml`.
 #![deny(unsafe_code)]
 // Each module imports the same names of `host` and `support`. What the proved sources have in another
 // form than clippy asks for is allowed. A format has whole lines.
@@ -19,12 +19,9 @@
 
 extern crate alloc;
 
-#[allow(dead_code, unused_variables)]
-mod bzip2_reader;
 #[allow(dead_code)]
 mod clap;
 mod host;
-mod ledger;
 mod serde_json;
 #[allow(dead_code, unused_macros)]
 mod support;
@@ -37,8 +34,6 @@ mod ucptab_table;
 mod ucptrie;
 #[allow(dead_code, unused_variables)]
 mod ucptrie_sets;
-#[allow(dead_code, unused_variables)]
-mod ucptrie_source;
 #[allow(dead_code, unused_variables)]
 mod ucptrie_tables;
 #[allow(dead_code, unused_variables)]

@@ -7,8 +7,8 @@ use crate::icu_collections_c::plain_characters::others_of;
 use crate::icu_collections_c::short_characters::{past_short, short_words};
 use crate::icu_collections_c::status::Refusal;
 use crate::icu_collections_c::wide_characters::wide_places;
-use crate::icu_trie_text::characters::{first_character, last_character};
-use crate::icu_trie_text::first_utf16::first_code_point;
+use crate::icu_utf::characters::{first_character, last_character};
+use crate::icu_utf::first_utf16::first_code_point;
 use crate::support::prelude::*;
 
 /// Returns the offset of the first byte from `start` to before `limit` that is not ASCII or not of

@@ -1,7 +1,7 @@
 //! Steps of a cursor along the characters of bytes that may be ill-formed UTF-8.
 
 use crate::icu_char16trie::char16trie::Char16TrieCursor;
-use crate::icu_trie_text::characters::first_character;
+use crate::icu_utf::characters::first_character;
 use crate::support::prelude::*;
 
 /// Returns true if the bytes are not empty and do not start with a character.

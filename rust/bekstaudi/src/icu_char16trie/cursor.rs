@@ -22,7 +22,7 @@ impl<'a> Char16TrieCursor<'a> {
     /// Creates a cursor at the root of the trie with these units.
     #[inline]
     #[must_use]
-    pub fn new(trie: impl Into<ZeroSlice<'a, u16>>) -> Self {
+    pub fn new<S: Into<ZeroSlice<'a, u16>>>(trie: S) -> Self {
         Char16TrieCursor {
             units: trie.into(),
             place: Place::Node(0),

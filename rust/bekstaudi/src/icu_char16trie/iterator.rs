@@ -27,7 +27,7 @@ impl<'a> Char16TrieIterator<'a> {
     /// Creates an iterator at the root of the trie with these units.
     #[inline]
     #[must_use]
-    pub fn new(trie: ZeroSlice<'a, u16>) -> Self {
+    pub fn new<S: Into<ZeroSlice<'a, u16>>>(trie: S) -> Self {
         Char16TrieIterator {
             cursor: Char16TrieCursor::new(trie),
         }

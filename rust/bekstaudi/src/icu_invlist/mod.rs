@@ -8,6 +8,7 @@
 //!     - `places`: searches for a code point among the boundaries
 //!     - `subsets`: the subset test
 //!   - `equality`: equality and hashing
+//!   - `range_of`: types that are ranges
 //!   - `utils`: the numbers in a range, and the validity of a list
 //!   - `iter`: iterators over the ranges, the ranges of the complement, and the characters
 //!   - `builder`:

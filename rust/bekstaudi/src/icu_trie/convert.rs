@@ -43,10 +43,10 @@ impl<'trie, T: TrieValue> CodePointTrie<'trie, T> {
             Err(UleError::Cell(i)) => return Err(ConvertError::Cell(i)),
             Err(UleError::Length) => unreachable!(),
         };
-        match same_packed::<T, P>(null) {
-            Some(null) => Ok(CodePointTrie::with_data(header, index, data, null)),
-            None => Err(ConvertError::ErrorOrNull),
-        }
+        let Some(null) = same_packed::<T, P>(null) else {
+            return Err(ConvertError::ErrorOrNull);
+        };
+        Ok(CodePointTrie::with_data(header, index, data, null))
     }
 
     /// Returns the trie of parts that were already checked, with this null value.

@@ -18,11 +18,12 @@ use crate::support::prelude::*;
 #[inline]
 fn fast_block_passes(trie_type: TrieType, index: ZeroSlice<'_, u16>, len: usize) -> bool {
     let half = trie_type.fast_index_len() / 2;
+    // One bounds check for all cells.
+    let cells = index.prefix(2 * half);
     let (mut lower, mut upper) = (0, 0);
-    let index: ZeroSlice<'_, u16> = ZeroSlice::from_packed(&index.as_bytes()[..4 * half]);
     for i in 0..half {
-        lower = index.at(i).max(lower);
-        upper = index.at(half + i).max(upper);
+        lower = cells.at(i).max(lower);
+        upper = cells.at(half + i).max(upper);
     }
     len < lower.max(upper) as usize + FAST_TYPE_DATA_BLOCK_LENGTH as usize
 }
@@ -150,7 +151,7 @@ impl<'trie, T: TrieValue> CodePointTrie<'trie, T> {
     #[inline(always)]
     fn fast_place(&self, trie_type: TrieType, index: ZeroSlice<'_, u16>, c: u32) -> Option<usize> {
         let blocks = trie_type.fast_index_len();
-        match index.get_below(blocks, (c >> FAST_TYPE_SHIFT) as usize) {
+        match index.get_likely_below(blocks, (c >> FAST_TYPE_SHIFT) as usize) {
             Some(offset) => Some(offset as usize + (c % FAST_TYPE_DATA_BLOCK_LENGTH) as usize),
             None => None,
         }

@@ -9,6 +9,20 @@ use crate::icu_trie_core::header::TrieType;
 use crate::icu_trie_core::value::TrieValue;
 use crate::support::prelude::*;
 
+/// A value that contains a trie, from which [`TypedCodePointTrie`] takes it.
+pub trait Untyped {
+    /// The type of the trie: a [`CodePointTrie`].
+    type Trie;
+
+    /// Returns a reference to the trie.
+    fn untyped_ref(&self) -> &Self::Trie;
+
+    /// Converts the value into the trie.
+    fn into_untyped(self) -> Self::Trie
+    where
+        Self: Sized;
+}
+
 /// A trie whose type is known at compile time, so that look-ups do not test it.
 ///
 /// ```
@@ -29,17 +43,24 @@ use crate::support::prelude::*;
 /// ```
 ///
 /// The tries of a user-defined type must all have the type [`TRIE_TYPE`](Self::TRIE_TYPE).
-pub trait TypedCodePointTrie<'trie, T: TrieValue> {
+pub trait TypedCodePointTrie<'trie, T: TrieValue>: Untyped<Trie = CodePointTrie<'trie, T>> {
     /// The type of the trie.
     const TRIE_TYPE: TrieType;
 
     /// Returns a reference to the trie as a [`CodePointTrie`].
-    fn as_untyped_ref(&self) -> &CodePointTrie<'trie, T>;
+    #[inline(always)]
+    fn as_untyped_ref(&self) -> &CodePointTrie<'trie, T> {
+        self.untyped_ref()
+    }
 
     /// Converts the trie into a [`CodePointTrie`].
+    #[inline(always)]
     fn to_untyped(self) -> CodePointTrie<'trie, T>
     where
-        Self: Sized;
+        Self: Sized,
+    {
+        self.into_untyped()
+    }
 
     /// Returns the value of the code point `c`, as [`CodePointTrie::get32`] does.
     fn get32(&self, c: u32) -> T;
@@ -79,34 +100,22 @@ pub struct FastCodePointTrie<'trie, T: TrieValue> {
     inner: CodePointTrie<'trie, T>,
 }
 
-impl<'trie, T: TrieValue> FastCodePointTrie<'trie, T> {
-    /// Returns a reference to the trie as a [`CodePointTrie`].
+impl<'trie, T: TrieValue> Untyped for FastCodePointTrie<'trie, T> {
+    type Trie = CodePointTrie<'trie, T>;
+
     #[inline(always)]
-    #[must_use]
-    pub const fn as_untyped_ref(&self) -> &CodePointTrie<'trie, T> {
+    fn untyped_ref(&self) -> &CodePointTrie<'trie, T> {
         &self.inner
     }
 
-    /// Converts the trie into a [`CodePointTrie`].
     #[inline(always)]
-    #[must_use]
-    pub fn to_untyped(self) -> CodePointTrie<'trie, T> {
+    fn into_untyped(self) -> CodePointTrie<'trie, T> {
         self.inner
     }
 }
 
 impl<'trie, T: TrieValue> TypedCodePointTrie<'trie, T> for FastCodePointTrie<'trie, T> {
     const TRIE_TYPE: TrieType = TrieType::Fast;
-
-    #[inline(always)]
-    fn as_untyped_ref(&self) -> &CodePointTrie<'trie, T> {
-        &self.inner
-    }
-
-    #[inline(always)]
-    fn to_untyped(self) -> CodePointTrie<'trie, T> {
-        self.inner
-    }
 
     #[inline(always)]
     fn get32(&self, c: u32) -> T {
@@ -130,34 +139,22 @@ pub struct SmallCodePointTrie<'trie, T: TrieValue> {
     inner: CodePointTrie<'trie, T>,
 }
 
-impl<'trie, T: TrieValue> SmallCodePointTrie<'trie, T> {
-    /// Returns a reference to the trie as a [`CodePointTrie`].
+impl<'trie, T: TrieValue> Untyped for SmallCodePointTrie<'trie, T> {
+    type Trie = CodePointTrie<'trie, T>;
+
     #[inline(always)]
-    #[must_use]
-    pub const fn as_untyped_ref(&self) -> &CodePointTrie<'trie, T> {
+    fn untyped_ref(&self) -> &CodePointTrie<'trie, T> {
         &self.inner
     }
 
-    /// Converts the trie into a [`CodePointTrie`].
     #[inline(always)]
-    #[must_use]
-    pub fn to_untyped(self) -> CodePointTrie<'trie, T> {
+    fn into_untyped(self) -> CodePointTrie<'trie, T> {
         self.inner
     }
 }
 
 impl<'trie, T: TrieValue> TypedCodePointTrie<'trie, T> for SmallCodePointTrie<'trie, T> {
     const TRIE_TYPE: TrieType = TrieType::Small;
-
-    #[inline(always)]
-    fn as_untyped_ref(&self) -> &CodePointTrie<'trie, T> {
-        &self.inner
-    }
-
-    #[inline(always)]
-    fn to_untyped(self) -> CodePointTrie<'trie, T> {
-        self.inner
-    }
 
     #[inline(always)]
     fn get32(&self, c: u32) -> T {

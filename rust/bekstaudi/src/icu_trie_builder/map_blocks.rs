@@ -20,8 +20,8 @@ pub(crate) struct MapBlocks<'a> {
 impl MapBlocks<'_> {
     /// Places `count` blocks in `store`, from block number `first` on, and returns their offsets.
     ///
-    /// The offset of a block is the first position at which its numbers occur. If [`NumberMap`]
-    /// reports that a block repeats the one before it, the block is not read.
+    /// The offset of a block is the first position at which its numbers occur. If
+    /// [`NumberMap::repeats`] reports a run of equal blocks, only the first one is read.
     ///
     /// # Errors
     ///

@@ -96,7 +96,8 @@ pub fn cell_of<T, C: Cells<T>>(
 /// Returns the cell of `c`, or `None` for the error value.
 ///
 /// `c` can be any 32-bit number. The result is `None` if `c` is above 0x10FFFF, or if a cell of the
-/// index or the data is missing. Takes at most five reads. The format is ICU's `UCPTrie`.
+/// index or the data is missing. Takes at most five reads, and at most two if `c` is below the fast
+/// limit. The format is ICU's `UCPTrie`.
 #[inline(always)]
 pub fn look_up<T, C: Cells<T>>(header: &CodePointTrieHeader, cells: &mut C, c: u32) -> Option<T> {
     if c < header.trie_type.fast_limit() {
@@ -130,8 +131,8 @@ fn look_up_small<T, C: Cells<T>>(header: &CodePointTrieHeader, cells: &mut C, c:
     cells.data_cell(place)
 }
 
-/// Returns what [`look_up`] returns for `c`. The fast index must be whole, so that the fast path
-/// needs no bounds checks.
+/// Returns what [`look_up`] returns for `c`, in as many reads. The fast index must be whole, so that
+/// the fast path needs no bounds checks.
 ///
 /// The fast index is whole if it has a cell for each block of 64 below the fast limit, and all
 /// these blocks are inside the data. Every trie whose parts were checked when it was made has a

@@ -2,6 +2,7 @@
 
 use crate::icu_zerovec::ule::AsULE;
 use crate::support::prelude::*;
+use core::fmt;
 
 /// A value that a trie can store: a packed value that has a 32-bit number.
 ///
@@ -60,7 +61,7 @@ use crate::support::prelude::*;
 /// ```
 pub trait TrieValue: AsULE + Eq + 'static {
     /// The error for a number that no value has.
-    type TryFromU32Error: core::fmt::Display;
+    type TryFromU32Error: fmt::Display;
 
     /// Returns the number of the value.
     fn to_u32(self) -> u32;

@@ -253,7 +253,8 @@ impl Blocks {
         0
     }
 
-    /// Returns how many of the `most` blocks from `first` on hold only the number of `first`.
+    /// Returns how many of the `most` blocks from block number `first` on hold only the number of
+    /// `first`. It reads no cells: a mixed block ends the run.
     #[inline]
     pub(crate) fn run_of_one(&self, first: usize, most: usize) -> usize {
         let (mixed, places) = (

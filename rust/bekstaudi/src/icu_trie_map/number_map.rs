@@ -101,8 +101,11 @@ impl NumberMap {
         blocks.used(self.last()).div_ceil(32) * 512
     }
 
-    /// Returns how many of the `most` blocks of `size` code points from block `number` on hold one and
-    /// the same value. Returns 1 if block `number` holds several.
+    /// Returns the length of a run of equal blocks: how many of the `most` aligned blocks of `size`
+    /// code points, from block number `number` on, are known to equal the first one. It is at least 1.
+    ///
+    /// It compares no cells. A block after the first one counts only if all code points of the run up
+    /// to its end have one number and no block of 16 is mixed. So further blocks may be equal.
     #[inline]
     pub(crate) fn repeats(&self, size: usize, number: usize, most: usize) -> usize {
         let Numbers::InBlocks(blocks) = &self.numbers else {

@@ -1,9 +1,9 @@
 //! The value of the first part of bytes that may be ill-formed UTF-8.
 
-use crate::icu_trie_text::first_utf8::{
+use crate::icu_trie_text::part_values::{PartValues, Reading};
+use crate::icu_utf::first_utf8::{
     ill_formed_size, is_high_of_four, is_high_of_three, of_four, of_three, of_two, trail_of,
 };
-use crate::icu_trie_text::part_values::{PartValues, Reading};
 use crate::support::prelude::*;
 
 /// Returns the character at the start of the bytes, which are not empty, and its size in bytes.

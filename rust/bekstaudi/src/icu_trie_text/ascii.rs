@@ -73,17 +73,16 @@ impl<'a, T: TrieValue> AsciiInPlace<'a, T> {
     /// Returns the value of an ASCII code point if it is known to be at its own index in the data.
     #[inline(always)]
     pub(crate) fn ascii(&self, c: u32) -> Option<T> {
-        if c < self.end {
-            Some(self.values.at(c as usize))
-        } else {
-            None
-        }
+        self.values.get_below(self.end as usize, c as usize)
     }
 
     /// Returns the value of the code point at index `place` in a block of 64.
     #[inline(always)]
     pub(crate) fn at(&self, block: u32, place: u32) -> T {
-        if let Some(offset) = self.index.get_below(self.blocks as usize, block as usize) {
+        if let Some(offset) = self
+            .index
+            .get_likely_below(self.blocks as usize, block as usize)
+        {
             return self.values.at(offset as usize + place as usize);
         }
         self.trie.get32(block * 64 + place)

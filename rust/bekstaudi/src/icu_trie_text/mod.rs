@@ -9,31 +9,24 @@
 //! - `utf16`: [`ValuesOfUtf16`](utf16::ValuesOfUtf16), the value of each code point of 16-bit units
 //! - `utf8`: [`ValuesOfUtf8`](utf8::ValuesOfUtf8), the value of each character of bytes that may be
 //!   ill-formed UTF-8
-//! - `characters`: the first and the last character of bytes that may be ill-formed UTF-8
-//! - `first`, `first_utf16`, `first_utf8`: the first character of a text, the first code point of
-//!   units, the first part of bytes
+//! - `first`: the first character of a text with its value
 //! - `copy`: the values of bytes that may be ill-formed UTF-8, copied to a buffer
 //! - `copy_parts`: the loop of `copy`, over values from anywhere, for the crates that build on this
 //!   one; [`Copied`](copy_parts::Copied), what it returns
 //! - `part_values`: such values, and how the first of them is read
 //! - `any_bytes`, `well_formed`: the two ways to read it
-//! - `places`: the block of the first character of a text, and the index in it
 //! - `ascii`: tries whose data start with the values of ASCII
 
 use crate::support::prelude::*;
 mod any_bytes;
 mod ascii;
-pub mod characters;
 mod copy;
 pub mod copy_parts;
 mod find;
 mod first;
-pub mod first_utf16;
-mod first_utf8;
 mod found;
 mod indices;
 pub mod part_values;
-mod places;
 pub mod text;
 mod utf16;
 mod utf8;

@@ -2,7 +2,7 @@
 
 use crate::icu_trie::cptrie::CodePointTrie;
 use crate::icu_trie_core::value::TrieValue;
-use crate::icu_trie_text::first_utf16::first_code_point;
+use crate::icu_utf::first_utf16::first_code_point;
 use crate::support::prelude::*;
 
 /// An iterator over the code points of 16-bit units, each with its value in a trie.

@@ -3,7 +3,7 @@
 use crate::icu_trie::cptrie::CodePointTrie;
 use crate::icu_trie_core::value::TrieValue;
 use crate::icu_trie_text::ascii::AsciiInPlace;
-use crate::icu_trie_text::first_utf8::{ill_formed_size, of_four, place_of_three, place_of_two};
+use crate::icu_utf::first_utf8::{ill_formed_size, of_four, place_of_three, place_of_two};
 use crate::support::prelude::*;
 use core::slice::Iter;
 

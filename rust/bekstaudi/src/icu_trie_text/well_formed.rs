@@ -1,7 +1,7 @@
 //! The value of the first character of well-formed UTF-8. No trail byte is tested.
 
 use crate::icu_trie_text::part_values::{PartValues, Reading, THREE_BYTE_BLOCKS};
-use crate::icu_trie_text::places::{number_of_four, place_of_three, place_of_two};
+use crate::icu_utf::places::{number_of_four, place_of_three, place_of_two};
 use crate::support::prelude::*;
 
 /// Bytes that are well-formed UTF-8. The first `NEAR` blocks are known to be near.

@@ -1,6 +1,6 @@
 //! The work on packed bytes. A cell is the `WIDTH` bytes of one value.
 
-use crate::icu_zerovec::raw::{cell_at, cell_below, cell_known};
+use crate::icu_zerovec::raw::{cell_at, cell_below, cell_known, likely_cell_below};
 use crate::icu_zerovec::ule::{AsULE, UleError};
 use crate::support::AllocError;
 use crate::support::prelude::*;
@@ -44,6 +44,15 @@ pub(crate) fn get_below<T: AsULE>(bytes: &[u8], end: usize, i: usize) -> Option<
     }
 }
 
+/// Returns what [`get_below`] returns, for an index that is usually less than `end`.
+#[inline(always)]
+pub(crate) fn get_likely_below<T: AsULE>(bytes: &[u8], end: usize, i: usize) -> Option<T> {
+    match likely_cell_below(bytes, T::WIDTH, end, i) {
+        Some(cell) => T::from_unaligned(cell),
+        None => None,
+    }
+}
+
 /// Returns the value at index `i` of packed bytes, or `None` if `i` is not less than the length. If
 /// `is_inside` is true, `i` must be less.
 #[inline(always)]
@@ -52,6 +61,12 @@ pub(crate) fn get_known<T: AsULE>(bytes: &[u8], i: usize, is_inside: bool) -> Op
         Some(cell) => T::from_unaligned(cell),
         None => None,
     }
+}
+
+/// Returns the packed bytes of the first `end` values.
+#[inline(always)]
+pub(crate) fn prefix<T: AsULE>(bytes: &[u8], end: usize) -> &[u8] {
+    &bytes[..end * T::WIDTH]
 }
 
 /// Checks that bytes are packed values. The error is the length if it is not a multiple of the

@@ -3,9 +3,9 @@
 mod tested;
 
 #[cfg(feature = "proved-reads")]
-pub(crate) use proved::{cell_at, cell_below, cell_known};
+pub(crate) use proved::{cell_at, cell_below, cell_known, likely_cell_below};
 #[cfg(not(feature = "proved-reads"))]
-pub(crate) use tested::{cell_at, cell_below, cell_known};
+pub(crate) use tested::{cell_at, cell_below, cell_known, likely_cell_below};
 
 /// The bodies of crates/icu_zerovec/src/raw/proved.rt, with one read that is not checked again.
 #[cfg(feature = "proved-reads")]
@@ -67,5 +67,16 @@ mod proved {
         } else {
             None
         }
+    }
+
+    /// Returns what [`cell_below`] returns, for an index that is usually less than `end`.
+    #[inline(always)]
+    pub(crate) fn likely_cell_below(
+        bytes: &[u8],
+        width: usize,
+        end: usize,
+        i: usize,
+    ) -> Option<&[u8]> {
+        cell_below(bytes, width, end, i)
     }
 }

@@ -84,11 +84,24 @@ impl<'a, T: AsULE> ZeroSlice<'a, T> {
         cells::get_below(self.bytes, end, i)
     }
 
+    /// Returns what [`get_below`](Self::get_below) returns, for an index that is usually less than `end`:
+    /// that path comes first in machine code.
+    #[inline(always)]
+    pub(crate) fn get_likely_below(&self, end: usize, i: usize) -> Option<T> {
+        cells::get_likely_below(self.bytes, end, i)
+    }
+
     /// Returns the value at index `i`, or `None` if `i` is not less than the length. If `is_inside` is
     /// true, `i` must be less than the length; where a proof takes the place of tests, none is made then.
     #[inline(always)]
     pub(crate) fn get_known(&self, i: usize, is_inside: bool) -> Option<T> {
         cells::get_known(self.bytes, i, is_inside)
+    }
+
+    /// Returns a view of the first `end` values. `end` must be at most the length.
+    #[inline(always)]
+    pub(crate) fn prefix(&self, end: usize) -> ZeroSlice<'a, T> {
+        ZeroSlice::from_packed(cells::prefix::<T>(self.bytes, end))
     }
 
     /// Returns the first value, or `None` if there are no values.

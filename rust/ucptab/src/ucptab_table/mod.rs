@@ -1,4 +1,5 @@
-//! The engine of `ucptab`: reads rows, and prints the values of a trie that is built of them.
+//! The engine of `ucptab`: reads rows, and prints the values of a trie that is built of them. For
+//! `ucptrie`, `pattern` writes the texts of source.
 
 use crate::host::*;
 use crate::support::prelude::*;
@@ -7,6 +8,7 @@ pub mod fault;
 pub mod hint;
 pub mod input;
 pub mod message;
+pub mod pattern;
 pub mod rows;
 pub mod streams;
 pub mod text;

@@ -12,12 +12,14 @@
 //! - `coverage`: which code points have a value
 //! - `missing_values`: the values of code points without a line
 //! - `title`: what a file says of itself
+//! - `compression`: how a file is compressed
 //! - `fault`: what is wrong with a line or a file
 
 use crate::host::*;
 use crate::support::prelude::*;
 pub mod aliases;
 pub mod choice;
+pub mod compression;
 mod coverage;
 pub mod fault;
 pub mod fields;

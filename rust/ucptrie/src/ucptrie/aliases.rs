@@ -53,7 +53,7 @@ pub fn named_aliases(rt: &HostRuntime, matches: &ArgMatches<'_>) -> Result<Alias
         properties: Vec::new(),
     };
     for path in matches.get_strs("aliases").unwrap_or(&[]) {
-        let text = text_at(rt, path)?;
+        let text = text_at(rt, path, "--aliases ")?;
         push_file(&mut aliases, without_mark(&text))?;
     }
     Ok(aliases)

@@ -19,7 +19,7 @@ fn unasked(name: &str, text: &[u8], number: u64) -> Fault {
 
 /// Appends the numbers that the lines of a file ask for.
 fn push_file(rt: &HostRuntime, asked: &mut Vec<u32>, path: &str) -> Result<(), Fault> {
-    let bytes = text_at(rt, path)?;
+    let bytes = text_at(rt, path, "--from ")?;
     let text = without_mark(&bytes);
     match push_asked_lines(asked, text) {
         Ok(()) => Ok(()),

@@ -1,54 +1,60 @@
-//! Input that is compressed: bzip2 is decompressed, and messages say what to do with other formats,
-//! and with line ends of old systems.
-use crate::bzip2_reader::error::Bzip2Error;
-use crate::bzip2_reader::stream::{decompressed, is_bzip2};
+//! Input that has to be converted first: compressed files, UTF-16 and line ends of old systems.
 use crate::host::*;
 use crate::support::AllocError;
 use crate::support::prelude::*;
-use crate::ucptrie::fault::{Fault, about, said};
+use crate::ucd_files::compression::{Compression, compression_of};
+use crate::ucptrie::fault::{CompressedInput, Fault, about, said};
+use crate::ucptrie::heading::push_word;
+use crate::ucptrie::streams::INPUT;
 
-/// The first bytes of files that are not text, and the message about each.
-static OTHERS: [(&[u8], &str); 6] = [
-    (
-        b"\x1f\x8b",
-        "found a gzip file: decompress it first, as in `gunzip -c FILE | ucptrie COMMAND -`",
-    ),
-    (
-        b"PK\x03\x04",
-        "found a zip file: decompress it first, as in `unzip -p FILE | ucptrie COMMAND -`",
-    ),
-    (
-        b"\xfd7zXZ",
-        "found an xz file: decompress it first, as in `xz -dc FILE | ucptrie COMMAND -`",
-    ),
-    (
-        b"\x28\xb5\x2f\xfd",
-        "found a zstd file: decompress it first, as in `zstd -dc FILE | ucptrie COMMAND -`",
-    ),
-    (b"\xfe\xff", "found UTF-16: convert it to UTF-8"),
-    (b"\xff\xfe", "found UTF-16: convert it to UTF-8"),
-];
-
-/// Returns the bytes of an input, decompressed if `bzip2` wrote them. `name` is what they were read
-/// from.
-pub fn unpacked(name: &str, bytes: Vec<u8>) -> Result<Vec<u8>, Fault> {
-    if !is_bzip2(&bytes) {
-        return Ok(bytes);
-    }
-    match decompressed(&bytes) {
-        Ok(text) => Ok(text),
-        Err(Bzip2Error::Memory) => Err(Fault::Memory),
-        Err(fault) => Err(about(name, fault)),
+/// Returns the program that compresses so, and the command that prints what such a file has.
+fn programs(how: Compression) -> (&'static str, &'static str) {
+    match how {
+        Compression::Bzip2 => ("bzip2", "bzcat"),
+        Compression::Gzip => ("gzip", "zcat"),
+        Compression::Xz => ("xz", "xzcat"),
+        Compression::Zip => ("zip", "unzip -p"),
+        Compression::Zstd => ("zstd", "zstdcat"),
     }
 }
 
-/// Returns a fault if bytes that are to be text start as in another format. `name` is what they
-/// were read from.
+/// Returns the line about a compressed input of a command: what to type instead.
+pub fn compressed_line(command: &str, input: &CompressedInput) -> Result<String, AllocError> {
+    let name = input.name.as_str();
+    let (program, reader) = programs(input.how);
+    let mut line = String::new();
+    write!(line, "{name}: compressed by {program}: type {reader} ")?;
+    push_word(&mut line, if name == INPUT { "FILE" } else { name })?;
+    let option = input.option;
+    write!(line, " | ucptrie {command} {option}-")?;
+    Ok(line)
+}
+
+/// Returns the name of a compressed input, and how it is compressed.
+fn compressed_input(
+    name: &str,
+    option: &'static str,
+    how: Compression,
+) -> Result<CompressedInput, AllocError> {
+    let name = String::from_str(name)?;
+    Ok(CompressedInput { name, how, option })
+}
+
+/// Returns a fault if bytes are compressed. `name` is what they were read from, and `option` is the
+/// option before that name and a space, or nothing.
+pub fn expect_decompressed(name: &str, option: &'static str, bytes: &[u8]) -> Result<(), Fault> {
+    match compression_of(bytes) {
+        Some(how) => Err(Fault::Compressed(compressed_input(name, option, how)?)),
+        None => Ok(()),
+    }
+}
+
+/// Returns a fault if bytes that are to be text are compressed or start as UTF-16. `name` is what
+/// they were read from.
 pub fn expect_text(name: &str, bytes: &[u8]) -> Result<(), Fault> {
-    for (start, why) in OTHERS.iter() {
-        if bytes.starts_with(*start) {
-            return Err(about(name, *why));
-        }
+    expect_decompressed(name, "", bytes)?;
+    if bytes.starts_with(b"\xfe\xff".as_slice()) || bytes.starts_with(b"\xff\xfe".as_slice()) {
+        return Err(about(name, "found UTF-16: convert it to UTF-8"));
     }
     Ok(())
 }

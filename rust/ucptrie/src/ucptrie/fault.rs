@@ -2,7 +2,18 @@
 use crate::host::*;
 use crate::support::prelude::*;
 use crate::support::{AllocError, AllocFailed};
+use crate::ucd_files::compression::Compression;
 use core::fmt;
+
+/// An input that is compressed.
+pub struct CompressedInput {
+    /// What it was read from.
+    pub name: String,
+    /// How it is compressed.
+    pub how: Compression,
+    /// The option that names it, with a space, or nothing.
+    pub option: &'static str,
+}
 
 /// Why the program fails.
 pub enum Fault {
@@ -10,6 +21,8 @@ pub enum Fault {
     Arguments(String),
     /// Something else is, as this line says.
     Said(String),
+    /// An input is compressed. The line names the command, so its caller makes it.
+    Compressed(CompressedInput),
     /// An allocation failed.
     Memory,
     /// The reader of standard output has closed the pipe.
@@ -34,7 +47,7 @@ impl Fault {
         match self {
             Fault::Arguments(line) | Fault::Said(line) => Some(line.as_str()),
             Fault::Memory => Some("no memory"),
-            Fault::ClosedPipe => None,
+            Fault::Compressed(_) | Fault::ClosedPipe => None,
         }
     }
 
@@ -43,8 +56,8 @@ impl Fault {
     pub fn status(&self, is_diff: bool) -> u8 {
         match self {
             Fault::Arguments(_) => 2,
-            Fault::Said(_) | Fault::Memory if is_diff => 2,
-            Fault::Said(_) | Fault::Memory | Fault::ClosedPipe => 1,
+            Fault::Said(_) | Fault::Compressed(_) | Fault::Memory if is_diff => 2,
+            Fault::Said(_) | Fault::Compressed(_) | Fault::Memory | Fault::ClosedPipe => 1,
         }
     }
 }

@@ -30,8 +30,8 @@ fn push_in_line(text: &mut String, c: char) -> Result<(), AllocError> {
     text.try_push(if fits_comment(c) { c } else { '?' })
 }
 
-/// Appends a word of the command, between quotes if a shell would not read it as it is.
-fn push_word(text: &mut String, word: &str) -> Result<(), AllocError> {
+/// Appends a word of a command, between quotes if a shell would not read it as it is.
+pub fn push_word(text: &mut String, word: &str) -> Result<(), AllocError> {
     if is_bare(word) {
         return text.try_push_str(word);
     }

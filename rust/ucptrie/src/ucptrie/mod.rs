@@ -38,8 +38,9 @@ use crate::host::{env, io};
 use crate::support::AllocError;
 use crate::ucptrie::asked::asked;
 use crate::ucptrie::build::build;
+use crate::ucptrie::compressed::compressed_line;
 use crate::ucptrie::convert::convert;
-use crate::ucptrie::fault::{Fault, about, about_arguments};
+use crate::ucptrie::fault::{Fault, about, about_arguments, said};
 use crate::ucptrie::heading::with_heading;
 use crate::ucptrie::names::test_name;
 use crate::ucptrie::offsets::{Start, start_of};
@@ -245,6 +246,10 @@ fn status_of(rt: &HostRuntime, matches: &ArgMatches<'_>) -> u8 {
     };
     match run(rt, name, matches) {
         Ok(status) => status,
+        Err(Fault::Compressed(input)) => {
+            let fault = said(compressed_line(name, &input));
+            failed(rt, &fault, name == "diff")
+        }
         Err(fault) => failed(rt, &fault, name == "diff"),
     }
 }

@@ -3,7 +3,7 @@ use crate::host::io::{Read, Write};
 use crate::host::*;
 use crate::host::{fs, io};
 use crate::support::prelude::*;
-use crate::ucptrie::compressed::{expect_lines, unpacked};
+use crate::ucptrie::compressed::{expect_decompressed, expect_lines};
 use crate::ucptrie::fault::{Fault, about};
 
 /// The name of standard input in messages.
@@ -25,29 +25,31 @@ pub fn without_mark(text: &[u8]) -> &[u8] {
     text.strip_prefix(MARK).unwrap_or(text)
 }
 
-/// Reads all of standard input, and decompresses it if `bzip2` wrote it.
+/// Reads all of standard input.
 fn input(rt: &HostRuntime) -> Result<Vec<u8>, Fault> {
     let mut bytes = Vec::new();
     match rt.stdin().read_to_end(&mut bytes) {
-        Ok(_) => unpacked(INPUT, bytes),
+        Ok(_) => Ok(bytes),
         Err(error) => Err(about(INPUT, error)),
     }
 }
 
-/// Reads a file, or standard input if its name is `-`, and decompresses it if `bzip2` wrote it.
+/// Reads a file, or standard input if its name is `-`.
 pub fn bytes_at(rt: &HostRuntime, path: &str) -> Result<Vec<u8>, Fault> {
     if path == "-" {
         return input(rt);
     }
     match fs::read(rt, path) {
-        Ok(bytes) => unpacked(path, bytes),
+        Ok(bytes) => Ok(bytes),
         Err(error) => Err(about(path, error)),
     }
 }
 
-/// Reads a text from a file, or from standard input if its name is `-`.
-pub fn text_at(rt: &HostRuntime, path: &str) -> Result<Vec<u8>, Fault> {
+/// Reads a text from a file, or from standard input if its name is `-`. `option` is the option that
+/// names it, with a space.
+pub fn text_at(rt: &HostRuntime, path: &str, option: &'static str) -> Result<Vec<u8>, Fault> {
     let bytes = bytes_at(rt, path)?;
+    expect_decompressed(input_name(path), option, &bytes)?;
     expect_lines(input_name(path), &bytes)?;
     Ok(bytes)
 }

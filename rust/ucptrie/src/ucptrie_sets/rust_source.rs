@@ -3,9 +3,9 @@
 use crate::host::*;
 use crate::support::AllocError;
 use crate::support::prelude::*;
+use crate::ucptab_table::pattern::Number::Decimal;
+use crate::ucptab_table::pattern::{push_named, push_pattern};
 use crate::ucptrie_sets::source::{frozen_of, push_boundaries, push_indices, push_words, title_of};
-use crate::ucptrie_source::pattern::Number::Decimal;
-use crate::ucptrie_source::pattern::{push_named, push_pattern};
 use bekstaudi::codepointinvlist::CodePointInversionList;
 use bekstaudi::codepointinvlist::FrozenTables;
 

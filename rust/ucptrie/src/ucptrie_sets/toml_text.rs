@@ -3,8 +3,8 @@
 use crate::host::*;
 use crate::support::AllocError;
 use crate::support::prelude::*;
-use crate::ucptrie_source::pattern::Number::Hexadecimal;
-use crate::ucptrie_source::pattern::{push_named, push_pattern};
+use crate::ucptab_table::pattern::Number::Hexadecimal;
+use crate::ucptab_table::pattern::{push_named, push_pattern};
 use bekstaudi::codepointinvlist::CodePointInversionList;
 use core::ops::RangeInclusive;
 

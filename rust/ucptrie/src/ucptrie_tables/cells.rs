@@ -3,7 +3,7 @@
 use crate::host::*;
 use crate::support::AllocError;
 use crate::support::prelude::*;
-use crate::ucptrie_source::pattern::push_cell;
+use crate::ucptab_table::pattern::push_cell;
 use crate::ucptrie_tables::table::Table;
 use bekstaudi::codepointtrie::TrieValue;
 use bekstaudi::zerovec::ZeroSlice;

@@ -3,8 +3,8 @@
 use crate::host::*;
 use crate::support::AllocError;
 use crate::support::prelude::*;
-use crate::ucptrie_source::pattern::Number::Decimal;
-use crate::ucptrie_source::pattern::push_pattern;
+use crate::ucptab_table::pattern::Number::Decimal;
+use crate::ucptab_table::pattern::push_pattern;
 use crate::ucptrie_tables::shown::{answered, push_comments};
 use crate::ucptrie_tables::source::{index1_offset, type_name};
 use crate::ucptrie_tables::table::Table;

@@ -5,8 +5,8 @@ use crate::support::AllocError;
 use crate::support::BTreeMap;
 use crate::support::prelude::*;
 use crate::ucd_files::names::Name;
-use crate::ucptrie_source::pattern::Number::Decimal;
-use crate::ucptrie_source::pattern::push_number;
+use crate::ucptab_table::pattern::Number::Decimal;
+use crate::ucptab_table::pattern::push_number;
 use crate::ucptrie_tables::value_names::name_length;
 
 /// Sets the name of its number, unless the number has a name that is as long.

@@ -3,8 +3,8 @@
 use crate::host::*;
 use crate::support::AllocError;
 use crate::support::prelude::*;
-use crate::ucptrie_source::pattern::Number::{Decimal, Hexadecimal};
-use crate::ucptrie_source::pattern::push_pattern;
+use crate::ucptab_table::pattern::Number::{Decimal, Hexadecimal};
+use crate::ucptab_table::pattern::push_pattern;
 use crate::ucptrie_tables::cells::{push_data, push_index};
 use crate::ucptrie_tables::source::{index1_offset, push_sizes, type_code};
 use crate::ucptrie_tables::table::Table;

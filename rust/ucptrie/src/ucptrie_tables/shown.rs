@@ -3,9 +3,9 @@
 use crate::host::*;
 use crate::support::AllocError;
 use crate::support::prelude::*;
+use crate::ucptab_table::pattern::Number::{Decimal, Hexadecimal};
+use crate::ucptab_table::pattern::push_pattern;
 use crate::ucptab_table::text::{answers_text, ranges_text};
-use crate::ucptrie_source::pattern::Number::{Decimal, Hexadecimal};
-use crate::ucptrie_source::pattern::push_pattern;
 use crate::ucptrie_tables::sizes::bounds_of;
 use crate::ucptrie_tables::source::type_name;
 use crate::ucptrie_tables::table::Table;

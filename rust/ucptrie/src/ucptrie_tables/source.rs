@@ -3,8 +3,8 @@
 use crate::host::*;
 use crate::support::AllocError;
 use crate::support::prelude::*;
-use crate::ucptrie_source::pattern::Number::{self, Decimal, Hexadecimal};
-use crate::ucptrie_source::pattern::push_pattern;
+use crate::ucptab_table::pattern::Number::{self, Decimal, Hexadecimal};
+use crate::ucptab_table::pattern::push_pattern;
 use crate::ucptrie_tables::table::Table;
 use crate::ucptrie_tables::width::ValueWidth;
 use bekstaudi::codepointtrie::TrieType;

@@ -4,8 +4,8 @@ use crate::host::*;
 use crate::support::AllocError;
 use crate::support::prelude::*;
 use crate::ucd_files::names::Name;
-use crate::ucptrie_source::pattern::Number::Decimal;
-use crate::ucptrie_source::pattern::{push_named, push_pattern};
+use crate::ucptab_table::pattern::Number::Decimal;
+use crate::ucptab_table::pattern::{push_named, push_pattern};
 use crate::ucptrie_tables::value_names::{
     EnumValue, MOST, enum_name, enum_values, highest_of, push_values,
 };

@@ -5,8 +5,8 @@ use crate::support::AllocError;
 use crate::support::prelude::*;
 use crate::ucd_files::kind::are_digits;
 use crate::ucd_files::names::Name;
-use crate::ucptrie_source::pattern::Number::Decimal;
-use crate::ucptrie_source::pattern::{push_named, push_number, push_pattern};
+use crate::ucptab_table::pattern::Number::Decimal;
+use crate::ucptab_table::pattern::{push_named, push_number, push_pattern};
 use crate::ucptrie_tables::written::Form;
 
 /// How many names an enum is made of at most. More are no enum that a program would use.

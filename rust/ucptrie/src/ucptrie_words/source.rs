@@ -2,8 +2,8 @@
 use crate::host::*;
 use crate::support::AllocError;
 use crate::support::prelude::*;
-use crate::ucptrie_source::pattern::Number::Decimal;
-use crate::ucptrie_source::pattern::{push_cell, push_pattern};
+use crate::ucptab_table::pattern::Number::Decimal;
+use crate::ucptab_table::pattern::{push_cell, push_pattern};
 use bekstaudi::zerovec::ZeroSlice;
 
 /// What precedes the units in C. `@` is replaced by the name, and `%` by the number of units, of

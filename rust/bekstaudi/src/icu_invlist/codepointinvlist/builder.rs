@@ -1,7 +1,7 @@
 //! The mutable set of code points.
 
 use crate::icu_invlist::codepointinvlist::cpinvlist::CodePointInversionList;
-use crate::icu_invlist::codepointinvlist::utils::RangeOf;
+use crate::icu_invlist::codepointinvlist::range_of::RangeOf;
 use crate::icu_invlist::fill;
 use crate::icu_invlist::merge::{Difference, Intersection, SymmetricDifference, Union, change};
 use crate::icu_zerovec::{CODE_POINT_LIMIT, MemoryError};

@@ -3,7 +3,7 @@
 use crate::icu_invlist::codepointinvlist::builder::CodePointInversionListBuilder;
 use crate::icu_invlist::codepointinvlist::cpinvlist::CodePointInversionList;
 use crate::icu_invlist::codepointinvlist::error::{RangeError, TryRangeError};
-use crate::icu_invlist::codepointinvlist::utils::RangeOf;
+use crate::icu_invlist::codepointinvlist::range_of::RangeOf;
 use crate::icu_zerovec::MemoryError;
 use crate::support::prelude::*;
 use core::ops::RangeInclusive;

@@ -11,8 +11,9 @@ use crate::icu_invlist::codepointinvlist::error::{InvalidSetError, SetError};
 use crate::icu_invlist::codepointinvlist::iter::{
     IterChars, IterRanges, IterRangesComplemented, start_of_gap,
 };
+use crate::icu_invlist::codepointinvlist::range_of::RangeOf;
 use crate::icu_invlist::codepointinvlist::sizes::{size_of, valid_size};
-use crate::icu_invlist::codepointinvlist::utils::{RangeOf, is_valid_slice};
+use crate::icu_invlist::codepointinvlist::utils::is_valid_slice;
 use crate::icu_zerovec::ule::AsULE;
 use crate::icu_zerovec::{CODE_POINT_LIMIT, MemoryError, PotentialCodePoint, ZeroSlice, ZeroVec};
 use core::ops::RangeInclusive;

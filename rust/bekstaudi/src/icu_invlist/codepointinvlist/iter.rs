@@ -5,6 +5,7 @@ use crate::icu_zerovec::ule::AsULE;
 use crate::icu_zerovec::{CODE_POINT_LIMIT, PotentialCodePoint, ZeroVec};
 use crate::support::prelude::*;
 use core::fmt;
+use core::mem::take;
 use core::ops::RangeInclusive;
 
 /// An iterator over the ranges of a set, in ascending order.
@@ -129,7 +130,8 @@ impl<'a> Iterator for IterRangesComplemented<'a> {
 pub struct IterChars<'a> {
     next: u32,
     end: u32,
-    /// What `next_back` has left of the last range: inclusive start, exclusive end.
+    /// What `next_back`, which only the Rust edition has, left of the last range: inclusive start,
+    /// exclusive end. `next` yields it after the ranges of `ends`.
     last: (u32, u32),
     ends: Iter<'a, PotentialCodePoint>,
 }
@@ -188,14 +190,13 @@ impl<'a> Iterator for IterChars<'a> {
             if found.is_some() {
                 return found;
             }
-            let Some(start) = self.ends.next() else {
+            let (Some(start), Some(end)) = (self.ends.next(), self.ends.next()) else {
                 if self.last.0 >= self.last.1 {
                     return None;
                 }
-                (self.next, self.end) = core::mem::take(&mut self.last);
+                (self.next, self.end) = take(&mut self.last);
                 continue;
             };
-            let end = self.ends.next()?;
             self.next = u32::from(start);
             self.end = u32::from(end);
         }

@@ -11,6 +11,7 @@ mod equality;
 mod error;
 mod iter;
 mod json;
+mod range_of;
 pub mod sizes;
 pub mod utils;
 
@@ -18,4 +19,5 @@ pub use builder::CodePointInversionListBuilder;
 pub use cpinvlist::CodePointInversionList;
 pub use error::{InvalidSetError, RangeError, SetError, SetJsonError, TryRangeError};
 pub use iter::{IterChars, IterRanges, IterRangesComplemented};
-pub use utils::{RangeOf, RangePoint, deconstruct_range, is_valid_zv};
+pub use range_of::{RangeOf, RangePoint};
+pub use utils::{deconstruct_range, is_valid_zv};

@@ -1,57 +1,9 @@
 //! The numbers in a range, and the validity of an inversion list.
 
+pub use crate::icu_invlist::codepointinvlist::range_of::{RangeOf, RangePoint};
 use crate::icu_invlist::codepointinvlist::sizes::valid_size;
 use crate::icu_zerovec::{CODE_POINT_LIMIT, PotentialCodePoint, ZeroVec};
 use crate::support::prelude::*;
-use core::ops::{Range, RangeFrom, RangeFull, RangeInclusive, RangeTo, RangeToInclusive};
-
-/// A type that ranges can be made of: `char` or `u32`.
-pub trait RangePoint: Copy {
-    /// Returns the number of the value; for a character, its code point.
-    #[must_use]
-    fn number(self) -> u32;
-
-    /// Returns true if `range` was iterated to its end: it is empty, although its start is not
-    /// above its end.
-    #[doc(hidden)]
-    #[must_use]
-    fn is_used_up(_: &RangeInclusive<Self>) -> bool {
-        false
-    }
-}
-
-impl RangePoint for char {
-    #[inline]
-    fn number(self) -> u32 {
-        u32::from(self)
-    }
-
-    #[inline]
-    fn is_used_up(range: &RangeInclusive<char>) -> bool {
-        *range.start() <= *range.end() && range.is_empty()
-    }
-}
-
-impl RangePoint for u32 {
-    #[inline]
-    fn number(self) -> u32 {
-        self
-    }
-
-    #[inline]
-    fn is_used_up(range: &RangeInclusive<u32>) -> bool {
-        *range.start() <= *range.end() && range.is_empty()
-    }
-}
-
-/// A range of `char` or of `u32`: `a..b`, `a..=b`, `a..`, `..b`, `..=b` or `..`.
-///
-/// It contains all numbers from its start to its end, so a range of characters includes the
-/// surrogates between them.
-pub trait RangeOf<X: RangePoint> {
-    /// Returns the inclusive start and the exclusive end.
-    fn deconstruct(self) -> (u32, u32);
-}
 
 /// Returns the inclusive start and the exclusive end of a range.
 ///

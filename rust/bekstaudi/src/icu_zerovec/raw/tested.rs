@@ -37,9 +37,10 @@ fn cell_of<const WIDTH: usize>(bytes: &[u8], i: usize) -> Option<&[u8]> {
 #[inline(always)]
 fn rare() {}
 
-/// Does the same where a cell is usually there, so that rustc places that path first.
+/// Returns what [`cell_of`] returns, for an index that usually has a cell: that path comes first in
+/// machine code.
 #[inline(always)]
-fn usual_cell_of<const WIDTH: usize>(bytes: &[u8], i: usize) -> Option<&[u8]> {
+fn likely_cell_of<const WIDTH: usize>(bytes: &[u8], i: usize) -> Option<&[u8]> {
     let cells = bytes.as_chunks::<WIDTH>().0;
     if i < cells.len() {
         Some(cells[i].as_slice())
@@ -67,7 +68,7 @@ pub(crate) fn cell_known(bytes: &[u8], width: usize, i: usize, is_inside: bool) 
 #[inline(always)]
 fn cell_below_of<const WIDTH: usize>(bytes: &[u8], end: usize, i: usize) -> Option<&[u8]> {
     let front = bytes.len().min(end * WIDTH);
-    usual_cell_of::<WIDTH>(&bytes[..front], i)
+    cell_of::<WIDTH>(&bytes[..front], i)
 }
 
 /// Returns cell `i` of the first `end` cells of `width` bytes, or `None` if `i` is not less than `end`.
@@ -78,5 +79,24 @@ pub(crate) fn cell_below(bytes: &[u8], width: usize, end: usize, i: usize) -> Op
         2 => cell_below_of::<2>(bytes, end, i),
         3 => cell_below_of::<3>(bytes, end, i),
         _ => cell_below_of::<4>(bytes, end, i),
+    }
+}
+
+/// Returns what [`cell_below_of`] returns. The path on which there is a cell comes first in machine
+/// code.
+#[inline(always)]
+fn likely_cell_below_of<const WIDTH: usize>(bytes: &[u8], end: usize, i: usize) -> Option<&[u8]> {
+    let front = bytes.len().min(end * WIDTH);
+    likely_cell_of::<WIDTH>(&bytes[..front], i)
+}
+
+/// Returns what [`cell_below`] returns, for an index that is usually less than `end`.
+#[inline(always)]
+pub(crate) fn likely_cell_below(bytes: &[u8], width: usize, end: usize, i: usize) -> Option<&[u8]> {
+    match width {
+        1 => likely_cell_below_of::<1>(bytes, end, i),
+        2 => likely_cell_below_of::<2>(bytes, end, i),
+        3 => likely_cell_below_of::<3>(bytes, end, i),
+        _ => likely_cell_below_of::<4>(bytes, end, i),
     }
 }

@@ -3,7 +3,8 @@
 use crate::support::prelude::*;
 /// Returns the six bits of a trail byte. For any other byte it returns 64 or more.
 #[inline(always)]
-pub(crate) fn trail_of(byte: u8) -> u32 {
+#[must_use]
+pub fn trail_of(byte: u8) -> u32 {
     u32::from(byte.wrapping_sub(0x80))
 }
 
@@ -128,7 +129,8 @@ fn is_high_after(first: u32, high: u32) -> bool {
 /// Returns true if these can be the upper nine bits of a four-byte character, which its first two
 /// bytes contain: they are not those of an overlong sequence or a number above 0x10FFFF.
 #[inline(always)]
-pub(crate) fn is_high_of_four(high: u32) -> bool {
+#[must_use]
+pub fn is_high_of_four(high: u32) -> bool {
     0x10 <= high && high < 0x110
 }
 

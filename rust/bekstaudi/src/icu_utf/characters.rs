@@ -1,6 +1,6 @@
 //! The first and the last character of bytes that may be ill-formed UTF-8.
 
-use crate::icu_trie_text::first_utf8::{of_four, of_three, of_two};
+use crate::icu_utf::first_utf8::{of_four, of_three, of_two};
 use crate::support::prelude::*;
 
 /// Returns the character at the start of the bytes, and its size in bytes. `None` if they are empty
