@@ -11,10 +11,6 @@ mod ListingLemmas
 mod OpeningLemmas
 mod RangeLemmas
 mod RunLemmas
-mod SetLemmas
-mod KindLemmas
-mod PlainLemmas
-mod ShortLemmas
 mod SpanLemmas
 mod SetMakingLemmas
 mod SetPlaceLemmas
@@ -24,7 +20,5 @@ mod UnitTextLemmas
 mod UnitPrefixLemmas
 mod TextStepLemmas
 mod UnitPageLemmas
-mod NearLemmas
-mod WideLemmas
 mod Utf8LeadLemmas
 mod Utf8PositionLemmas

@@ -10,7 +10,7 @@ use Rattle.icu_invlist.specs.InversionList.{HoldsAll, IsSubset, IsValid, ends_up
 use Rattle.icu_invlist.proofs.CallerLemmas.{fewer_below}
 use Rattle.icu_collections_c.specs.Inside.SetPlaces.{IsPlaceFrom}
 use Rattle.icu_collections_c.specs.SetQueries.{GivesIndex, GivesNth}
-use Rattle.icu_collections_c.proofs.SetLemmas.{IsNonDecreasingBy-strictly, count-at, members_below-le}
+use Rattle.icu_frozen_sets.proofs.CallerLemmas.{IsNonDecreasingBy-strictly, count-at, members_below-le}
 
 -- ---- whether a set contains a number
 pub odd : (n : ℕ) → n % 2 ≡ 1 → is_odd n ≡ true

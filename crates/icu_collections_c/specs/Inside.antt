@@ -2,13 +2,10 @@
 -- them.
 pub mod BuiltValues
 pub mod Joined
-pub mod Kinds
 pub mod Listed
 pub mod NumberLaws
 pub mod PackedPlaces
 pub mod Pages
 pub mod SetPlaces
-pub mod ShortCharacters
 pub mod TextCells
 pub mod TextSteps
-pub mod WideCharacters

@@ -2,52 +2,20 @@
 ghost use Rattle.std.specs.Prelude.{◌≡◌, ℕ, ◌+◌, ◌*◌, ◌≤◌, ◌++◌, List, IfOk, length, slice_index};
 ghost use Rattle.icu_invlist.specs.InversionList.{IsValid, holds};
 ghost use Rattle.icu_collections_c.specs.Building.{written_whole};
-ghost use Rattle.icu_collections_c.specs.Frozen.{AnswersFrozen, IsFrozenOf, bit_in, is_held, place_in};
+ghost use Rattle.icu_frozen_sets.specs.FrozenWords.{IsFrozenOf, is_held};
+ghost use Rattle.icu_collections_c.specs.Frozen.{AnswersFrozen};
 ghost use Rattle.icu_collections_c.specs.Inside.PackedPlaces.{packed, word_at};
 
 use crate::sets::bks_set_test;
 use crate::status::Refusal;
 use icu_frozen_sets::frozen::FrozenCodePointSet;
+use icu_frozen_sets::view::FrozenView;
 use icu_invlist::codepointinvlist::CodePointInversionList;
-use icu_zerovec::{CODE_POINT_LIMIT, MemoryError};
+use icu_zerovec::MemoryError;
 use std::alloc::Global;
 
 /// How many words the block offsets take.
-pub(crate) const PLACE_WORDS: usize = 1088;
-
-/// Returns the word at this index, or 0 if there is none.
-#[inline(always)]
-pub(crate) fn word(table: &[u64], place: usize) -> u64
-    ensures { result ≡ slice_index table.now place }
-{
-    if place < table.len() { table[place] } else { 0 }
-}
-
-/// Returns the offset of the block's words.
-#[inline(always)]
-pub(crate) fn place_of(table: &[u64], block: u32) -> usize
-    ensures { result ≡ place_in table.now block }
-{
-    let four = word(table, (block / 4) as usize);
-    ((four >> (16 * (block % 4))) % 0x1_0000) as usize
-}
-
-/// Returns the bit of the code point.
-#[inline(always)]
-fn bit_of(table: &[u64], c: u32) -> bool
-    ensures { result ≡ bit_in table.now c }
-{
-    let place = PLACE_WORDS + place_of(table, c / 256) + (c / 64 % 4) as usize;
-    (word(table, place) >> (c % 64)) & 1 == 1
-}
-
-/// Returns whether the frozen set contains the code point.
-#[inline(always)]
-pub(crate) fn contains(table: &[u64], c: u32) -> bool
-    ensures { result ≡ is_held table.now c }
-{
-    c < CODE_POINT_LIMIT && bit_of(table, c)
-}
+const PLACE_WORDS: usize = 1088;
 
 /// Packs four block offsets into a word, the first one in the lowest bits.
 fn packed_places(index: &[u16], i: usize) -> u64
@@ -131,5 +99,5 @@ pub extern "C" fn bks_frozen_contains(table: &[u64], c: u32) -> bool
     ensures set { (ends words rest : List ℕ) → IsFrozenOf ends words → table.now ≡ words ++ rest
         → result ≡ holds ends c }
 {
-    contains(table, c)
+    FrozenView::new(table).contains32(c)
 }

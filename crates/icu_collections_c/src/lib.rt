@@ -16,10 +16,7 @@
 //! - `set_building`: sets made from ranges, from single code points or from another set
 //! - `set_queries`: subsets, and the code points of a set by their index
 //! - `frozen`: frozen sets in words, and look-ups in them
-//! - `spans`: the spans of a text; `kinds`: what they test characters for
-//! - `near_characters`: tests the characters of a short span for them
-//! - `short_characters`: tests characters of one and two bytes of a long span; `plain_characters`:
-//!   ASCII; `wide_characters`: characters of three bytes that follow one another
+//! - `spans`: the spans of a text
 //! - `unit_tries`: look-ups in unit tries; `units`: helpers of them
 //! - `text_steps`: steps of a cursor along a text in UTF-8
 //! - `unit_texts`: unit tries whose keys are texts in UTF-8; `unit_keys`: transcodes them
@@ -38,17 +35,13 @@ mod buffers;
 pub mod building;
 mod cells;
 pub mod frozen;
-mod kinds;
 pub mod listing;
-mod near_characters;
 pub mod opening;
-mod plain_characters;
 pub mod ranges;
 pub mod set_building;
 pub mod set_operations;
 pub mod set_queries;
 pub mod sets;
-mod short_characters;
 pub mod spans;
 pub mod status;
 mod text_steps;
@@ -65,4 +58,3 @@ mod units;
 pub mod value_sets;
 pub mod version;
 pub mod well_formed;
-mod wide_characters;

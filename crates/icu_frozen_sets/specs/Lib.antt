@@ -1,4 +1,7 @@
 pub mod CodePointBits
+pub mod FrozenView
+pub mod FrozenWords
+pub mod LongestSpans
 pub mod Spans
 pub mod TextFronts
 pub mod Inside

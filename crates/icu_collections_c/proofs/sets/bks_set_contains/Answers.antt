@@ -4,7 +4,7 @@ use Rattle.std.proofs.Common.{ap, ℕ, Bool, rules, sym}
 use Rattle.std.specs.Prelude.{nat_le}
 use Rattle.std.proofs.lemmas.List.Sorted.{IsPartitionedBy-leb, IsPartitionPoint-from_clause}
 use Rattle.icu_invlist.specs.InversionList.{ends_up_to, is_odd}
-use Rattle.icu_collections_c.proofs.SetLemmas.{IsNonDecreasingBy-strictly, count-at}
+use Rattle.icu_frozen_sets.proofs.CallerLemmas.{IsNonDecreasingBy-strictly, count-at}
 use Rattle.icu_collections_c.proofs.sets.bks_set_contains.Goals as goal
 
 pub returns : goal.returns

@@ -1,17 +1,23 @@
-use Rattle.std.proofs.Common.{Bool, List, of_z, rules, subst, to_z, w64, ℕ}
-use Rattle.icu_collections_c.specs.Frozen.{is_held}
-use Rattle.icu_collections_c.specs.Spans.{AnswersSpanBack}
-use Rattle.icu_collections_c.proofs.FrozenLemmas.{front_of_set}
+use Rattle.std.proofs.Common.{rules, w64}
+use Rattle.std.proofs.lemmas.Int.{to_z-of_z}
+use Rattle.icu_invlist.specs.InversionList.{holds}
+use Rattle.icu_frozen_sets.specs.FrozenWords.{is_held}
 use Rattle.icu_collections_c.proofs.SpanLemmas.{text_span_back}
 use Rattle.icu_collections_c.proofs.spans.bks_frozen_span_back.Goals as goal
 
+pub start_or_no_text-requires : goal.start_or_no_text-requires
+start_or_no_text-requires c = c.span_back_utf8.ensures.exact.within
+
 pub returns-clause-exact : goal.returns-clause-exact
-returns-clause-exact c = search rules
+returns-clause-exact c =
+    let found = rw c.new.ensures at c.span_back_utf8.ensures.exact in
+    rw (to_z-of_z w64 c.start_or_no_text.result (search rules))
+    (c.start_or_no_text.ensures (is_held c.args.table.now) c.args.held found)
 
 pub returns-clause-text : goal.returns-clause-text
 returns-clause-text c = text_span_back (is_held c.args.table.now) c.args.held c.args.text.now _ (returns-clause-exact c)
 
 pub returns-clause-set : goal.returns-clause-set
 returns-clause-set c = λ ends words rest f e.
-    let P : (ℕ → Bool) → Type 0 = λ p. AnswersSpanBack p c.args.held c.args.text.now (to_z w64 (of_z w64 c.span_back.result)) in
-    front_of_set ends words rest f P (subst (λ (t : List ℕ). P (is_held t)) e (returns-clause-exact c))
+    let found = (rw c.new.ensures at c.span_back_utf8.ensures.set) ends words rest f e in
+    rw (to_z-of_z w64 c.start_or_no_text.result (search rules)) (c.start_or_no_text.ensures (holds ends) c.args.held found)

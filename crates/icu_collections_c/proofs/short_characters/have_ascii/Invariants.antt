@@ -1,8 +1,0 @@
-use Rattle.std.proofs.Common.{◌≡◌, ℕ, ◌<◌, ◌≤◌, true, false, get_or}
-use Rattle.icu_collections_c.proofs.short_characters.have_ascii.Given as goal
-
-abbrev pub invariant-loop-k : goal.invariant-loop-k
-invariant-loop-k l = record {
-  yes : l.ascii ≡ true → (i : ℕ) × (i < 16) × (get_or l.bytes i 0 < 128);
-  no : l.ascii ≡ false → (i : ℕ) → i < l.k → 128 ≤ get_or l.bytes i 0;
-}

@@ -1,0 +1,17 @@
+use Rattle.std.proofs.Common.{◌≡◌, ℕ, ◌+◌, ◌/◌, ◌%◌, List, arith, get_or}
+use Rattle.icu_frozen_sets.specs.FrozenWords.{place_in}
+use Rattle.icu_frozen_sets.specs.Inside.ThreeByte.{wide_place}
+use Rattle.icu_frozen_sets.proofs.ThreeByteLemmas.{has_place, table_bits}
+use Rattle.icu_frozen_sets.proofs.three_byte.three_bits.Goals as goal
+
+pub returns-clause-bits : goal.returns-clause-bits
+returns-clause-bits c = λ bits e.
+    let table : List ℕ = c.args.table.now in
+    let high : ℕ = c.args.high in
+    let place : ℕ = get_or c.args.places.now (high / 4) 0 in
+    let is : place ≡ wide_place table (high / 4) = c.requires.wide (high / 4) (omega (arith, c.requires.most)) in
+    let found = has_place table high place c.requires.most is c.if-place.false in
+    let index : ℕ = 1088 + c.from.result + high % 4 in
+    let at : index ≡ 1088 + place_in table (high / 4) + high % 4 = omega (arith, c.from.ensures, found.1) in
+    let same : bits ≡ get_or table index 0 = cc in
+    table_bits table high index bits c.requires.most at same

@@ -1,0 +1,34 @@
+-- Spans: the longest prefix or suffix of a text whose characters are all in a set, or all outside
+-- it. The text is bytes that may be ill-formed UTF-8, or units that may be ill-formed UTF-16.
+use Rattle.std.specs.Prelude.{◌≡◌, ℕ, ◌+◌, ◌<◌, ◌≤◌, Bool, nat_lt, if◌then◌else◌, List, [], ◌∷◌, length, take, drop}
+use Rattle.std.specs.List.{All, take_while}
+use Rattle.std.specs.Str.{IsUtf8, chars}
+use mathlib.Core.Bool.{beq}
+use Rattle.icu_utf.specs.Utf16.{code_points_of}
+
+module _ (is_in : ℕ → Bool) (held : Bool) where
+  -- The bytes are UTF-8. All their characters are in the set or, if `held` is false, outside it.
+  abbrev pub AllHeld : List ℕ → Type 0
+  AllHeld bytes = IsUtf8 bytes × All (λ c. is_in c ≡ held) (chars bytes)
+
+  -- The first n bytes are the longest prefix of which this is true.
+  pub record IsSpan (bytes : List ℕ) (n : ℕ) : Type 0 where
+    pub within : n ≤ length bytes
+    pub alike : AllHeld (take n bytes)
+    pub longest : (m : ℕ) → n < m → m ≤ length bytes → ¬ (AllHeld (take m bytes))
+
+  -- The bytes from offset n on are the longest suffix of which this is true.
+  pub record IsSpanBack (bytes : List ℕ) (n : ℕ) : Type 0 where
+    pub within : n ≤ length bytes
+    pub alike : AllHeld (drop n bytes)
+    pub longest : (m : ℕ) → m < n → ¬ (AllHeld (drop m bytes))
+
+-- The number of 16-bit units of code points: two for each above 0xFFFF, otherwise one.
+abbrev pub unit_count : List ℕ → ℕ
+unit_count [] = 0
+unit_count (c ∷ cs) = (if nat_lt c 0x10000 then 1 else 2) + unit_count cs
+
+-- The number of units of the longest prefix of such code points.
+abbrev pub unit_span : (ℕ → Bool) → Bool → List ℕ → ℕ
+unit_span is_in held units =
+    unit_count (take_while (λ c. beq (is_in c) held) (code_points_of units))

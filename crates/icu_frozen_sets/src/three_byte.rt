@@ -1,0 +1,157 @@
+//! Characters of three bytes that follow one another. One ASCII character may come before each of
+//! them, as a space between words does.
+ghost use Rattle.std.specs.Prelude.{◌≡◌, ℕ, ◌+◌, ◌*◌, ◌/◌, ◌%◌, ◌^◌, ◌<◌, ◌≤◌, ◌==◌, Some, true, length, slice_index};
+ghost use Rattle.std.specs.Int.{bit_at};
+ghost use Rattle.icu_frozen_sets.specs.FrozenWords.{is_held};
+ghost use Rattle.icu_frozen_sets.specs.Inside.TwoByte.{AreShortWords};
+ghost use Rattle.icu_frozen_sets.specs.Inside.ThreeByte.{AreBitsOf, AreOfThree, IsPassed, IsThree, wide_place};
+
+use crate::two_byte::has_short;
+use crate::view::{PLACE_WORDS, word};
+
+/// In the table of block offsets: the block has no character of three bytes.
+const NO_PLACE: u16 = 0xFFFF;
+
+/// How far a span has passed characters.
+#[derive(Clone, Copy)]
+pub(crate) struct Passed {
+    /// The offset after the characters.
+    pub(crate) end: usize,
+    /// Whether the span ends there, as the next character is not of the kind.
+    pub(crate) is_end: bool,
+}
+
+/// Writes the four block offsets of a word to the table.
+#[inline(always)]
+fn write_four(places: &mut [u16; 256], start: usize, four: u64)
+    requires { start + 4 ≤ 256 }
+    ensures four { (j : ℕ) → j < 4
+        → slice_index places.new (start + j) ≡ four / 2 ^ (16 * j) % 2 ^ 16 }
+    ensures before { (i : ℕ) → i < start → slice_index places.new i ≡ slice_index places.old i }
+{
+    for j in 0..4 {
+        places[start + j] = ((four >> (16 * j)) % 0x1_0000) as u16;
+    }
+}
+
+/// Returns the word with the offsets of four blocks, or four times [`NO_PLACE`] if they have
+/// shorter characters or surrogates.
+#[inline(always)]
+fn wide_word(table: &[u64], i: usize) -> u64
+    ensures { (j : ℕ) → j < 4 → result / 2 ^ (16 * j) % 2 ^ 16 ≡ wide_place table.now (4 * i + j) }
+{
+    if i / 2 == 0 {
+        return u64::MAX;
+    }
+    if i / 2 == 27 {
+        return u64::MAX;
+    }
+    word(table, i)
+}
+
+/// Returns the offsets of the first 256 blocks. Blocks of shorter characters, and of surrogates,
+/// have [`NO_PLACE`].
+#[inline(always)]
+pub(crate) fn wide_places(table: &[u64]) -> [u16; 256]
+    ensures { (b : ℕ) → b < 256 → slice_index result b ≡ wide_place table.now b }
+{
+    let mut places = [0; 256];
+    for i in 0..64 {
+        write_four(&mut places, 4 * i, wide_word(table, i));
+    }
+    places
+}
+
+/// Returns whether the bit of a byte's lowest six bits is 1.
+#[inline(always)]
+fn has_bit_of(bits: u64, byte: u8) -> bool
+    ensures { result ≡ (bit_at bits (byte % 64) == 1) }
+{
+    (bits >> (byte % 64)) & 1 == 1
+}
+
+/// Returns true if the first byte is ASCII and the second one is not.
+#[inline(always)]
+fn is_lone_ascii(bytes: &[u8]) -> bool
+    requires { 2 ≤ length bytes.now }
+    ensures { result ≡ true → slice_index bytes.now 0 < 128 }
+{
+    bytes[0] < 0x80 && bytes[1] >= 0x80
+}
+
+/// Returns the upper ten bits of the code point that three bytes encode, or `None` if they are not
+/// a lead byte and two trail bytes.
+#[inline(always)]
+fn high_of_three(bytes: &[u8]) -> Option<u32>
+    requires { 3 ≤ length bytes.now }
+    ensures { (high : ℕ) → result ≡ Some high → IsThree bytes.now high }
+{
+    if bytes[1] / 64 != 2 || bytes[2] / 64 != 2 {
+        return None;
+    }
+    let both = 64 * u32::from(bytes[0]) + u32::from(bytes[1]);
+    if both < 0x3880 || both >= 0x3C80 {
+        return None;
+    }
+    Some(both - 0x3880)
+}
+
+/// Returns the bits of the 64 code points with these upper bits: whether they are in the set.
+/// `None` if they are not characters of three bytes, or if the word is missing.
+#[inline(always)]
+fn three_bits(table: &[u64], places: &[u16; 256], high: u32) -> Option<u64>
+    requires most { high < 1024 }
+    requires wide { (b : ℕ) → b < 256 → slice_index places.now b ≡ wide_place table.now b }
+    ensures three { (bits : ℕ) → result ≡ Some bits → AreOfThree high }
+    ensures bits { (bits : ℕ) → result ≡ Some bits → AreBitsOf (is_held table.now) high bits }
+{
+    let place = places[(high / 4) as usize];
+    let index = PLACE_WORDS + usize::from(place) + (high % 4) as usize;
+    if place == NO_PLACE || index >= table.len() {
+        return None;
+    }
+    Some(table[index])
+}
+
+/// Passes characters of three bytes that are of the kind of these tables, and single ASCII
+/// characters of the kind before them. It may stop before the last of them.
+#[inline(always)]
+pub(crate) fn skip_three_byte(
+    table: &[u64],
+    held: bool,
+    words: &[u64; 36],
+    places: &[u16; 256],
+    bytes: &[u8],
+    start: usize,
+) -> Passed
+    requires order { start ≤ length bytes.now }
+    requires short { AreShortWords table.now held words.now }
+    requires wide { (b : ℕ) → b < 256 → slice_index places.now b ≡ wide_place table.now b }
+    ensures { IsPassed (Unit {0}) (is_held table.now) held bytes.now start result }
+{
+    let mut rest = &bytes[start..];
+    while rest.len() >= 3 {
+        let end = bytes.len() - rest.len();
+        if let Some(high) = high_of_three(rest) {
+            let Some(bits) = three_bits(table, places, high) else {
+                return Passed { end, is_end: false };
+            };
+            if has_bit_of(bits, rest[2]) != held {
+                return Passed { end, is_end: true };
+            }
+            rest = &rest[3..];
+        } else {
+            if !is_lone_ascii(rest) {
+                return Passed { end, is_end: false };
+            }
+            if !has_short(words, u32::from(rest[0])) {
+                return Passed { end, is_end: true };
+            }
+            rest = &rest[1..];
+        }
+    }
+    Passed {
+        end: bytes.len() - rest.len(),
+        is_end: false,
+    }
+}

@@ -1,0 +1,179 @@
+//! A view of a frozen set in 64-bit words: look-ups, and spans of texts.
+ghost use Rattle.std.specs.Prelude.{◌≡◌, ℕ, ◌++◌, List, length, slice_index};
+ghost use Rattle.std.specs.List.{take_while};
+ghost use Rattle.std.specs.Str.{IsCharBoundary, chars, encode_utf8_all};
+ghost use mathlib.Core.Bool.{beq};
+ghost use Rattle.icu_invlist.specs.InversionList.{holds};
+ghost use Rattle.icu_frozen_sets.specs.FrozenView.{view_words};
+ghost use Rattle.icu_frozen_sets.specs.FrozenWords.{IsFrozenOf, bit_in, is_held, place_in};
+ghost use Rattle.icu_frozen_sets.specs.LongestSpans.{IsSpan, IsSpanBack, unit_span};
+
+use crate::longest_span::{frozen_span, span_back, span_units};
+use crate::span_condition::FrozenKind;
+use icu_zerovec::CODE_POINT_LIMIT;
+
+/// How many words the block offsets take.
+pub(crate) const PLACE_WORDS: usize = 1088;
+
+/// Returns the word at this index, or 0 if there is none.
+#[inline(always)]
+pub(crate) fn word(table: &[u64], place: usize) -> u64
+    ensures { result ≡ slice_index table.now place }
+{
+    if place < table.len() { table[place] } else { 0 }
+}
+
+/// Returns the offset of the block's words.
+#[inline(always)]
+pub(crate) fn place_of(table: &[u64], block: u32) -> usize
+    ensures { result ≡ place_in table.now block }
+{
+    let four = word(table, (block / 4) as usize);
+    ((four >> (16 * (block % 4))) % 0x1_0000) as usize
+}
+
+/// Returns the bit of the code point.
+#[inline(always)]
+fn bit_of(table: &[u64], c: u32) -> bool
+    ensures { result ≡ bit_in table.now c }
+{
+    let place = PLACE_WORDS + place_of(table, c / 256) + (c / 64 % 4) as usize;
+    (word(table, place) >> (c % 64)) & 1 == 1
+}
+
+/// Returns whether the frozen set contains the code point.
+#[inline(always)]
+pub(crate) fn contains(table: &[u64], c: u32) -> bool
+    ensures { result ≡ is_held table.now c }
+{
+    c < CODE_POINT_LIMIT && bit_of(table, c)
+}
+
+/// A frozen set in 64-bit words, borrowed, for example from a file. It is `Copy`, like `&[u64]`.
+///
+/// First come 4,352 block offsets of 16 bits, one for each block of 256 code points, four in a word
+/// with the first one in the lowest bits. From word 1,088 on, each word has the bits of 64 code
+/// points, lowest first. A block's offset says at which of these words its four words start.
+///
+/// Any words are accepted. Words that are missing count as 0, and words after the set are ignored.
+///
+/// # Contract
+/// In contracts, `view_words` is the list of its words. `is_held` says which code points they
+/// contain, and `IsFrozenOf` that they are a given set.
+#[derive(Clone, Copy, Debug)]
+pub struct FrozenView<'a> {
+    words: &'a [u64],
+}
+
+/// Queries.
+impl<'a> FrozenView<'a> {
+    /// Returns a view of the frozen set at the start of the words.
+    #[inline(always)]
+    pub fn new(words: &'a [u64]) -> FrozenView<'a>
+        ensures { view_words result ≡ words.now }
+    {
+        FrozenView { words }
+    }
+
+    /// Returns true if the set contains the code point `c`. Returns false for any number above
+    /// 0x10FFFF.
+    #[inline(always)]
+    pub fn contains32(self, c: u32) -> bool
+        ensures exact { result ≡ is_held (view_words self.entry) c }
+        ensures set { (ends words rest : List ℕ) → IsFrozenOf ends words → view_words self.entry ≡ words ++ rest
+            → result ≡ holds ends c }
+    {
+        contains(self.words, c)
+    }
+
+    /// Returns true if the set contains the character `c`.
+    #[inline(always)]
+    pub fn contains(self, c: char) -> bool
+        ensures exact { result ≡ is_held (view_words self.entry) c }
+        ensures set { (ends words rest : List ℕ) → IsFrozenOf ends words → view_words self.entry ≡ words ++ rest
+            → result ≡ holds ends c }
+    {
+        self.contains32(u32::from(c))
+    }
+}
+
+/// Spans of texts.
+impl<'a> FrozenView<'a> {
+    /// Returns the length in bytes of the longest prefix of `text` whose characters are all in the
+    /// set, or all outside it if `held` is false (ICU: `UnicodeSet::spanUTF8`).
+    ///
+    /// The result is a character boundary, so `&text[set.span(text, true)..]` is the rest of the
+    /// text.
+    #[inline(always)]
+    pub fn span(self, text: &str, held: bool) -> usize
+        ensures exact { result
+            ≡ length (encode_utf8_all
+            (take_while (λ c. beq (is_held (view_words self.entry) c) held) (chars text.now))) }
+        ensures set { (ends words rest : List ℕ) → IsFrozenOf ends words → view_words self.entry ≡ words ++ rest
+            → result
+            ≡ length (encode_utf8_all
+            (take_while (λ c. beq (holds ends c) held) (chars text.now))) }
+        ensures boundary { IsCharBoundary text.now result }
+    {
+        self.span_utf8(text.as_bytes(), held)
+    }
+
+    /// Returns the length in bytes of the longest prefix of `bytes` whose characters are all in the
+    /// set, or all outside it if `held` is false. `bytes` may be ill-formed UTF-8.
+    ///
+    /// An ill-formed sequence ends the span for both values of `held`; ICU's `UnicodeSet::spanUTF8`
+    /// treats it as U+FFFD instead. Reads at most the nine bytes after the span: a long span is
+    /// tested eight bytes at a time.
+    #[inline(always)]
+    pub fn span_utf8(self, bytes: &[u8], held: bool) -> usize
+        ensures exact { IsSpan (is_held (view_words self.entry)) held bytes.now result }
+        ensures set { (ends words rest : List ℕ) → IsFrozenOf ends words → view_words self.entry ≡ words ++ rest
+            → IsSpan (holds ends) held bytes.now result }
+    {
+        frozen_span(self.words, held, bytes)
+    }
+
+    /// Returns the byte offset at which the longest suffix starts whose characters are all in the
+    /// set, or all outside it if `held` is false (ICU: `UnicodeSet::spanBackUTF8`).
+    ///
+    /// The result is a character boundary, so `&text[..set.span_back(text, true)]` is the text
+    /// before that suffix.
+    #[inline]
+    pub fn span_back(self, text: &str, held: bool) -> usize
+        ensures exact { IsSpanBack (is_held (view_words self.entry)) held text.now result }
+        ensures set { (ends words rest : List ℕ) → IsFrozenOf ends words → view_words self.entry ≡ words ++ rest
+            → IsSpanBack (holds ends) held text.now result }
+        ensures boundary { IsCharBoundary text.now result }
+    {
+        self.span_back_utf8(text.as_bytes(), held)
+    }
+
+    /// Returns the byte offset at which the longest suffix of `bytes` starts whose characters are
+    /// all in the set, or all outside it if `held` is false. `bytes` may be ill-formed UTF-8.
+    ///
+    /// An ill-formed sequence ends the span for both values of `held`; ICU's
+    /// `UnicodeSet::spanBackUTF8` treats it as U+FFFD instead. Reads at most the four bytes before
+    /// the span.
+    #[inline]
+    pub fn span_back_utf8(self, bytes: &[u8], held: bool) -> usize
+        ensures exact { IsSpanBack (is_held (view_words self.entry)) held bytes.now result }
+        ensures set { (ends words rest : List ℕ) → IsFrozenOf ends words → view_words self.entry ≡ words ++ rest
+            → IsSpanBack (holds ends) held bytes.now result }
+    {
+        span_back(&mut FrozenKind::new(self.words, held), bytes)
+    }
+
+    /// Returns the number of units of the longest prefix of 16-bit units whose code points are all
+    /// in the set, or all outside it if `held` is false (ICU: `UnicodeSet::span`).
+    ///
+    /// A high surrogate and the low surrogate after it are one code point. Each other unit is a code
+    /// point of its own, even an unpaired surrogate.
+    #[inline]
+    pub fn span_utf16(self, units: &[u16], held: bool) -> usize
+        ensures exact { result ≡ unit_span (is_held (view_words self.entry)) held units.now }
+        ensures set { (ends words rest : List ℕ) → IsFrozenOf ends words → view_words self.entry ≡ words ++ rest
+            → result ≡ unit_span (holds ends) held units.now }
+    {
+        span_units(&mut FrozenKind::new(self.words, held), units)
+    }
+}
