@@ -1,9 +1,10 @@
 -- What the functions for spans return, from the span that was found.
-use Rattle.std.proofs.Common.{◌≡◌, refl, ℕ, ◌^◌, ◌<◌, List, length, Bool, inl, inr, arith, to_z, w64}
+use Rattle.std.proofs.Common.{◌≡◌, refl, ℕ, ◌^◌, ◌<◌, List, length, drop, get_or, Bool, inl, inr, to_z, w64}
 use Rattle.std.specs.Prelude.{ℤ}
 use Rattle.std.specs.Str.{IsUtf8, StartsWithNoChar}
 use Rattle.std.proofs.lemmas.Int.{to_z_pos}
 use Rattle.icu_utf.specs.Utf8.{EndsWithNoChar}
+use Rattle.icu_utf.proofs.CallerLemmas.{part_of_ascii}
 use Rattle.icu_frozen_sets.specs.LongestSpans.{IsSpan, IsSpanBack}
 use Rattle.icu_frozen_sets.proofs.CallerLemmas as lemma
 use Rattle.icu_collections_c.specs.Spans.{AnswersSpan, AnswersSpanBack, AnswersTextSpan, AnswersTextSpanBack}
@@ -37,3 +38,8 @@ module _ (is_in : ℕ → Bool) (held : Bool) (bytes : List ℕ) where
   text_span_back r (inr found) u =
       let n = found.1.0 in
       (n, found.1.1, lemma.text_span_back is_in held bytes n found.1.2 u)
+
+-- An ASCII byte is a character.
+pub ascii_starts : (bytes : List ℕ) → 0 < length bytes → get_or bytes 0 0 < 128 → StartsWithNoChar bytes → ⊥
+ascii_starts bytes some low none =
+    let part = part_of_ascii bytes some low in none (get_or bytes 0 0) (drop 1 bytes) part.0 part.2

@@ -39,6 +39,14 @@ fn lacks_last(text: &[u8]) -> bool
     }
 }
 
+/// Returns true if the text is empty or starts with ASCII.
+#[inline(always)]
+fn starts_plainly(text: &[u8]) -> bool
+    ensures { result ≡ true → 0 < length text.now → ¬ (StartsWithNoChar text.now) }
+{
+    text.is_empty() || text[0] < 0x80
+}
+
 /// Returns the length of a span, or the number of [`Refusal::NoText`] if the text is not empty and
 /// does not start with a character.
 #[inline(always)]
@@ -93,7 +101,12 @@ pub extern "C" fn bks_frozen_span(table: &[u64], text: &[u8], held: bool) -> i64
     ensures text_set { (ends words rest : List ℕ) → IsFrozenOf ends words
         → table.now ≡ words ++ rest → AnswersTextSpan (holds ends) held text.now result }
 {
-    length_or_no_text(text, FrozenView::new(table).span_utf8(text, held))
+    let set = FrozenView::new(table);
+    // Most spans start with ASCII, and then nothing is left to do after the call.
+    if starts_plainly(text) {
+        return set.span_utf8(text, held) as i64;
+    }
+    length_or_no_text(text, set.span_utf8(text, held))
 }
 
 /// Returns the offset in bytes of the longest suffix of the text that is UTF-8 and whose characters
