@@ -62,6 +62,22 @@ pub fn completions(alloc: Global, trie: &Char16Trie<'_>, prefix: &str) -> Option
     Some(list)
 }
 
+/// Returns how many words of a trie start with a prefix. `None` if an allocation fails, or if there
+/// are more than a `usize` holds.
+pub fn count_below(alloc: Global, trie: &Char16Trie<'_>, prefix: &str) -> Option<usize>
+    ensures { IfSome result (λ count. (m : UnitMap) → IsTrieOf trie.now m
+        → count ≡ length (after_all (flat_map encode_utf16 (chars prefix.now)) m)) }
+{
+    let mut cursor = trie.cursor();
+    let _ = cursor.write_str(prefix);
+    let mut words = cursor.entries(alloc);
+    let mut count = 0usize;
+    while words.advance().ok()? {
+        count = count.checked_add(1)?;
+    }
+    Some(count)
+}
+
 /// Returns the entries of a trie of two words, in unit order rather than the order in which they
 /// were added. `None` if an allocation fails.
 pub fn two_words(alloc: Global) -> Option<Vec<(String, i32)>>
