@@ -6,6 +6,7 @@ use Rattle.icu_trie.specs.Parts.{Parts, trie_value}
 use Rattle.icu_trie_builder.specs.Bounds.{IsTooLarge}
 use Rattle.icu_trie_builder.specs.Built.{IsWellBuilt}
 use Rattle.icu_trie_builder.specs.MapAnswers.{AnswersMap}
+use Rattle.icu_trie_builder.specs.NullBlock.{HasDefaultNull}
 use Rattle.ucptab_table.specs.declared.fault.TableError.TheVariants.{TooLarge, Memory}
 use Rattle.ucptrie_tables.specs.Tables.{IsValueOfMap}
 use Rattle.ucptrie_tables.specs.ValueWidth.{bits_of, first_wider}
@@ -19,12 +20,14 @@ abbrev pub AreValues : Parts ℕ → (ℕ → ℕ) → Type 0
 AreValues old value = (u : ℕ) → u ≤ 0x10FFFF → trie_value old u ≡ Some (value u)
 
 -- The trie has the value of each code point in another trie, and the error value above the code
--- space. It is of the requested type and well built.
+-- space. It is of the requested type and well built. Without a block of one value, its null value is
+-- the value of U+10FFFF.
 pub record IsRebuiltTrie (old : Parts ℕ) (kind : TrieType) (error : ℕ) (trie : Parts ℕ)
     : Type 0 where
   pub value : ℕ → ℕ
   pub unchanged : AreValues old value
   pub answers : AnswersMap value error trie
+  pub null_value : HasDefaultNull (value 0x10FFFF) trie.header value
   pub built : IsWellBuilt (fitting (2 ^ 32)) value trie
   pub trie_type : trie.header.trie_type ≡ kind
 

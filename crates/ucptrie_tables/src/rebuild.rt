@@ -19,6 +19,7 @@ fn copy_values(
 ) -> Result<(), MemoryError>
     ensures values { OnOk result ((c : ℕ) → c < 0x110000
         → map_value to.new c ≡ map_value from.now c) }
+    ensures default { OnOk result (to.new.default ≡ to.old.default) }
     ensures error { OnOk result (to.new.error ≡ to.old.error) }
     ensures trie_type { OnOk result (to.new.trie_type ≡ to.old.trie_type) }
 {
@@ -31,6 +32,7 @@ fn copy_values(
 }
 
 /// Returns a builder of this type and error value that has the value of each code point in a trie.
+/// Its default is the value of U+10FFFF.
 fn copied(
     alloc: Global,
     trie: &CodePointTrie<'_, u32>,
@@ -38,6 +40,7 @@ fn copied(
     error: u32,
 ) -> Result<CodePointTrieBuilder<u32>, MemoryError>
     ensures values { IfOk result (λ builder. AreValues trie.now (map_value builder)) }
+    ensures default { IfOk result (λ builder. builder.default ≡ map_value builder 0x10FFFF) }
     ensures error { IfOk result (λ builder. builder.error ≡ error) }
     ensures trie_type { IfOk result (λ builder. builder.trie_type ≡ trie_type) }
 {
@@ -49,7 +52,8 @@ fn copied(
 }
 
 /// Builds a table with the value of each code point in another table, which need not be coherent.
-/// Its type, its width and its error value are the given ones.
+/// Its type, its width and its error value are the given ones. Its null value is that of the null
+/// block, or the value of U+10FFFF if there is none.
 ///
 /// # Errors
 /// Returns [`BuildFault::Width`] for a value of a code point, or the error value, that has more

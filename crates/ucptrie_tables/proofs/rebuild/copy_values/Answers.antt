@@ -20,6 +20,7 @@ loop-run-preserved c =
             | inr from ↦ value_after-inside run.range run.value _ (search rules) (search rules) u (search rules) (search rules)
                 ∙ sym (found.run.equal u from (search rules))
           ];
+      default = after.default ∙ held.default;
       error = after.error ∙ held.error;
       trie_type = after.trie_type ∙ held.trie_type;
     }

@@ -7,6 +7,7 @@ abbrev pub invariant-loop-run : goal.invariant-loop-run
 invariant-loop-run l = record {
   within : l.next ≤ 0x110000;
   copied : (u : ℕ) → u < l.next → map_value l.to u ≡ map_value l.from u;
+  default : l.to.default ≡ l.initial.to.default;
   error : l.to.error ≡ l.initial.to.error;
   trie_type : l.to.trie_type ≡ l.initial.to.trie_type;
 }
