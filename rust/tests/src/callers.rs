@@ -37,6 +37,8 @@ fn words_that_go_on() {
         .map(|(it, number)| (it.to_string(), number))
         .into();
     assert_eq!(words::completions(&word_trie(), "a"), Some(want));
+    let counts = ["", "a", "ab", "b"].map(|it| words::count_below(&word_trie(), it));
+    assert_eq!(counts, [Some(2), Some(2), Some(1), Some(0)]);
 }
 
 /// Texts, and the number of units of each word into which they are cut.
