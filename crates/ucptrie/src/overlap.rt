@@ -1,11 +1,14 @@
 //! Which code point has two values in a file, as in files of several properties.
 use icu_trie_builder::writes::Write;
 use std::alloc::{AllocError, Global};
+use ucd_files::aliases::alias_names;
 use ucd_files::choice::{Choice, by_names, own_choice};
-use ucd_files::fields::ends_in_first;
-use ucd_files::names::Numbering;
+use ucd_files::fields::{ends_in_first, field};
+use ucd_files::names::{Matching, Numbering};
 use ucd_files::statement::{Columns, Statement, statement_of};
-use ucptab_table::input::first_line;
+use ucd_files::value_names::ValueNames;
+use ucptab_table::input::{first_line, line_at};
+use ucptab_table::rows::content_of;
 
 /// Two lines that give a code point different values.
 #[derive(Clone, Copy)]
@@ -130,4 +133,23 @@ pub fn conflict_of_texts(alloc: Global, file: &[u8]) -> Result<Option<Conflict>,
     let columns = Columns::Field(1);
     let choice = own_choice(alloc, file, columns)?;
     conflict_of_names(alloc, file, columns, &choice)
+}
+
+/// Returns whether the line with this number has one of these names in field 1.
+fn has_name(names: &ValueNames<'_>, file: &[u8], number: u64) -> bool {
+    let text = field(1, content_of(line_at(file, number).unwrap_or(&[])));
+    names.number_named(Matching::Loose, text).is_some()
+}
+
+/// Returns whether the two different texts of a conflict are names of this property's values in a
+/// file of aliases. The lines then have that property, and the names may be those of one value.
+pub fn has_values_of(
+    alloc: Global,
+    aliases: &[u8],
+    property: &[u8],
+    file: &[u8],
+    conflict: Conflict,
+) -> Result<bool, AllocError> {
+    let names = alias_names(alloc, aliases, property)?;
+    Ok(has_name(&names, file, conflict.first) && has_name(&names, file, conflict.second))
 }

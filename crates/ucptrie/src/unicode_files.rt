@@ -1,5 +1,5 @@
 //! Tables of files of the Unicode Character Database.
-use crate::aliases::{Aliases, name_in_lines, named_aliases};
+use crate::aliases::{Aliases, name_in_lines, name_in_values, named_aliases};
 use crate::build::{options, unbuilt};
 use crate::choice::{UnicodeFile, choice_of, numbering};
 use crate::fault::{Fault, about, about_arguments, said};
@@ -7,7 +7,7 @@ use crate::fractions::{say_fractions, say_reading};
 use crate::line_faults::fault_line;
 use crate::missing::{default_of, say_missing, test_numbers, test_own_names};
 use crate::names::{is_list, say_many_in};
-use crate::overlap::{Conflict, conflict_of_texts, find_conflict};
+use crate::overlap::{Conflict, conflict_of_texts, find_conflict, has_values_of};
 use crate::properties::{expect_field, has_unihan_property, missing_property};
 use crate::static_trie::{is_static, with_static};
 use crate::streams::say;
@@ -237,15 +237,18 @@ fn say_whole_file(rt: &HostRuntime, file: &UnicodeFile<'_>) -> Result<(), AllocE
 fn columns_of_all(
     alloc: Global,
     property: &str,
-    has_aliases: bool,
+    aliases: &Aliases,
     name: &str,
     file: &[u8],
 ) -> Result<Columns<'static>, Fault> {
     let columns = Columns::Field(1);
-    if conflict_of_texts(alloc, file)?.is_some() {
-        return Err(missing_property(alloc, columns, property, name, file));
+    if let Some(conflict) = conflict_of_texts(alloc, file)? {
+        let own_name = name_in_values(aliases, property.as_bytes());
+        if !has_values_of(alloc, &aliases.values, own_name, file, conflict)? {
+            return Err(missing_property(alloc, columns, property, name, file));
+        }
     }
-    if has_aliases {
+    if !aliases.values.is_empty() {
         return Ok(columns);
     }
     let why =
@@ -269,10 +272,7 @@ fn columns_of_lines<'a>(
         property if is_simple_folding(file, property) => Ok(Columns::SimpleFolding),
         Some(property) => match name_in_lines(aliases, file, property.as_bytes()) {
             Some(own_name) => Ok(Columns::Property(own_name)),
-            None => {
-                let has_values = !aliases.values.is_empty();
-                columns_of_all(alloc, property, has_values, name, file)
-            }
+            None => columns_of_all(alloc, property, aliases, name, file),
         },
         None => only_field(alloc, name, file),
     }
