@@ -7,16 +7,29 @@
 //! - `bytes`: spans of bytes that may not be valid UTF-8
 //! - `text_sets`: [`FrozenCodePointSetAndStrings`](text_sets::FrozenCodePointSetAndStrings), a
 //!   frozen set with strings
+//! - `view`: [`FrozenView`](view::FrozenView), a frozen set in borrowed words: look-ups and spans
+//! - `boundary_spans`: spans by the boundaries of a set, without a frozen set
+//! - `longest_span`: the loops of these spans; `span_condition`: what they test characters for
+//! - `same_length`: tests the characters of a short span
+//! - `two_byte`, `ascii_blocks`, `three_byte`: test those of a long span, by the length of their bytes
 //! - `ascii`: which ASCII characters a set contains
 //! - `filling`: filling the bits of a set, range by range
 //! - `bits`: a bit for each code point, in two stages
 
 use crate::support::prelude::*;
 mod ascii;
+mod ascii_blocks;
 mod bits;
+pub mod boundary_spans;
 mod bytes;
 mod filling;
 pub mod frozen;
+mod longest_span;
 mod ranges;
+mod same_length;
+mod span_condition;
 pub mod spans;
 pub mod text_sets;
+mod three_byte;
+mod two_byte;
+pub mod view;

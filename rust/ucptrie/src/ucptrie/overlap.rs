@@ -2,11 +2,14 @@
 use crate::host::*;
 use crate::support::AllocError;
 use crate::support::prelude::*;
+use crate::ucd_files::aliases::alias_names;
 use crate::ucd_files::choice::{Choice, by_names, own_choice};
-use crate::ucd_files::fields::ends_in_first;
-use crate::ucd_files::names::Numbering;
+use crate::ucd_files::fields::{ends_in_first, field};
+use crate::ucd_files::names::{Matching, Numbering};
 use crate::ucd_files::statement::{Columns, Statement, statement_of};
-use crate::ucptab_table::input::first_line;
+use crate::ucd_files::value_names::ValueNames;
+use crate::ucptab_table::input::{first_line, line_at};
+use crate::ucptab_table::rows::content_of;
 use bekstaudi::codepointtrie::Write;
 
 /// Two lines that give a code point different values.
@@ -129,4 +132,22 @@ pub fn conflict_of_texts(file: &[u8]) -> Result<Option<Conflict>, AllocError> {
     let columns = Columns::Field(1);
     let choice = own_choice(file, columns)?;
     conflict_of_names(file, columns, &choice)
+}
+
+/// Returns whether the line with this number has one of these names in field 1.
+fn has_name(names: &ValueNames<'_>, file: &[u8], number: u64) -> bool {
+    let text = field(1, content_of(line_at(file, number).unwrap_or(&[])));
+    names.number_named(Matching::Loose, text).is_some()
+}
+
+/// Returns whether the two different texts of a conflict are names of this property's values in a
+/// file of aliases. The lines then have that property, and the names may be those of one value.
+pub fn has_values_of(
+    aliases: &[u8],
+    property: &[u8],
+    file: &[u8],
+    conflict: Conflict,
+) -> Result<bool, AllocError> {
+    let names = alias_names(aliases, property)?;
+    Ok(has_name(&names, file, conflict.first) && has_name(&names, file, conflict.second))
 }

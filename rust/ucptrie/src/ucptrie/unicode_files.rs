@@ -13,7 +13,7 @@ use crate::ucd_files::title::title_of;
 use crate::ucptab_table::input::{first_line, line_at};
 use crate::ucptab_table::message::line_message;
 use crate::ucptab_table::rows::content_of;
-use crate::ucptrie::aliases::{Aliases, name_in_lines, named_aliases};
+use crate::ucptrie::aliases::{Aliases, name_in_lines, name_in_values, named_aliases};
 use crate::ucptrie::build::{options, unbuilt};
 use crate::ucptrie::choice::{UnicodeFile, choice_of, numbering};
 use crate::ucptrie::fault::{Fault, about, about_arguments, said};
@@ -21,7 +21,7 @@ use crate::ucptrie::fractions::{say_fractions, say_reading};
 use crate::ucptrie::line_faults::fault_line;
 use crate::ucptrie::missing::{default_of, say_missing, test_numbers, test_own_names};
 use crate::ucptrie::names::{is_list, say_many_in};
-use crate::ucptrie::overlap::{Conflict, conflict_of_texts, find_conflict};
+use crate::ucptrie::overlap::{Conflict, conflict_of_texts, find_conflict, has_values_of};
 use crate::ucptrie::properties::{expect_field, has_unihan_property, missing_property};
 use crate::ucptrie::static_trie::{is_static, with_static};
 use crate::ucptrie::streams::say;
@@ -228,15 +228,18 @@ fn say_whole_file(rt: &HostRuntime, file: &UnicodeFile<'_>) -> Result<(), AllocE
 /// lines if a file of aliases has its values.
 fn columns_of_all(
     property: &str,
-    has_aliases: bool,
+    aliases: &Aliases,
     name: &str,
     file: &[u8],
 ) -> Result<Columns<'static>, Fault> {
     let columns = Columns::Field(1);
-    if conflict_of_texts(file)?.is_some() {
-        return Err(missing_property(columns, property, name, file));
+    if let Some(conflict) = conflict_of_texts(file)? {
+        let own_name = name_in_values(aliases, property.as_bytes());
+        if !has_values_of(&aliases.values, own_name, file, conflict)? {
+            return Err(missing_property(columns, property, name, file));
+        }
     }
-    if has_aliases {
+    if !aliases.values.is_empty() {
         return Ok(columns);
     }
     let why =
@@ -259,10 +262,7 @@ fn columns_of_lines<'a>(
         property if is_simple_folding(file, property) => Ok(Columns::SimpleFolding),
         Some(property) => match name_in_lines(aliases, file, property.as_bytes()) {
             Some(own_name) => Ok(Columns::Property(own_name)),
-            None => {
-                let has_values = !aliases.values.is_empty();
-                columns_of_all(property, has_values, name, file)
-            }
+            None => columns_of_all(property, aliases, name, file),
         },
         None => only_field(name, file),
     }

@@ -24,6 +24,7 @@ fn copy_values(
 }
 
 /// Returns a builder of this type and error value that has the value of each code point in a trie.
+/// Its default is the value of U+10FFFF.
 fn copied(
     trie: &CodePointTrie<'_, u32>,
     trie_type: TrieType,
@@ -37,7 +38,8 @@ fn copied(
 }
 
 /// Builds a table with the value of each code point in another table, which need not be coherent.
-/// Its type, its width and its error value are the given ones.
+/// Its type, its width and its error value are the given ones. Its null value is that of the null
+/// block, or the value of U+10FFFF if there is none.
 ///
 /// # Errors
 /// Returns [`BuildFault::Width`] for a value of a code point, or the error value, that has more

@@ -1,8 +1,8 @@
 //! Characters of three bytes that follow one another. One ASCII character may come before each of
 //! them, as a space between words does.
 
-use crate::icu_collections_c::frozen::{PLACE_WORDS, word};
-use crate::icu_collections_c::short_characters::has_short;
+use crate::icu_frozen_sets::two_byte::has_short;
+use crate::icu_frozen_sets::view::{PLACE_WORDS, word};
 use crate::support::prelude::*;
 
 /// In the table of block offsets: the block has no character of three bytes.
@@ -90,7 +90,7 @@ fn three_bits(table: &[u64], places: &[u16; 256], high: u32) -> Option<u64> {
 /// Passes characters of three bytes that are of the kind of these tables, and single ASCII
 /// characters of the kind before them. It may stop before the last of them.
 #[inline(always)]
-pub(crate) fn past_threes(
+pub(crate) fn skip_three_byte(
     table: &[u64],
     held: bool,
     words: &[u64; 36],

@@ -54,7 +54,7 @@ fn first_high(high: u64) -> usize {
 /// Passes ASCII for which the table has 0, eight bytes at a time, and returns the offset after it.
 /// It stops at another character, or at the last seven bytes.
 #[inline(always)]
-pub(crate) fn past_plain(others: &[u8; 256], bytes: &[u8], start: usize) -> usize {
+pub(crate) fn skip_ascii_blocks(others: &[u8; 256], bytes: &[u8], start: usize) -> usize {
     let mut end = start;
     while bytes.len() - end >= 8 {
         let window = &bytes[end..end + 8];

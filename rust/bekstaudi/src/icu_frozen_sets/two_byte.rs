@@ -1,8 +1,8 @@
 //! Characters of one and two bytes in any order. Eight bytes are tested at once, without a jump
 //! that depends on which of them are ASCII.
 
-use crate::icu_collections_c::frozen::{PLACE_WORDS, place_of, word};
-use crate::icu_collections_c::kinds::turned;
+use crate::icu_frozen_sets::span_condition::turned;
+use crate::icu_frozen_sets::view::{PLACE_WORDS, place_of, word};
 use crate::support::prelude::*;
 
 /// The bits of the bytes from 0xC0 on: whether they start a character of two bytes.
@@ -108,7 +108,7 @@ pub(crate) fn has_short(words: &[u64; 36], c: u32) -> bool {
 /// one of two, and returns the offset after them. It may stop before the last of them. It passes
 /// none after 16 bytes without ASCII: one by one, characters of two bytes alone are faster.
 #[inline(never)]
-pub(crate) fn past_short(words: &[u64; 36], bytes: &[u8], start: usize) -> usize {
+pub(crate) fn skip_two_byte(words: &[u64; 36], bytes: &[u8], start: usize) -> usize {
     if start < 16 {
         return start;
     }

@@ -1,8 +1,8 @@
 //! The characters of a span as long as it is short, without tables. Those of each size have a loop
 //! of their own: in a text, a character mostly has the size of the one before it.
 
-use crate::icu_collections_c::frozen::contains;
-use crate::icu_collections_c::wide_characters::Passed;
+use crate::icu_frozen_sets::three_byte::Passed;
+use crate::icu_frozen_sets::view::contains;
 use crate::support::prelude::*;
 
 /// Returns the character of one byte at the start of the bytes, or `None` if there is none.
@@ -64,7 +64,7 @@ fn character<const SIZE: usize>(bytes: &[u8]) -> Option<u32> {
 
 /// Passes characters of `SIZE` bytes that are of the kind and before the last `far` bytes.
 #[inline(always)]
-fn past_alike<const SIZE: usize>(
+fn skip_of_size<const SIZE: usize>(
     table: &[u64],
     held: bool,
     bytes: &[u8],
@@ -91,7 +91,7 @@ fn past_alike<const SIZE: usize>(
 /// Passes characters of the kind that have the size of the first one and are before the last `far`
 /// bytes.
 #[inline(always)]
-pub(crate) fn past_near(
+pub(crate) fn skip_same_length(
     table: &[u64],
     held: bool,
     bytes: &[u8],
@@ -99,13 +99,13 @@ pub(crate) fn past_near(
     far: usize,
 ) -> Passed {
     if bytes[start] < 0x80 {
-        return past_alike::<1>(table, held, bytes, start, far);
+        return skip_of_size::<1>(table, held, bytes, start, far);
     }
     if bytes[start] < 0xE0 {
-        return past_alike::<2>(table, held, bytes, start, far);
+        return skip_of_size::<2>(table, held, bytes, start, far);
     }
     if bytes[start] < 0xF0 {
-        return past_alike::<3>(table, held, bytes, start, far);
+        return skip_of_size::<3>(table, held, bytes, start, far);
     }
-    past_alike::<4>(table, held, bytes, start, far)
+    skip_of_size::<4>(table, held, bytes, start, far)
 }

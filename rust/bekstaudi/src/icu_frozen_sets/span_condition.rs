@@ -1,10 +1,10 @@
 //! What a span tests characters for: that they are in a set, or that they are outside it.
 
-use crate::icu_collections_c::frozen::{PLACE_WORDS, contains, place_of, word};
-use crate::icu_collections_c::plain_characters::past_plain;
-use crate::icu_collections_c::short_characters::has_short;
-use crate::icu_collections_c::spans::long_span;
-use crate::icu_collections_c::wide_characters::{Passed, past_threes};
+use crate::icu_frozen_sets::ascii_blocks::skip_ascii_blocks;
+use crate::icu_frozen_sets::longest_span::long_span;
+use crate::icu_frozen_sets::three_byte::{Passed, skip_three_byte};
+use crate::icu_frozen_sets::two_byte::has_short;
+use crate::icu_frozen_sets::view::{PLACE_WORDS, contains, place_of, word};
 use crate::icu_zerovec::CODE_POINT_LIMIT;
 use crate::support::prelude::*;
 
@@ -21,14 +21,14 @@ pub(crate) trait Kind {
 
     /// Passes some ASCII characters of this kind, if that is faster than one by one, and returns
     /// the offset after them.
-    fn past_plain(&mut self, bytes: &[u8], start: usize) -> usize;
+    fn skip_ascii_blocks(&mut self, bytes: &[u8], start: usize) -> usize;
 
     /// Returns the result of the span, if it is found faster in another way from here on. The first
     /// `passed` bytes are characters of this kind.
-    fn rest(&mut self, bytes: &[u8], passed: usize) -> Option<i64>;
+    fn rest(&mut self, bytes: &[u8], passed: usize) -> Option<usize>;
 
     /// Passes some characters of three bytes, if that is faster than one by one.
-    fn past_wide(&mut self, bytes: &[u8], start: usize) -> Passed;
+    fn skip_three_byte(&mut self, bytes: &[u8], start: usize) -> Passed;
 }
 
 /// A kind by the words of a frozen set.
@@ -77,12 +77,12 @@ impl<'a> Kind for FrozenKind<'a> {
     }
 
     #[inline(always)]
-    fn past_plain(&mut self, _bytes: &[u8], start: usize) -> usize {
+    fn skip_ascii_blocks(&mut self, _bytes: &[u8], start: usize) -> usize {
         start
     }
 
     #[inline(always)]
-    fn rest(&mut self, bytes: &[u8], passed: usize) -> Option<i64> {
+    fn rest(&mut self, bytes: &[u8], passed: usize) -> Option<usize> {
         if passed < LONG {
             return None;
         }
@@ -90,7 +90,7 @@ impl<'a> Kind for FrozenKind<'a> {
     }
 
     #[inline(always)]
-    fn past_wide(&mut self, _bytes: &[u8], start: usize) -> Passed {
+    fn skip_three_byte(&mut self, _bytes: &[u8], start: usize) -> Passed {
         Passed {
             end: start,
             is_end: false,
@@ -145,18 +145,18 @@ impl<'a> Kind for LongKind<'a> {
     }
 
     #[inline(always)]
-    fn past_plain(&mut self, bytes: &[u8], start: usize) -> usize {
-        past_plain(self.others, bytes, start)
+    fn skip_ascii_blocks(&mut self, bytes: &[u8], start: usize) -> usize {
+        skip_ascii_blocks(self.others, bytes, start)
     }
 
     #[inline(always)]
-    fn rest(&mut self, _bytes: &[u8], _passed: usize) -> Option<i64> {
+    fn rest(&mut self, _bytes: &[u8], _passed: usize) -> Option<usize> {
         None
     }
 
     #[inline(always)]
-    fn past_wide(&mut self, bytes: &[u8], start: usize) -> Passed {
-        past_threes(self.table, self.held, self.words, self.places, bytes, start)
+    fn skip_three_byte(&mut self, bytes: &[u8], start: usize) -> Passed {
+        skip_three_byte(self.table, self.held, self.words, self.places, bytes, start)
     }
 }
 
@@ -236,17 +236,17 @@ impl<'a> Kind for EndsKind<'a> {
     }
 
     #[inline(always)]
-    fn past_plain(&mut self, _bytes: &[u8], start: usize) -> usize {
+    fn skip_ascii_blocks(&mut self, _bytes: &[u8], start: usize) -> usize {
         start
     }
 
     #[inline(always)]
-    fn rest(&mut self, _bytes: &[u8], _passed: usize) -> Option<i64> {
+    fn rest(&mut self, _bytes: &[u8], _passed: usize) -> Option<usize> {
         None
     }
 
     #[inline(always)]
-    fn past_wide(&mut self, _bytes: &[u8], start: usize) -> Passed {
+    fn skip_three_byte(&mut self, _bytes: &[u8], start: usize) -> Passed {
         Passed {
             end: start,
             is_end: false,

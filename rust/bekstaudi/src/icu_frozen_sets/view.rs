@@ -1,0 +1,132 @@
+//! A view of a frozen set in 64-bit words: look-ups, and spans of texts.
+
+use crate::icu_frozen_sets::longest_span::{frozen_span, span_back, span_units};
+use crate::icu_frozen_sets::span_condition::FrozenKind;
+use crate::icu_zerovec::CODE_POINT_LIMIT;
+use crate::support::prelude::*;
+
+/// How many words the block offsets take.
+pub(crate) const PLACE_WORDS: usize = 1088;
+
+/// Returns the word at this index, or 0 if there is none.
+#[inline(always)]
+pub(crate) fn word(table: &[u64], place: usize) -> u64 {
+    if place < table.len() { table[place] } else { 0 }
+}
+
+/// Returns the offset of the block's words.
+#[inline(always)]
+pub(crate) fn place_of(table: &[u64], block: u32) -> usize {
+    let four = word(table, (block / 4) as usize);
+    ((four >> (16 * (block % 4))) % 0x1_0000) as usize
+}
+
+/// Returns the bit of the code point.
+#[inline(always)]
+fn bit_of(table: &[u64], c: u32) -> bool {
+    let place = PLACE_WORDS + place_of(table, c / 256) + (c / 64 % 4) as usize;
+    (word(table, place) >> (c % 64)) & 1 == 1
+}
+
+/// Returns whether the frozen set contains the code point.
+#[inline(always)]
+pub(crate) fn contains(table: &[u64], c: u32) -> bool {
+    c < CODE_POINT_LIMIT && bit_of(table, c)
+}
+
+/// A frozen set in 64-bit words, borrowed, for example from a file. It is `Copy`, like `&[u64]`.
+///
+/// First come 4,352 block offsets of 16 bits, one for each block of 256 code points, four in a word
+/// with the first one in the lowest bits. From word 1,088 on, each word has the bits of 64 code
+/// points, lowest first. A block's offset says at which of these words its four words start.
+///
+/// Any words are accepted. Words that are missing count as 0, and words after the set are ignored.
+#[derive(Clone, Copy, Debug)]
+pub struct FrozenView<'a> {
+    words: &'a [u64],
+}
+
+/// Queries.
+impl<'a> FrozenView<'a> {
+    /// Returns a view of the frozen set at the start of the words.
+    #[inline(always)]
+    #[must_use]
+    pub fn new(words: &'a [u64]) -> FrozenView<'a> {
+        FrozenView { words }
+    }
+
+    /// Returns true if the set contains the code point `c`. Returns false for any number above
+    /// 0x10FFFF.
+    #[inline(always)]
+    #[must_use]
+    pub fn contains32(self, c: u32) -> bool {
+        contains(self.words, c)
+    }
+
+    /// Returns true if the set contains the character `c`.
+    #[inline(always)]
+    #[must_use]
+    pub fn contains(self, c: char) -> bool {
+        self.contains32(u32::from(c))
+    }
+}
+
+/// Spans of texts.
+impl<'a> FrozenView<'a> {
+    /// Returns the length in bytes of the longest prefix of `text` whose characters are all in the
+    /// set, or all outside it if `held` is false (ICU: `UnicodeSet::spanUTF8`).
+    ///
+    /// The result is a character boundary, so `&text[set.span(text, true)..]` is the rest of the
+    /// text.
+    #[inline(always)]
+    #[must_use]
+    pub fn span(self, text: &str, held: bool) -> usize {
+        self.span_utf8(text.as_bytes(), held)
+    }
+
+    /// Returns the length in bytes of the longest prefix of `bytes` whose characters are all in the
+    /// set, or all outside it if `held` is false. `bytes` may be ill-formed UTF-8.
+    ///
+    /// An ill-formed sequence ends the span for both values of `held`; ICU's `UnicodeSet::spanUTF8`
+    /// treats it as U+FFFD instead. Reads at most the nine bytes after the span: a long span is
+    /// tested eight bytes at a time.
+    #[inline(always)]
+    #[must_use]
+    pub fn span_utf8(self, bytes: &[u8], held: bool) -> usize {
+        frozen_span(self.words, held, bytes)
+    }
+
+    /// Returns the byte offset at which the longest suffix starts whose characters are all in the
+    /// set, or all outside it if `held` is false (ICU: `UnicodeSet::spanBackUTF8`).
+    ///
+    /// The result is a character boundary, so `&text[..set.span_back(text, true)]` is the text
+    /// before that suffix.
+    #[inline]
+    #[must_use]
+    pub fn span_back(self, text: &str, held: bool) -> usize {
+        self.span_back_utf8(text.as_bytes(), held)
+    }
+
+    /// Returns the byte offset at which the longest suffix of `bytes` starts whose characters are
+    /// all in the set, or all outside it if `held` is false. `bytes` may be ill-formed UTF-8.
+    ///
+    /// An ill-formed sequence ends the span for both values of `held`; ICU's
+    /// `UnicodeSet::spanBackUTF8` treats it as U+FFFD instead. Reads at most the four bytes before
+    /// the span.
+    #[inline]
+    #[must_use]
+    pub fn span_back_utf8(self, bytes: &[u8], held: bool) -> usize {
+        span_back(&mut FrozenKind::new(self.words, held), bytes)
+    }
+
+    /// Returns the number of units of the longest prefix of 16-bit units whose code points are all
+    /// in the set, or all outside it if `held` is false (ICU: `UnicodeSet::span`).
+    ///
+    /// A high surrogate and the low surrogate after it are one code point. Each other unit is a code
+    /// point of its own, even an unpaired surrogate.
+    #[inline]
+    #[must_use]
+    pub fn span_utf16(self, units: &[u16], held: bool) -> usize {
+        span_units(&mut FrozenKind::new(self.words, held), units)
+    }
+}
