@@ -85,7 +85,7 @@ fn push_gap(text: &mut String, i: usize, indent: &str) -> Result<(), AllocError>
     if i == 0 {
         return Ok(());
     }
-    if i % CELLS_IN_LINE != 0 {
+    if !i.is_multiple_of(CELLS_IN_LINE) {
         return text.try_push(',');
     }
     text.try_push_str(",\n")?;
