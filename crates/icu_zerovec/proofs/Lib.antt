@@ -8,3 +8,4 @@ pub mod DrainLemmas
 mod Chunks
 mod PrefixLemmas
 mod CellSearches
+mod Searches

@@ -8,3 +8,4 @@ pub mod CodePoints
 pub mod FirstFault
 pub mod CellOrder
 pub mod Buffers
+pub mod Inside

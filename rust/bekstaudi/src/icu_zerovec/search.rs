@@ -1,38 +1,6 @@
-//! The search of ascending packed values.
-
-use crate::icu_zerovec::ule::AsULE;
+//! The search of ascending packed values, with two bodies under one contract. In `proved` a proof takes
+//! the place of the test of an index. In `tested` it is std's search of a slice.
 use crate::support::prelude::*;
-use core::cmp::Ordering;
+mod tested;
 
-/// Compares the value of a cell with `x`. The width is a constant, so rustc leaves no test of it.
-#[inline(always)]
-fn order_of<T: AsULE + Ord>(cell: &[u8], x: &T) -> Ordering {
-    if cell.len() != T::WIDTH {
-        return Ordering::Greater;
-    }
-    match T::from_unaligned(cell) {
-        Some(value) => value.cmp(x),
-        None => Ordering::Greater,
-    }
-}
-
-/// Searches ascending cells by std's search of a slice.
-#[inline(always)]
-fn search_chunks<const WIDTH: usize, T: AsULE + Ord>(bytes: &[u8], x: &T) -> Result<usize, usize> {
-    bytes
-        .as_chunks::<WIDTH>()
-        .0
-        .binary_search_by(|cell: &[u8; WIDTH]| -> Ordering { order_of::<T>(cell, x) })
-}
-
-/// Searches ascending packed bytes for `x`. Returns the index of an equal value as `Ok`, or as `Err`
-/// the index at which `x` could be inserted.
-#[inline]
-pub(crate) fn binary_search<T: AsULE + Ord>(bytes: &[u8], x: &T) -> Result<usize, usize> {
-    match T::WIDTH {
-        1 => search_chunks::<1, T>(bytes, x),
-        2 => search_chunks::<2, T>(bytes, x),
-        3 => search_chunks::<3, T>(bytes, x),
-        _ => search_chunks::<4, T>(bytes, x),
-    }
-}
+pub(crate) use tested::binary_search;

@@ -5,7 +5,7 @@ use Rattle.std.specs.Simd.{first_chunks}
 use Rattle.std.specs.List.Sorted.{IsSearchInRange, IsBinarySearchResult}
 use Rattle.icu_zerovec.specs.CellOrder.{cell_order}
 use Rattle.icu_zerovec.proofs.CellSearches.{among_values, in_range}
-use Rattle.icu_zerovec.proofs.search.search_chunks.Goals as goal
+use Rattle.icu_zerovec.proofs.search.tested.search_chunks.Goals as goal
 
 pub returns-clause-bound : goal.returns-clause-bound
 returns-clause-bound g c =
