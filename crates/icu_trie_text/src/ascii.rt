@@ -116,7 +116,10 @@ impl<'a, T: TrieValue> AsciiInPlace<'a, T> {
         requires within { block * 64 + place < 0x110000 }
         ensures { Some result ≡ trie_value self.now (block * 64 + place) }
     {
-        if let Some(offset) = self.index.get_likely_below(self.blocks as usize, block as usize) {
+        if let Some(offset) = self
+            .index
+            .get_likely_below(self.blocks as usize, block as usize)
+        {
             return self.values.at(offset as usize + place as usize);
         }
         self.trie.get32(block * 64 + place)

@@ -114,7 +114,9 @@ impl<'a, T: TrieValue> PartValues<T> for TrieCells<'a, T> {
 
     #[inline(always)]
     fn near_below(&self, block: u32, place: u32) -> Option<T> {
-        let offset = self.index.get_likely_below(self.blocks as usize, block as usize)?;
+        let offset = self
+            .index
+            .get_likely_below(self.blocks as usize, block as usize)?;
         Some(self.values.at(offset as usize + place as usize))
     }
 
