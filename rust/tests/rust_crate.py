@@ -86,7 +86,7 @@ def is_as_made(made, folder):
         print("the packages are not compared with what rust/make writes: no rustfmt on PATH")
         return True
     failed = []
-    for package in os.listdir(folder):
+    for package in made.PACKAGES:
         new, kept = f"{folder}/{package}", f"{TOP}/rust/{package}"
         names = files(new) | {it for it in files(kept) if not it.startswith("target")}
         _, other, missing = filecmp.cmpfiles(new, kept, names, shallow=False)
@@ -126,7 +126,7 @@ def add_tests(made, folder):
             place = re.match(r"(?://!.*\n)*\n*", text).end()
             write(path, text[:place] + TEST_NAMES + text[place:])
     shutil.copytree(PARTS, f"{folder}/src", dirs_exist_ok=True)
-    shutil.copy(f"{TOP}/rust/programs/ucptab/src/ledger.rs", f"{folder}/src")
+    shutil.copy(f"{TOP}/rust/bin_shim/bekstaudi-tables/src/ledger.rs", f"{folder}/src")
     shutil.move(f"{folder}/src/public", f"{folder}/tests")
     shutil.move(f"{folder}/src/refusing", folder)
     needed = '\n[dev-dependencies.refusing]\npath = "refusing"\n'

@@ -1,10 +1,10 @@
-"""The public items of the libraries and of rust/face, and what their docs lack, for
+"""The public items of the libraries and of rust/api, and what their docs lack, for
 tests/gate/prose --items."""
 import glob
 import re
 
 # Crates that callers of the library use. C's functions are described in c/bekstaudi.h.
-SOURCES = ["crates/icu_*/src/**/*.rt", "rust/face/**/*.rs"]
+SOURCES = ["crates/icu_*/src/**/*.rt", "rust/api/**/*.rs"]
 LEFT_OUT = re.compile(r"crates/icu_collections_c/|/tests?/")
 ITEM = re.compile(
     r"^(?P<indent> *)(?P<public>pub )?(?:final |const |unsafe |extern )*"
@@ -70,7 +70,7 @@ def faults_of(path, text):
             continue
         if re.search(r"->\s*(?:\w+::)*Result\b", signature(text, it.start())) and "# Errors" not in docs:
             yield f"{name} returns a Result and has no # Errors"
-        if path.startswith("rust/face") and PANICKING.search(body(text, it)) and "# Panics" not in docs:
+        if path.startswith("rust/api") and PANICKING.search(body(text, it)) and "# Panics" not in docs:
             yield f"{name} can panic and has no # Panics"
 
 

@@ -1,18 +1,11 @@
-//! The program ucptab: crates/ucptab and crates/ucptab_table without their proofs, over
-//! `bekstaudi`.
-#![deny(unsafe_code)]
+//! The program ucptab: crates/ucptab without its proofs, over `bekstaudi-tables`.
+#![forbid(unsafe_code)]
 #![allow(unused_imports)] // Each module imports the same names of `host` and `support`.
 
-extern crate alloc;
+use bekstaudi_tables::{host, ledger, support, ucptab_table};
 
-mod host;
-mod ledger;
-#[allow(dead_code, unused_macros)]
-mod support;
 #[allow(unused_variables)]
 mod ucptab;
-#[allow(dead_code, unused_variables)]
-mod ucptab_table;
 
 fn main() -> std::process::ExitCode {
     ucptab::main(host::HostRuntime)

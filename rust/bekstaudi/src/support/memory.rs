@@ -36,7 +36,7 @@ impl<T> From<AllocFailed<T>> for AllocError {
 }
 
 /// The methods of a vector that allocate.
-pub(crate) trait TryVec<T>: Sized {
+pub trait TryVec<T>: Sized {
     /// Returns a vector with capacity for `count` values.
     fn with_room(count: usize) -> Result<Self, AllocError>;
 
@@ -152,7 +152,7 @@ impl<T> TryVec<T> for Vec<T> {
 }
 
 /// The methods of a string that allocate.
-pub(crate) trait TryString: Sized {
+pub trait TryString: Sized {
     /// Returns a copy of the text.
     fn from_str(text: &str) -> Result<Self, AllocError>;
 

@@ -1,5 +1,5 @@
 """What the Rust API guidelines ask for beside what the proved sources have: derived traits, attributes,
-and the code of rust/added, which needs the private parts of a module."""
+and the code of rust/extra_impls, which needs the private parts of a module."""
 import os
 
 from files import HERE, Stop, parts, table
@@ -73,13 +73,13 @@ def with_modifiers(module, tokens, asked):
 
 
 def with_added(module, tokens):
-    """Appends code of rust/added. What follows a line `//# NAME` is a method of the iterator NAME."""
-    path, tokens = f"{HERE}/added/{module}.rs", list(tokens)
+    """Appends code of rust/extra_impls. What follows a line `//# NAME` is a method of the iterator NAME."""
+    path, tokens = f"{HERE}/extra_impls/{module}.rs", list(tokens)
     (_, rest), *added = parts(path) if os.path.exists(path) else [("", "")]
     for name, part in added:
         heads = [at for at, _, _ in matches(tokens, ["Iterator", "for", name])]
         if len(heads) != 1:
-            raise Stop(f" rust/added: expected one iterator {name}, found {len(heads)}")
+            raise Stop(f" rust/extra_impls: expected one iterator {name}, found {len(heads)}")
         end = past_group(tokens, tokens.index("{", heads[0])) - 1
         tokens[end:end] = tokens_of(f"\n{part}\n")
     return tokens + tokens_of(f"\n{rest}")

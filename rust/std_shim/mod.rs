@@ -7,7 +7,7 @@ mod empty;
 #[cfg(feature = "alloc")]
 mod maps;
 #[cfg_attr(not(feature = "alloc"), allow(dead_code))]
-pub(crate) mod memory;
+pub mod memory;
 
 #[cfg(feature = "alloc")]
 pub use maps::{BTreeMap, HashMap};
@@ -27,12 +27,13 @@ macro_rules! try_json {
 pub(crate) use try_json;
 
 /// What each module of the proved source imports.
-pub(crate) mod prelude {
-    pub(crate) use super::memory::{TryString, TryVec, try_vec};
+pub mod prelude {
     #[cfg(not(feature = "alloc"))]
-    pub(crate) use super::empty::{String, Vec};
+    pub use super::empty::{String, Vec};
+    pub(crate) use super::memory::try_vec;
+    pub use super::memory::{TryString, TryVec};
     #[cfg(feature = "alloc")]
-    pub(crate) use alloc::string::String;
+    pub use alloc::string::String;
     #[cfg(feature = "alloc")]
-    pub(crate) use alloc::vec::Vec;
+    pub use alloc::vec::Vec;
 }
