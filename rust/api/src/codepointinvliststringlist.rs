@@ -1,5 +1,8 @@
 //! Sets of code points and of longer strings.
 //!
+//! [`CodePointInversionListAndStringListBuilder`] builds a
+//! [`CodePointInversionListAndStringList`] from texts and sets.
+//!
 //! ```
 //! use bekstaudi::codepointinvliststringlist::CodePointInversionListAndStringList;
 //!
@@ -13,6 +16,7 @@ pub use crate::icu_text_sets::codepointinvliststringlist::StringListJsonError;
 pub use crate::icu_text_sets::codepointinvliststringlist::{
     CodePointInversionListAndStringList, InvalidStringList,
 };
+pub use crate::string_set_builder::CodePointInversionListAndStringListBuilder;
 pub use crate::strings::{Strings, StringsIter};
 
 use crate::codepointinvlist::CodePointInversionList;

@@ -41,6 +41,8 @@
 pub use crate::constant::ConstValue;
 #[doc(hidden)]
 pub use crate::constant::null_number;
+#[doc(hidden)]
+pub use crate::constant_values::named;
 pub use crate::icu_trie::cptrie::CodePointTrie;
 pub use crate::icu_trie::error::{CodePointTrieError, ConvertError, PartsError};
 pub use crate::icu_trie::header::{CodePointTrieHeader, TrieType};
@@ -79,6 +81,7 @@ use crate::codepointinvlist::CodePointInversionList;
 use crate::plain::plain;
 #[cfg(feature = "alloc")]
 use crate::zerovec::MemoryError;
+use crate::icu_trie::iterator_utils;
 use crate::zerovec::ule::UleError;
 #[cfg(feature = "alloc")]
 use core::ops::RangeInclusive;
@@ -130,6 +133,85 @@ impl<T: TrieValue> CodePointTrie<'_, T> {
     #[must_use]
     pub fn get_set_for_value(&self, value: T) -> CodePointInversionList<'static> {
         plain(self.try_get_set_for_value(value))
+    }
+
+    /// Returns the set of code points for whose range in [`iter_ranges`](Self::iter_ranges) the value
+    /// is accepted by `is_wanted`, which is called once for each range.
+    ///
+    /// If the trie is coherent, as every built one is, these are exactly the code points whose value
+    /// is accepted.
+    ///
+    /// ```
+    /// use bekstaudi::codepointtrie::planes::get_planes_trie;
+    ///
+    /// let planes = get_planes_trie();
+    /// let set = planes.try_get_set_where(|plane| plane == 1 || plane == 3)?;
+    /// assert_eq!(set.get_inversion_list_vec(), [0x10000, 0x20000, 0x30000, 0x40000]);
+    /// # Ok::<(), Box<dyn std::error::Error>>(())
+    /// ```
+    ///
+    /// # Errors
+    /// Returns [`MemoryError`] if an allocation fails.
+    pub fn try_get_set_where(
+        &self,
+        is_wanted: impl Fn(T) -> bool,
+    ) -> Result<CodePointInversionList<'static>, MemoryError> {
+        let wanted = self.iter_ranges_mapped(is_wanted).filter(|it| it.value);
+        CodePointInversionList::try_from_iter(wanted.map(|it| it.range))
+    }
+
+    /// Returns the set of code points for whose range in [`iter_ranges`](Self::iter_ranges) the value
+    /// is accepted by `is_wanted`, which is called once for each range.
+    ///
+    /// If the trie is coherent, as every built one is, these are exactly the code points whose value
+    /// is accepted.
+    ///
+    /// ```
+    /// use bekstaudi::codepointtrie::planes::get_planes_trie;
+    ///
+    /// let upper = get_planes_trie().get_set_where(|plane| plane >= 15);
+    /// assert_eq!(upper.get_inversion_list_vec(), [0xF0000, 0x110000]);
+    /// ```
+    ///
+    /// # Panics
+    /// Panics if an allocation fails; [`try_get_set_where`](Self::try_get_set_where) returns an error
+    /// then.
+    #[must_use]
+    pub fn get_set_where(&self, is_wanted: impl Fn(T) -> bool) -> CodePointInversionList<'static> {
+        plain(self.try_get_set_where(is_wanted))
+    }
+}
+
+impl<T: TrieValue> CodePointTrie<'_, T> {
+    /// Returns the range of code points from `c` on whose values have the same result of `map` as that
+    /// of `c`, with this result (ICU: `ucptrie_getRange` with a filter).
+    ///
+    /// It calls `map` for the value of each range that [`get_range`](Self::get_range) returns from `c`
+    /// on, up to the first one with another result. If the trie is coherent, as every built one is,
+    /// the range is the longest run of equal results from `c` on.
+    ///
+    /// Returns `None` if `get_range` does, so for each `c` above 0x10FFFF.
+    ///
+    /// ```
+    /// use bekstaudi::codepointtrie::planes::get_planes_trie;
+    ///
+    /// let range = get_planes_trie().get_range_mapped(0x12345, |plane| plane < 3);
+    /// assert_eq!(range.map(|it| (it.range, it.value)), Some((0x12345..=0x2FFFF, true)));
+    /// ```
+    #[must_use]
+    pub fn get_range_mapped<U: Eq>(
+        &self,
+        c: u32,
+        map: impl Fn(T) -> U,
+    ) -> Option<CodePointMapRange<U>> {
+        let mut next = c;
+        let ranges = core::iter::from_fn(|| {
+            let CodePointMapRange { range, value } = self.get_range(next)?;
+            next = *range.end() + 1;
+            let value = map(value);
+            Some(CodePointMapRange { range, value })
+        });
+        iterator_utils::RangeListIteratorCoalescer::new(ranges).next()
     }
 }
 

@@ -29,6 +29,20 @@ pub const fn joined<const N: usize>(mut numbers: [u32; N]) -> ([(u32, u32); N], 
     (ranges, count)
 }
 
+/// Returns the value that has this name, or else the first one whose name matches it loosely. For
+/// [`trie_values!`](crate::trie_values).
+#[doc(hidden)]
+#[must_use]
+pub fn named<T: Copy>(values: &[T], name_of: fn(T) -> &'static str, name: &str) -> Option<T> {
+    fn significant(text: &str) -> impl Iterator<Item = u8> {
+        let bytes = text.bytes().filter(|it| !b" -_".contains(it));
+        bytes.map(|it| it.to_ascii_lowercase())
+    }
+    let is_loose = |it: &&T| significant(name_of(**it)).eq(significant(name));
+    let exact = values.iter().find(|it| name_of(**it) == name);
+    exact.or_else(|| values.iter().find(is_loose)).copied()
+}
+
 /// Declares an enum whose values a trie can store, also in a constant.
 ///
 /// The type after the name, `u8`, `u16` or `u32`, is that of a value's cell. Each value has a
@@ -36,6 +50,11 @@ pub const fn joined<const N: usize>(mut numbers: [u32; N]) -> ([(u32, u32); N], 
 /// values apply to them, except that `#[cfg(..)]` on a value does not compile.
 ///
 /// Up to 256 values, a look-up takes as long as one of a number. With more, it takes a call.
+///
+/// The enum has the constant `ALL`, a slice of its values as they are declared; `name`, which returns
+/// the name of a value; and `from_name`, which returns the value with a name. A name that is no
+/// value's own is compared without case, spaces, hyphens and underscores, as Unicode compares the names of
+/// property values, so `GreekExt` is also the value of `Greek_Ext` and `greek ext`.
 ///
 /// The enum gets [`AsULE`](crate::zerovec::ule::AsULE),
 /// [`TrieValue`](crate::codepointtrie::TrieValue), [`ConstCells`](crate::zerovec::ConstCells) and
@@ -58,6 +77,8 @@ pub const fn joined<const N: usize>(mut numbers: [u32; N]) -> ([(u32, u32); N], 
 /// let mut builder = CodePointTrieBuilder::new(Kind::Other, Kind::Other, TrieType::Small);
 /// builder.set_range_value(0x30..=0x39, Kind::Digit);
 /// assert_eq!(builder.build().get('7'), Kind::Digit);
+/// assert_eq!(Kind::ALL, [Kind::Other, Kind::Letter, Kind::Digit]);
+/// assert_eq!((Kind::Digit.name(), Kind::from_name("letter")), ("Digit", Some(Kind::Letter)));
 /// ```
 #[macro_export]
 macro_rules! trie_values {
@@ -72,6 +93,27 @@ macro_rules! trie_values {
         #[repr($number)]
         $vis enum $value {
             $($(#[$inner])* $name = $n),+
+        }
+
+        #[allow(dead_code, deprecated)]
+        impl $value {
+            /// All values, in the order in which they are declared.
+            pub const ALL: &'static [Self] = &[$($value::$name),+];
+
+            /// Returns the name of the value, as it is declared.
+            #[must_use]
+            pub const fn name(self) -> &'static str {
+                match self {
+                    $($value::$name => ::core::stringify!($name),)+
+                }
+            }
+
+            /// Returns the value of a name, or `None` if it is no value's name. A name that is not
+            /// exactly one of these is compared without case, spaces, hyphens and underscores.
+            #[must_use]
+            pub fn from_name(name: &str) -> ::core::option::Option<Self> {
+                $crate::codepointtrie::named(&[$($value::$name),+], Self::name, name)
+            }
         }
 
         #[allow(deprecated)]

@@ -181,6 +181,12 @@ mod icu_zerovec;
 #[path = "../../bekstaudi/src/plain.rs"]
 mod plain;
 #[forbid(unsafe_code)]
+#[path = "../../bekstaudi/src/set_operators.rs"]
+mod set_operators;
+#[forbid(unsafe_code)]
+#[path = "../../bekstaudi/src/string_set_builder.rs"]
+mod string_set_builder;
+#[forbid(unsafe_code)]
 #[path = "../../bekstaudi/src/strings.rs"]
 mod strings;
 #[cfg_attr(not(feature = "proved-reads"), forbid(unsafe_code))]

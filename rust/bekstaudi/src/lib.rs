@@ -74,6 +74,29 @@
 //! makes the trie of them. `ucptrie build --as rust-static` also writes the `static`, and an enum if
 //! values have names.
 //!
+//! # Texts, tables, words
+//!
+//! [`codepointtrie::text`] returns the values along a text. The program `ucptrie` writes a module with a
+//! `static` trie and the enum of its values, and word lists, whose units are in the source or in a
+//! file:
+//!
+//! ```ignore
+//! use bekstaudi::{char16trie::Char16Trie, codepointtrie::text, unit_trie, zerovec::ZeroSlice};
+//!
+//! mod script; // ucptrie build Scripts.txt --as rust-static --name script -o src/script.rs
+//! include!("keywords.rs"); // ucptrie words keywords.txt --as rust --name keywords -o src/keywords.rs
+//! // ucptrie words words.txt --as icu -o src/words.icu
+//! static WORDS: Char16Trie = Char16Trie::from_static(ZeroSlice::from_static(include_bytes!("words.icu")));
+//! static KEYWORDS: Char16Trie = unit_trie!(keywords::UNITS); // The compiler tests these units.
+//!
+//! fn main() {
+//!     for (offset, c, script) in text::value_indices_of(&script::SCRIPT, "aβ") {
+//!         println!("{offset} {c} {}", script.name());
+//!     }
+//!     println!("{:?} {:?}", KEYWORDS.longest_match_str("integer"), WORDS.longest_match_str("letters"));
+//! }
+//! ```
+//!
 //! # Features
 //!
 //! All but `alloc` are off by default.
@@ -122,6 +145,10 @@ mod constant_values;
 mod plain;
 #[cfg(feature = "serde")]
 mod serde_forms;
+#[cfg(feature = "alloc")]
+mod set_operators;
+#[cfg(feature = "alloc")]
+mod string_set_builder;
 #[cfg(feature = "alloc")]
 mod strings;
 mod support;

@@ -10,6 +10,23 @@ impl<'data> CodePointInversionListAndStringList<'data> {
         })
     }
 
+    /// Returns the set of these code points and strings. The strings ascend, and none has exactly one
+    /// character.
+    pub(crate) fn from_sorted(
+        cp_inv_list: CodePointInversionList<'data>,
+        str_list: Vec<String>,
+    ) -> Self {
+        CodePointInversionListAndStringList {
+            cp_inv_list,
+            str_list,
+        }
+    }
+
+    /// Returns the strings of the set.
+    pub(crate) fn into_strings(self) -> Vec<String> {
+        self.str_list
+    }
+
     /// Returns the same set, which then owns its code points. The strings are not copied, nor code
     /// points that the set already owns.
     ///

@@ -6,9 +6,11 @@ use bekstaudi::codepointinvlist::{
     CodePointInversionList, CodePointInversionListBuilder, FrozenCodePointSet,
     FrozenCodePointSetAndStrings, SetError,
 };
-use bekstaudi::codepointinvliststringlist::CodePointInversionListAndStringList;
+use bekstaudi::codepointinvliststringlist::{
+    CodePointInversionListAndStringList, CodePointInversionListAndStringListBuilder,
+};
 use bekstaudi::zerovec::{MemoryError, PotentialCodePoint, ZeroVec};
-use refusing::{refused_in_turn, unchanged_where_refused};
+use refusing::{asks_for_nothing, refused_in_turn, unchanged_where_refused};
 
 /// Letters. The first ones form a range.
 fn letters() -> CodePointInversionList<'static> {
@@ -215,4 +217,48 @@ fn sets_with_texts() {
         frozen.try_clone().ok()
     });
     assert!(frozen.contains_str("xyz") && set.contains_str("abc"));
+}
+
+/// A method that changes a builder of sets with strings, with its name.
+type StringChange = (
+    &'static str,
+    fn(
+        &mut CodePointInversionListAndStringListBuilder,
+        &CodePointInversionListAndStringList,
+    ) -> Result<(), MemoryError>,
+);
+
+const STRING_CHANGES: [StringChange; 7] = [
+    ("try_add_str", |it, _| it.try_add_str("new")),
+    ("try_add_str of a character", |it, _| it.try_add_str("t")),
+    ("try_remove_str of a character", |it, _| it.try_remove_str("d")),
+    ("try_add_set", |it, other| it.try_add_set(other)),
+    ("try_remove_set", |it, other| it.try_remove_set(other)),
+    ("try_retain_set", |it, other| it.try_retain_set(other)),
+    ("try_complement", |it, _| it.code_points_mut().try_complement()),
+];
+
+#[test]
+fn builders_of_texts() {
+    let whole = CodePointInversionListAndStringList::try_from(letters(), vec!["ab".into(), "xy".into()]);
+    let other = CodePointInversionListAndStringList::try_from(other(), vec!["ab".into(), "z!".into()]);
+    let (whole, other) = (whole.expect("sorted"), other.expect("sorted"));
+    let full = || {
+        let mut builder = CodePointInversionListAndStringListBuilder::new();
+        builder.add_set(&whole);
+        builder.clone()
+    };
+    for (name, change) in STRING_CHANGES {
+        let change = |builder: &mut CodePointInversionListAndStringListBuilder| change(builder, &other).is_ok();
+        unchanged_where_refused(name, full, change, |it| it.clone().build() == whole);
+    }
+    let mut builder = full();
+    asks_for_nothing("try_remove_str", || builder.try_remove_str("ab")).expect("no memory");
+    assert_eq!(builder.build().strings(), ["xy"]);
+    // Building consumes the builder, so each turn first makes a new one.
+    refused_in_turn("CodePointInversionListAndStringListBuilder::try_build", || {
+        let mut builder = CodePointInversionListAndStringListBuilder::new();
+        builder.try_add_set(&whole).ok()?;
+        builder.try_build().ok()
+    });
 }

@@ -126,6 +126,9 @@ fn tries() {
             let lent = CodePointTrie::try_new(header, index.as_zerovec(), values.as_zerovec());
             lent.ok()?.try_into_owned().ok()
         });
+        refused_in_turn("CodePointTrie::try_get_set_where", || {
+            trie.try_get_set_where(|value| value % 3 == 1).ok()
+        });
         refused_in_turn("CodePointTrie::try_get_set_for_value", || {
             trie.try_get_set_for_value(3).ok()
         });

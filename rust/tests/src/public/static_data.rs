@@ -297,6 +297,45 @@ fn a_baked_trie_is_tested() {
     let _ = CodePointTrie::from_parts_unstable_unchecked_v1(HEADER, ZeroVec::new(), ZeroVec::new(), 0u8, 0);
 }
 
+trie_values! {
+    /// Names that differ only loosely, or that the macro uses.
+    #[allow(non_camel_case_types)]
+    enum Alike: u8 {
+        GreekExt = 4,
+        Greek_Ext = 2,
+        Result = 3,
+        Some = 1,
+        ALL = 0,
+    }
+}
+
+/// Each name with its value, as a model.
+const NAMES: [(&str, Alike); 5] = [
+    ("GreekExt", Alike::GreekExt),
+    ("Greek_Ext", Alike::Greek_Ext),
+    ("Result", Alike::Result),
+    ("Some", Alike::Some),
+    ("ALL", Alike::ALL),
+];
+
+#[test]
+fn values_have_names() {
+    const FIRST: &str = Few::Seven.name();
+    assert_eq!((FIRST, Few::ALL), ("Seven", &[Few::Seven, Few::Zero, Few::One, Few::Last][..]));
+    for (name, value) in NAMES {
+        assert_eq!((value.name(), Alike::from_name(name)), (name, Some(value)));
+        assert_eq!(format!("{value:?}"), name);
+    }
+    // Of two names that match loosely the first one is taken.
+    assert_eq!(Alike::from_name("greek ext"), Some(Alike::GreekExt));
+    assert_eq!(Alike::from_name("-RE sult_"), Some(Alike::Result));
+    for name in ["", "Greek", "GreekExtended", "Greek.Ext", "Résult", "Sıome"] {
+        assert_eq!(Alike::from_name(name), None);
+    }
+    assert!(Wide::ALL.iter().all(|it| Wide::from_name(&it.name().to_uppercase()) == Some(*it)));
+    assert_eq!(Widest::ALL.len(), 3);
+}
+
 /// Compares both tests for these units. Returns whether they are a trie.
 fn compare_units<const N: usize>(units: &[u16; N]) -> bool {
     let trie = Char16Trie::new(ZeroVec::alloc_from_slice(units).unwrap());

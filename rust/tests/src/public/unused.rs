@@ -5,6 +5,7 @@ use bekstaudi::char16trie::{Char16Trie, Char16TrieBuilder};
 use bekstaudi::codepointinvlist::{
     CodePointInversionList, CodePointInversionListBuilder, FrozenCodePointSet, RangePoint,
 };
+use bekstaudi::codepointinvliststringlist::CodePointInversionListAndStringListBuilder;
 use bekstaudi::codepointtrie::planes::get_planes_trie;
 use bekstaudi::codepointtrie::{CodePointTrieBuilder, TrieType, text};
 use bekstaudi::zerovec::{PotentialCodePoint, ZeroSlice, ZeroVec};
@@ -64,5 +65,10 @@ fn constructors_only_return_values() {
         units.iter();
         units.entries();
         'a'.number();
+        &set | &set;
+        !&set;
+        trie.get_set_where(|it| it == 1);
+        trie.get_range_mapped(0, |it| it == 1);
+        CodePointInversionListAndStringListBuilder::new();
     }
 }
