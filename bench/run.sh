@@ -4,7 +4,7 @@
 #
 # Usage: bench/run.sh [KERNEL..]     a kernel's name or a prefix of it; all kernels if none is given
 #
-# TABLES=FOLDER adds the tables NAME.txt of a folder to those of tests/data. CODE=FOLDER writes the
+# TABLES=FOLDER adds the tables NAME.txt of a folder to those of data and tests/data. CODE=FOLDER writes the
 # machine code there. PAGE=FILE also writes the summary and the sizes there: bench/results.md is made
 # so. OURS=LIBRARY measures the Rust edition that rust.sh built. EDITION=LIBRARY measures it in turns
 # with the proved build, without the C library, and compares the two.
@@ -51,13 +51,13 @@ else
     libc=$(dirname -- "$(dirname -- "$(readlink -f -- "$(command -v rt)")")")/c/liblibc_c.a
     echo "bench: proves and builds; from a clean clone this takes some minutes" >&2
     with_loops
-    ours=$("$work/copy/tests/build" bench_ours) || stop "the loops in bench/ours are not proved and built"
+    ours=$("$work/copy/tests/compile" bench_ours) || stop "the loops in bench/ours are not proved and built"
     [ -z "$c" ] || "$root/c/build" --proved || stop "the library for C is not built"
     rust=$work/libpeer.a
     rustc --edition 2024 -O -C target-cpu=x86-64-v2 -C panic=abort --crate-type staticlib \
         -C "llvm-args=-x86-branches-within-32B-boundaries -align-loops=32" -o "$rust" "$here/peer/lib.rs"
 fi
-# As tests/lib/aligned_rattle has clang do, and edition.py rustc.
+# As tests/compile has clang do, and edition.py rustc.
 aligned="-falign-loops=32 -Wa,-mbranches-within-32B-boundaries"
 for file in "$here"/driver/*.cpp; do
     case $without/$(basename "$file") in
@@ -75,7 +75,7 @@ fi
 # On some processors a loop takes half as long again at some code addresses, so all code is measured
 # at four offsets. What compilers mark as cold, as look-ups above the fast limit, is placed apart.
 set -- -- "$@"
-for table in "$root"/tests/data/*.runs.txt ${TABLES:+"$TABLES"/*.runs.txt}; do
+for table in "$root"/data/*.runs.txt "$root"/tests/data/*.runs.txt ${TABLES:+"$TABLES"/*.runs.txt}; do
     set -- "${table%.runs.txt}.txt" "$@"
 done
 for shift in 0 16 32 48 ${EDITION:+0 16 32 48}; do

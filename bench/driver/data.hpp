@@ -15,15 +15,14 @@ void read_table(const char *file);
 
 const std::vector<Table> &tables();
 
-// The general category of each code point, by its number: 1 to 30 for Cc Cf Cn Co Cs Ll Lm Lo Lt Lu
-// Mc Me Mn Nd Nl No Pc Pd Pe Pf Pi Po Ps Sc Sk Sm So Zl Zp Zs.
+// The general category of each code point, by the number of ICU's u_charType.
 const std::vector<uint8_t> &categories();
 enum Category {
-    UNASSIGNED = 3,
-    FIRST_LETTER = 6,
-    LAST_LETTER = 10,
-    FIRST_MARK = 11,
-    LAST_MARK = 13
+    UNASSIGNED = 0,
+    FIRST_LETTER = 1,
+    LAST_LETTER = 5,
+    FIRST_MARK = 6,
+    LAST_MARK = 8
 };
 
 struct Text {

@@ -1,6 +1,5 @@
 """What c/build installs and removes, and its end if it is interrupted."""
 import os
-import re
 import shlex
 import shutil
 import signal
@@ -34,28 +33,6 @@ sleep 600
 def version():
     with open(f"{TOP}/VERSION", encoding="utf-8") as file:
         return file.read().strip()
-
-
-def of_one_version(where, pattern):
-    """Whether a file names this version wherever it names one."""
-    with open(f"{TOP}/{where}", encoding="utf-8") as file:
-        found = re.findall(pattern, file.read())
-    good = bool(found) and set(found) == {version()}
-    print(f"{where}: version {version()}" if good else f"{where}: {found} in place of {version()}: FAILED")
-    return good
-
-
-def versions():
-    """The version of the header, of each package and of ucptrie is that of the file VERSION."""
-    yield of_one_version("c/bekstaudi.h", r'#define BKS_VERSION "([^"]*)"')
-    parts = "".join(f"{int(it):02}" for it in version().split(".")).lstrip("0")
-    with open(f"{TOP}/c/bekstaudi.h", encoding="utf-8") as file:
-        found = re.findall(r"#define BKS_VERSION_NUMBER (\d+)", file.read())
-    print(f"BKS_VERSION_NUMBER: {found}")
-    yield found == [parts]
-    yield of_one_version("crates/ucptrie/src/words.rt", r'\bVERSION: &str = "([^"]*)"')
-    for package in ("bekstaudi", "bekstaudi-c", "ucptab", "ucptrie"):
-        yield of_one_version(f"rust/{package}/Cargo.toml", r'(?m)^(?:bekstaudi = \{ )?version = "([^"]*)"')
 
 
 def by_cmake(room, prefix):
@@ -147,7 +124,6 @@ def removing(room, prefix):
 
 def installing(room):
     """c/build with a relative PREFIX with a space, and the files that pkg-config and CMake read."""
-    yield from versions()
     os.makedirs(f"{room}/below", exist_ok=True)
     yield passes("c/build with a relative PREFIX", [*BUILD, "relative one"], cwd=f"{room}/below")
     prefix = f"{room}/below/relative one"

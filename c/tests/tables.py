@@ -6,11 +6,12 @@ import struct
 import subprocess
 
 PARTS = os.path.dirname(os.path.realpath(__file__))
-DATA = f"{os.path.dirname(os.path.dirname(PARTS))}/tests/data"
-# The tables of tests/data, and the types and widths in which tries are built of them.
+TOP = os.path.dirname(os.path.dirname(PARTS))
+DATA = f"{TOP}/tests/data"
+# The tables, and the types and widths in which tries are built of them.
 TABLES = {
-    "general_category": ("fast 8", "small 8", "fast 16", "small 32"),
-    "simple_uppercase": ("small 32", "fast 32"),
+    f"{TOP}/data/general_category": ("fast 8", "small 8", "fast 16", "small 32"),
+    f"{DATA}/simple_uppercase": ("small 32", "fast 32"),
 }
 ALL = (0x110000, 0x110000, -1)
 
@@ -51,8 +52,8 @@ def tries_of_icu(room):
     """Writes the tries that ICU4C builds of the tables in the program icu_tries, and whether it did."""
     for table, kinds in TABLES.items():
         for kind in kinds:
-            path = f"{room}/tries/{table}_{kind.replace(' ', '_')}"
-            shutil.copy(f"{DATA}/{table}.runs.txt", f"{path}.runs.txt")
-            with open(f"{DATA}/{table}.txt", encoding="utf-8") as rows, open(f"{path}.bin", "wb") as trie:
+            path = f"{room}/tries/{os.path.basename(table)}_{kind.replace(' ', '_')}"
+            shutil.copy(f"{table}.runs.txt", f"{path}.runs.txt")
+            with open(f"{table}.txt", encoding="utf-8") as rows, open(f"{path}.bin", "wb") as trie:
                 words = [f"{room}/icu_tries", *kind.split(), "255"]
                 yield subprocess.run(words, stdin=rows, stdout=trie).returncode == 0

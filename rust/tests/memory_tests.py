@@ -17,7 +17,6 @@ import re
 import sys
 
 TOP = os.path.dirname(os.path.dirname(os.path.dirname(os.path.realpath(__file__))))
-sys.path.insert(0, f"{TOP}/tests/lib")
 import public_calls
 from rust_rules import ONLY_PROVED, OTHER_NAMES
 

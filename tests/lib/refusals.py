@@ -2,6 +2,8 @@
 import os
 import re
 
+from edits import edited, pairs_of
+
 # An open statement: its file and line, and its name.
 OPEN = re.compile(
     r"(?:note: )?(\S+?):(\d+):\d+: (?:it is not proved that .*?|.*? is not proved.*?)\(`([^`]+)`\)"
@@ -18,6 +20,8 @@ FUNCTION = re.compile(r"^(?P<own>    )?(?:pub(?:\(.*?\))? )?(?:const )?fn (?P<na
 OPENS = re.compile(r"^\s*(?:.*\bfn .*|\).*)?\{$", re.M)
 # The files whose functions belong to the crate itself, not to a module.
 ROOTS = ("lib", "main")
+# Errors of a text that makes no sense, where an edit that only makes a statement false does.
+UNREAD = re.compile(r"is not in scope|has no field|is no name|operand is missing|expected the end|cannot continue")
 # Errors that only say that a loop has no proof yet.
 LOOP = re.compile(r"^(?:invariant|decreases)-|expected (?:a measure|an invariant)")
 
@@ -71,31 +75,35 @@ def is_in_body(text):
 
 def changed(crate, edit):
     """The functions that an edit changes, and whether it changes only their bodies."""
-    path, found, bodies = "", {}, True
-    for line in open(edit, encoding="utf-8"):
-        kind, _, text = line.rstrip("\n").partition(": ")
-        if kind == "file":
-            path = text.strip()
-            whole = open(f"{crate.folder}/{path}", encoding="utf-8").read()
-        elif kind == "old":
-            before = whole[: whole.index(text) + len(text)]
-            found[last_function(path, before)] = None
-            bodies = bodies and is_in_body(before) and not re.search(r"\bfn ", text)
+    found, bodies = {}, True
+    for path, old, _ in pairs_of(edit):
+        with open(f"{crate.folder}/{path}", encoding="utf-8") as file:
+            whole = file.read()
+        before = whole[: whole.find(old) + len(old)]
+        found[last_function(path, before)] = None
+        bodies = bodies and is_in_body(before) and not re.search(r"\bfn ", old)
     return list(found), bodies
 
 
-def together(rt, crate, edits):
-    """The edits in lists that can each be tried in one check: they change only bodies, and those of
+def together(crate, edits):
+    """The edits in parts that can each be tried in one check: they change only bodies, and those of
     different functions."""
-    lists, lone = [], []
-    for edit in edits:
+    parts, lone = [], []
+    for name, edit in edits.items():
         functions, bodies = changed(crate, edit)
-        for taken, some in lists if bodies else []:
-            text = "".join(open(it, encoding="utf-8").read() for it in [*some, edit])
-            if not taken & set(functions) and rt.edited(text, crate.folder)[0]:
+        for taken, some in parts if bodies else []:
+            if not taken & set(functions) and not edited("".join([*some.values(), edit]), crate.folder)[1]:
                 taken.update(functions)
-                some.append(edit)
+                some[name] = edit
                 break
         else:
-            (lists if bodies else lone).append((set(functions), [edit]))
-    return [some for _, some in [*lists, *lone]]
+            (parts if bodies else lone).append((set(functions), {name: edit}))
+    return [some for _, some in [*parts, *lone]]
+
+
+def unread(line, changed_files):
+    """Whether a line of a check says that a text of src/, specs/ or a changed file cannot be read."""
+    at = re.match(r"(?:\./)?(\S+?):\d+:\d+: error: (?:(`[^`]*`): )?(.*)", line)
+    if not at or at[1] not in changed_files and not at[1].startswith(("src/", "specs/")):
+        return False
+    return not at[2] or bool(UNREAD.search(re.sub(r"`[^`]*`", "", at[3])))

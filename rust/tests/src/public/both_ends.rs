@@ -1,5 +1,5 @@
 //! Iterators from both ends, and how many items they say are left: over the sets and the ranges of
-//! the tables in `tests/data`, over random sets at the edges, and over texts.
+//! two tables of Unicode, over random sets at the edges, and over texts.
 
 #[path = "random/mod.rs"]
 mod random;
@@ -59,10 +59,10 @@ fn is_whole_set(set: &CodePointInversionList<'_>) {
     assert_eq!(set.iter_ranges_complemented().len(), set.iter_ranges_complemented().count());
 }
 
-/// The trie of a table in `tests/data`.
+/// The trie of a table.
 fn table(name: &str) -> CodePointTrie<'static, u32> {
     let top = std::env::var("REPOSITORY").expect("no REPOSITORY");
-    let rows = std::fs::read_to_string(format!("{top}/tests/data/{name}.txt")).expect("no table");
+    let rows = std::fs::read_to_string(format!("{top}/{name}.txt")).expect("no table");
     let mut builder = CodePointTrieBuilder::new(0, u32::MAX, TrieType::Fast);
     for row in rows.lines() {
         let (range, value) = row.split_once(';').expect("no value");
@@ -76,12 +76,12 @@ fn table(name: &str) -> CodePointTrie<'static, u32> {
 
 #[test]
 fn sets_of_tables() {
-    let categories = table("general_category");
+    let categories = table("data/general_category");
     for value in 0..32 {
         is_whole_set(&categories.get_set_for_value(value));
         counts(categories.iter_ranges_for_value(value));
     }
-    for trie in [&categories, &table("simple_uppercase")] {
+    for trie in [&categories, &table("tests/data/simple_uppercase")] {
         counts(trie.iter_ranges());
         counts(trie.iter_ranges_mapped(|it| it % 2));
     }
@@ -107,7 +107,7 @@ fn sets_at_the_edges() {
 
 #[test]
 fn values_of_texts() {
-    let trie = table("general_category");
+    let trie = table("data/general_category");
     let letters = FrozenCodePointSet::freeze(&trie.get_set_for_value(1));
     let characters = ['a', 'Z', '\u{E9}', '\u{FFFD}', '\u{D7FF}', '\u{1F600}', '\u{10FFFF}'];
     let units = [0x61, 0xD7FF, 0xD800, 0xDBFF, 0xDC00, 0xDFFF, 0xE000];
