@@ -9,7 +9,7 @@ unfoldable pub use Rattle.icu_trie_builder.specs.Bounds.{stands_below}
 -- Blocks of a map, and how many are different.
 pub use Rattle.icu_trie_core.specs.Blocks.{window}
 unfoldable pub use Rattle.icu_trie_core.specs.Blocks.{block_of, count_different}
-unfoldable pub use Rattle.icu_trie_compaction.specs.Different.{count_different_but}
+unfoldable pub use Rattle.icu_trie_builder.specs.Different.{count_different_but}
 pub use Rattle.icu_trie_builder.specs.NullBlock.{HoldsOne, SomeHoldsOne}
 unfoldable pub use Rattle.icu_trie_builder.specs.NullBlock.{HasDefaultNull, NamesNoNull}
 unfoldable pub use Rattle.icu_trie_builder.specs.NullBlock.{NamesNull, NamesNullIndex}

@@ -10,7 +10,7 @@ use Rattle.icu_trie_core.specs.ValueNumbers.{type_number}
 use Rattle.icu_trie_core.specs.declared.header.TrieType.{TrieType}
 use Rattle.icu_trie_core.specs.declared.header.TrieType.TheVariants.{Fast, Small}
 use Rattle.icu_trie_binary.specs.WrittenTrie.{padding, written_length}
-use Rattle.icu_trie_compaction.proofs.CallerLemmas.{count_different-le_count}
+use Rattle.icu_trie_builder.proofs.CallerLemmas.{count_different-le_count}
 use Rattle.icu_trie_builder.proofs.CallerLemmas.{count_different-few}
 use Rattle.icu_trie_builder.specs.Bounds.{data_bound, index_bound}
 use Rattle.icu_trie_builder.specs.Built.{IsWellBuilt}

@@ -18,8 +18,8 @@ use Rattle.icu_trie_core.specs.declared.header.TrieType.TheVariants.{Fast, Small
 use Rattle.icu_trie_binary.specs.WrittenTrie.{stored_form, why_not_written}
 use Rattle.icu_trie_binary.specs.declared.error.WriteError.{WriteError}
 use Rattle.icu_trie_binary.specs.declared.error.WriteError.TheVariants as write
-use Rattle.icu_trie_compaction.specs.declared.error.BuildError.{BuildError}
-use Rattle.icu_trie_compaction.specs.declared.error.BuildError.TheVariants as build
+use Rattle.icu_trie_builder.specs.declared.error.BuildError.{BuildError}
+use Rattle.icu_trie_builder.specs.declared.error.BuildError.TheVariants as build
 use Rattle.icu_trie_binary.proofs.CallerLemmas.{answers-stored}
 use Rattle.icu_trie_builder.specs.Bounds.{IsTooLarge}
 use Rattle.icu_trie_builder.specs.Built.{IsWellBuilt}

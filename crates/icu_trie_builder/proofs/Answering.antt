@@ -14,10 +14,12 @@ use Rattle.icu_trie_core.specs.Format.{answer, fast_limit, high_value}
 use Rattle.icu_trie_core.specs.FastIndex.{fast_index_len, passes_data}
 use Rattle.icu_trie_core.specs.Coherence.{IsCoherent, IsShared, SameAnswers}
 use Rattle.icu_trie_core.proofs.CallerLemmas.{fast_answer, small_answer}
-use Rattle.icu_trie_compaction.specs.Layout.{AllBelow, IsIndex, IsNullIndex}
+use Rattle.icu_trie_builder.specs.Inside.Index.Layout.{AllBelow, IsIndex, IsNullIndex}
 use Rattle.icu_trie_builder.specs.Inside.Data.{IsData, SameNumbers}
 use Rattle.icu_trie_builder.specs.NullBlock.{NamesNoNull, NamesNull, NamesNullIndex}
-use Rattle.icu_trie_compaction.proofs.CallerLemmas.{count_different-by, count_different-within, parts, length-window, window-read}
+use Rattle.icu_trie_builder.proofs.CompactionLemmas.Different.{count_different-by, count_different-within}
+use Rattle.icu_trie_builder.proofs.CompactionLemmas.Windows.{length-window, window-read}
+use Rattle.icu_trie_builder.proofs.IndexLemmas.Laying.{parts}
 
 some-injective : (x y : ℕ) → Some x ≡ Some y → x ≡ y
 some-injective x y e = ap (λ o. unwrap_or o x) e

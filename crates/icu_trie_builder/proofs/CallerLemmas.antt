@@ -21,6 +21,8 @@ use Rattle.icu_trie_builder.specs.declared.writes.Write.{Write}
 pub use Rattle.icu_trie_builder.proofs.AfterLemmas.{IsAfter-append, value_after-append}
 -- How many distinct blocks of one length there are after few writes.
 pub use Rattle.icu_trie_builder.proofs.FewWrites.{count_different-few}
+-- The number of distinct blocks is at most the number of blocks.
+pub use Rattle.icu_trie_builder.proofs.CompactionLemmas.Different.{count_different-le_count}
 -- The results of look-ups and walks over the cells of a trie of a map.
 pub use Rattle.icu_trie_builder.proofs.RangesOfMap.{answer-of-map, longest_of_map, no_answer-of-map}
 -- If the header of a trie of a map names no block of the data, no block of 512 is named as null.

@@ -10,13 +10,16 @@ use Rattle.icu_trie_core.specs.Blocks.{window, block, count_different}
 use Rattle.icu_trie_core.specs.Format.{fast_limit, high_value}
 use Rattle.icu_trie.specs.Parts.{last_cell}
 use Rattle.icu_trie_builder.specs.Inside.Data.{IsData, SameNumbers}
-use Rattle.icu_trie_map.specs.NumberMap.{IsHighFrom}
+use Rattle.icu_trie_builder.specs.Inside.Map.NumberMap.{IsHighFrom}
 use Rattle.icu_trie_builder.specs.NullBlock.{HoldsOne, SomeHoldsOne}
 use Rattle.icu_trie_builder.specs.Inside.FilledBlocks.{IsMoved, IsNull, HasNoNull}
-use Rattle.icu_trie_compaction.specs.Layout.{AllBelow}
-use Rattle.icu_trie_builder.specs.declared.null_block.NullBlock.{NullBlock}
-use Rattle.icu_trie_compaction.specs.Placed.{IsPlaced, IsCopied}
-use Rattle.icu_trie_compaction.proofs.CallerLemmas.{parts, cell_there, length-window, window-read, count_different-le_count}
+use Rattle.icu_trie_builder.specs.Inside.Index.Layout.{AllBelow}
+use Rattle.icu_trie_builder.specs.declared.data.null_block.NullBlock.{NullBlock}
+use Rattle.icu_trie_builder.specs.Inside.Compaction.Placed.{IsPlaced, IsCopied}
+use Rattle.icu_trie_builder.proofs.CompactionLemmas.Different.{count_different-le_count}
+use Rattle.icu_trie_builder.proofs.CompactionLemmas.Windows.{length-window, window-read}
+use Rattle.icu_trie_builder.proofs.IndexLemmas.Growing.{cell_there}
+use Rattle.icu_trie_builder.proofs.IndexLemmas.Laying.{parts}
 use Rattle.icu_trie_builder.proofs.NullLemmas.{window-kept}
 
 -- The last cell but one is the high value.

@@ -15,7 +15,8 @@ use Rattle.icu_trie_builder.specs.declared.writes.Write.{Write}
 use Rattle.icu_trie_builder.specs.Bounds.{IsTooLarge}
 use Rattle.icu_trie_builder.specs.Writes.{write_first, write_last, write_value, is_accepted, covers, last_written, value_after}
 use Rattle.icu_trie_builder.proofs.AfterLemmas.{unwrap_or-option_or}
-use Rattle.icu_trie_compaction.proofs.CallerLemmas.{distinct_count-mono, list_laws, list_decides, times-below}
+use Rattle.icu_trie_builder.proofs.CompactionLemmas.Counts.{distinct_count-mono}
+use Rattle.icu_trie_builder.proofs.CompactionLemmas.Windows.{list_laws, list_decides, times-below}
 
 -- p is an element of the list.
 abbrev Has : {A : Type 0} → List A → A → Type 0

@@ -1,4 +1,7 @@
 pub mod CallerLemmas
+mod MapLemmas
+pub mod CompactionLemmas
+pub mod IndexLemmas
 pub mod NullLemmas
 mod NoNullBlock
 mod SharedLemmas

@@ -4,7 +4,8 @@ use Rattle.std.proofs.lemmas.Bool.{cases_eq}
 use Rattle.std.proofs.lemmas.List.{same_lists, get_or_default, length-take}
 use Rattle.icu_trie_core.specs.Blocks.{window}
 use Rattle.icu_trie_builder.specs.Inside.FilledBlocks.{IsApart, IsFilled, IsMoved, IsNull}
-use Rattle.icu_trie_compaction.proofs.CallerLemmas.{length-window, window-read, window-append, append-kept}
+use Rattle.icu_trie_builder.proofs.CompactionLemmas.TableLemmas.{append-kept}
+use Rattle.icu_trie_builder.proofs.CompactionLemmas.Windows.{length-window, window-read, window-append}
 
 -- Windows of the same number throughout are equal.
 pub filled-windows : (k a b v : ℕ) (xs ys : List ℕ) → IsFilled v k a xs → IsFilled v k b ys → a + k ≤ length xs → b + k ≤ length ys

@@ -12,7 +12,7 @@ use Rattle.icu_trie_core.specs.declared.header.CodePointTrieHeader.{CodePointTri
 use Rattle.icu_trie_core.specs.Format.{fast_limit, fast_offset, small_offset}
 use Rattle.icu_trie_core.specs.Blocks.{block_of, count_different}
 use Rattle.icu_trie_builder.specs.Bounds.{data_bound, compact_data_bound, index_bound, short_index_bound, fast_blocks, small_blocks, lone_small_blocks, index_blocks, stands_in, stands_below, IsTooLarge}
-use Rattle.icu_trie_compaction.specs.Different.{count_different_but}
+use Rattle.icu_trie_builder.specs.Different.{count_different_but}
 use Rattle.icu_trie_builder.specs.NullBlock.{HasDefaultNull, HoldsOne, NamesNoNull, NamesNull, SomeHoldsOne}
 
 -- Functions that are equal on a range give the same list there.

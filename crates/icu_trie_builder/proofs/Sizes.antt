@@ -11,9 +11,12 @@ use Rattle.icu_trie_core.specs.declared.header.TrieType.{TrieType}
 use Rattle.icu_trie_core.specs.Blocks.{window, block, block_of, count_different}
 use Rattle.icu_trie_core.specs.Format.{fast_limit}
 use Rattle.icu_trie_builder.specs.Bounds.{fast_blocks, small_blocks, lone_small_blocks, stands_in, stands_below}
-use Rattle.icu_trie_compaction.specs.Different.{count_different_but}
-use Rattle.icu_trie_compaction.specs.Placed.{AllStandIn, IsCopied}
-use Rattle.icu_trie_compaction.proofs.CallerLemmas.{count_different_but-within, count_different_but-le, block-block_of, count_different-within, parts, list_decides, length-window, window-window}
+use Rattle.icu_trie_builder.specs.Different.{count_different_but}
+use Rattle.icu_trie_builder.specs.Inside.Compaction.Placed.{AllStandIn, IsCopied}
+use Rattle.icu_trie_builder.proofs.CompactionLemmas.Compacting.{count_different_but-within, count_different_but-le}
+use Rattle.icu_trie_builder.proofs.CompactionLemmas.Different.{block-block_of, count_different-within}
+use Rattle.icu_trie_builder.proofs.CompactionLemmas.Windows.{list_decides, length-window, window-window}
+use Rattle.icu_trie_builder.proofs.IndexLemmas.Laying.{parts}
 
 -- There are at most as many lone small blocks as small blocks.
 pub lone_blocks-le : (trie_type : TrieType) (f : ℕ → ℕ) → lone_small_blocks trie_type f ≤ small_blocks trie_type f

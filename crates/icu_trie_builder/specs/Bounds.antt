@@ -6,7 +6,7 @@ use Rattle.std.specs.Cmp.Lexicographic.{pointwise}
 use Rattle.icu_trie_core.specs.declared.header.TrieType.{TrieType}
 use Rattle.icu_trie_core.specs.Blocks.{window, block_of, count_different}
 use Rattle.icu_trie_core.specs.Format.{fast_limit}
-use Rattle.icu_trie_compaction.specs.Different.{count_different_but}
+use Rattle.icu_trie_builder.specs.Different.{count_different_but}
 
 -- The number of distinct fast blocks: aligned blocks of 64 below the fast limit.
 abbrev pub fast_blocks : TrieType → (ℕ → ℕ) → ℕ

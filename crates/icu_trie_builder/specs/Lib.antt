@@ -1,5 +1,6 @@
 pub mod Writes
 pub mod CodePointMap
+pub mod Different
 pub mod Bounds
 pub mod NullBlock
 pub mod Built

@@ -8,17 +8,17 @@ ghost use Rattle.icu_trie_builder.specs.CodePointMap.{map_value, IsBuilder};
 ghost use Rattle.icu_trie_builder.specs.Inside.ValuesOfNumbers.{number_value, AreValuesOf};
 ghost use Rattle.icu_trie_builder.specs.Built.{IsBuiltFrom};
 ghost use Rattle.icu_trie_builder.specs.Writes.{is_accepted, value_after};
-ghost use Rattle.icu_trie_compaction.specs.declared.error.BuildError.TheVariants.{TooLarge};
+ghost use Rattle.icu_trie_builder.specs.declared.error.BuildError.TheVariants.{TooLarge};
 
 use crate::builder::CodePointTrieBuilder;
 use crate::error::BuildError;
+use crate::map::number_map::NumberMap;
 use crate::number_trie::{NumberTrie, build_numbers};
 use crate::writes::Write;
 use icu_trie::cptrie::CodePointTrie;
 use icu_trie::error::PartsError;
 use icu_trie::header::TrieType;
 use icu_trie::value::TrieValue;
-use icu_trie_map::number_map::NumberMap;
 use std::alloc::{AllocError, Global};
 
 /// Returns the value of each number. Each must be the number of a value.

@@ -3,10 +3,10 @@ ghost use Rattle.std.specs.Prelude.{◌≡◌, ℕ, ◌<◌, ◌≤◌, [], ◌�
 ghost use Rattle.icu_trie_builder.specs.Writes.{is_accepted};
 ghost use Rattle.icu_trie_builder.specs.CodePointMap.{map_value, IsAfter};
 
+use crate::map::number_map::NumberMap;
 use crate::writes::{ApplyRefused, Write};
 use icu_trie::header::TrieType;
 use icu_trie::value::TrieValue;
-use icu_trie_map::number_map::NumberMap;
 use icu_zerovec::{CODE_POINT_LIMIT, MemoryError};
 use std::alloc::Global;
 use std::marker::Model;

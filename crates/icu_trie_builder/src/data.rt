@@ -1,5 +1,10 @@
 //! The data of a trie: the first 128 cells, the distinct blocks of 64 and of 16, the high value and
 //! the error value.
+//!
+//! - `map_blocks`: places the blocks of the map
+//! - `filled_blocks`: shares blocks of 16 with a block of 64 if both have one number throughout
+//! - `null_block`: the null block, which a walk knows by its offset; `used_numbers` suggests a
+//!   frequent number for it
 ghost use Rattle.std.specs.Prelude.{◌≡◌, ℕ, ◌+◌, ◌-◌, ◌*◌, ◌/◌, ◌%◌, ◌^◌, ◌<◌, ◌≤◌, ◌∷◌, Bool, true, length, slice_index, take, Some, IfOk, OnOk, MatchOption};
 ghost use Rattle.std.specs.List.{AllPass};
 ghost use Rattle.icu_zerovec.specs.CodePoints.{code_point_limit};
@@ -8,16 +13,22 @@ ghost use Rattle.icu_trie.specs.Parts.{last_cell};
 ghost use Rattle.icu_trie_builder.specs.Bounds.{compact_data_bound, IsTooLarge};
 ghost use Rattle.icu_trie_builder.specs.Inside.Data.{IsData};
 ghost use Rattle.icu_trie_builder.specs.NullBlock.{SomeHoldsOne};
-ghost use Rattle.icu_trie_map.specs.NumberMap.{IsHighFrom};
-ghost use Rattle.icu_trie_compaction.specs.declared.error.BuildError.TheVariants.{TooLarge};
+ghost use Rattle.icu_trie_builder.specs.Inside.Map.NumberMap.{IsHighFrom};
+ghost use Rattle.icu_trie_builder.specs.declared.error.BuildError.TheVariants.{TooLarge};
 
+use crate::data::map_blocks::{MAX_DATA_OFFSET, MapBlocks};
+use crate::data::null_block::{NullBlock, place_null};
 use crate::error::BuildError;
 use crate::lengths::{FAST_BLOCK, SMALL_BLOCK};
-use crate::map_blocks::{MAX_DATA_OFFSET, MapBlocks};
-use crate::null_block::{NullBlock, place_null};
 use icu_trie::header::TrieType;
-use icu_trie_compaction::cell_store::CellStore;
-use icu_trie_map::number_map::NumberMap;
+
+mod filled_blocks;
+mod map_blocks;
+mod null_block;
+mod used_numbers;
+
+use crate::compaction::cell_store::CellStore;
+use crate::map::number_map::NumberMap;
 use icu_zerovec::CODE_POINT_LIMIT;
 use std::alloc::{AllocError, Global};
 

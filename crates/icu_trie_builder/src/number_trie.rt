@@ -4,13 +4,13 @@ ghost use Rattle.std.specs.List.{AllPass};
 ghost use Rattle.icu_trie_builder.specs.Bounds.{IsTooLarge};
 ghost use Rattle.icu_trie_builder.specs.Inside.NumberTrie.{IsNumberTrie};
 ghost use Rattle.icu_trie_builder.specs.NullBlock.{HasDefaultNull};
-ghost use Rattle.icu_trie_compaction.specs.declared.error.BuildError.TheVariants.{TooLarge};
+ghost use Rattle.icu_trie_builder.specs.declared.error.BuildError.TheVariants.{TooLarge};
 
 use crate::data::{PlacedData, place_data};
 use crate::error::BuildError;
+use crate::index::build_index;
+use crate::map::number_map::NumberMap;
 use icu_trie::header::{CodePointTrieHeader, TrieType};
-use icu_trie_compaction::index::build_index;
-use icu_trie_map::number_map::NumberMap;
 use std::alloc::Global;
 
 /// The parts of a trie whose values are numbers.

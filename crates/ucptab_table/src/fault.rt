@@ -90,7 +90,7 @@ impl fmt::Display for TableError {
 impl Error for TableError {}
 
 impl From<BuildError> for TableError {
-    ghost use Rattle.icu_trie_compaction.specs.declared.error.BuildError.TheVariants.{TooLarge as BuildTooLarge};
+    ghost use Rattle.icu_trie_builder.specs.declared.error.BuildError.TheVariants.{TooLarge as BuildTooLarge};
 
     ghost from_gives = { λ from e. (e ≡ TooLarge → from ≡ BuildTooLarge)
         × ((e ≡ TooLarge) ⊎ (e ≡ Memory)) };

@@ -1,8 +1,8 @@
 -- The table of rows, from that of their writes.
 use Rattle.std.proofs.Common.{◌≡◌, ◌⊎◌, ℕ, List, Result, Ok, Err, inl, inr}
 use Rattle.std.specs.Prelude.{IfErr, IsErrAnd}
-use Rattle.icu_trie_compaction.specs.declared.error.BuildError.{BuildError}
-use Rattle.icu_trie_compaction.specs.declared.error.BuildError.TheVariants.{TooLarge as BuildTooLarge}
+use Rattle.icu_trie_builder.specs.declared.error.BuildError.{BuildError}
+use Rattle.icu_trie_builder.specs.declared.error.BuildError.TheVariants.{TooLarge as BuildTooLarge}
 use Rattle.icu_trie_builder.specs.declared.writes.Write.{Write}
 use Rattle.ucptab_table.specs.TableText.{AreRows}
 use Rattle.ucptab_table.specs.declared.fault.TableError.TheVariants.{Row, TooLarge, Memory, Read, Write as WriteFault}

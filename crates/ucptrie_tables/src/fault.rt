@@ -41,7 +41,7 @@ impl From<TableError> for BuildFault {
 }
 
 impl From<BuildError> for BuildFault {
-    ghost use Rattle.icu_trie_compaction.specs.declared.error.BuildError.TheVariants.{TooLarge as BuildTooLarge};
+    ghost use Rattle.icu_trie_builder.specs.declared.error.BuildError.TheVariants.{TooLarge as BuildTooLarge};
     ghost use Rattle.ucptab_table.specs.declared.fault.TableError.TheVariants.{TooLarge, Memory};
     ghost use Rattle.ucptrie_tables.specs.declared.fault.BuildFault.TheVariants.{Table};
 

@@ -200,6 +200,5 @@ generated! {
     icu_trie_formats icu_trie_binary icu_trie_text
 }
 generated_with_alloc! {
-    icu_text_sets icu_frozen_sets icu_char16trie_builder icu_trie_map icu_trie_compaction
-    icu_trie_builder
+    icu_text_sets icu_frozen_sets icu_char16trie_builder icu_trie_builder
 }

@@ -157,17 +157,11 @@ mod icu_trie_binary;
 #[path = "../../bekstaudi/src/icu_trie_builder/mod.rs"]
 mod icu_trie_builder;
 #[forbid(unsafe_code)]
-#[path = "../../bekstaudi/src/icu_trie_compaction/mod.rs"]
-mod icu_trie_compaction;
-#[forbid(unsafe_code)]
 #[path = "../../bekstaudi/src/icu_trie_core/mod.rs"]
 mod icu_trie_core;
 #[forbid(unsafe_code)]
 #[path = "../../bekstaudi/src/icu_trie_formats/mod.rs"]
 mod icu_trie_formats;
-#[forbid(unsafe_code)]
-#[path = "../../bekstaudi/src/icu_trie_map/mod.rs"]
-mod icu_trie_map;
 #[forbid(unsafe_code)]
 #[path = "../../bekstaudi/src/icu_trie_text/mod.rs"]
 mod icu_trie_text;

@@ -8,8 +8,8 @@ use Rattle.icu_trie_binary.specs.BinaryTrie.{IsStored}
 use Rattle.icu_trie_binary.specs.WrittenTrie.{why_not_written}
 use Rattle.icu_trie_binary.specs.declared.error.WriteError.{WriteError}
 use Rattle.icu_trie_binary.specs.declared.error.WriteError.TheVariants as write
-use Rattle.icu_trie_compaction.specs.declared.error.BuildError.{BuildError}
-use Rattle.icu_trie_compaction.specs.declared.error.BuildError.TheVariants.{TooLarge, Memory}
+use Rattle.icu_trie_builder.specs.declared.error.BuildError.{BuildError}
+use Rattle.icu_trie_builder.specs.declared.error.BuildError.TheVariants.{TooLarge, Memory}
 use Rattle.icu_trie_builder.specs.Bounds.{IsTooLarge}
 use Rattle.icu_trie_builder.specs.Built.{IsWellBuilt}
 use Rattle.icu_trie_builder.specs.Writes.{write_first, write_last, write_value}

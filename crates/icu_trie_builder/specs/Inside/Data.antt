@@ -3,7 +3,7 @@ use Rattle.std.specs.Prelude.{◌≡◌, ℕ, ◌+◌, ◌-◌, ◌*◌, ◌/◌
 use Rattle.icu_zerovec.specs.CodePoints.{code_point_limit}
 use Rattle.icu_trie_core.specs.declared.header.TrieType.{TrieType}
 use Rattle.icu_trie_core.specs.Format.{fast_limit, high_value}
-use Rattle.icu_trie_compaction.specs.Layout.{AllBelow}
+use Rattle.icu_trie_builder.specs.Inside.Index.Layout.{AllBelow}
 use Rattle.icu_trie_builder.specs.NullBlock.{SomeHoldsOne}
 use Rattle.icu_trie_builder.specs.Inside.FilledBlocks.{LieIn}
 

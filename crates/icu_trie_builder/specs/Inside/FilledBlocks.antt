@@ -1,8 +1,8 @@
 -- Blocks of data that have one number throughout, and the search for the null block.
 use Rattle.std.specs.Prelude.{◌≡◌, ◌≢◌, ℕ, ◌+◌, ◌<◌, ◌≤◌, ◌⊎◌, List, length, slice_index}
 use Rattle.icu_trie_core.specs.Blocks.{window}
-use Rattle.icu_trie_builder.specs.declared.null_block.FilledBlock.{FilledBlock}
-use Rattle.icu_trie_builder.specs.declared.null_block.FilledBlock.TheVariants.{Fast, Small}
+use Rattle.icu_trie_builder.specs.declared.data.null_block.FilledBlock.{FilledBlock}
+use Rattle.icu_trie_builder.specs.declared.data.null_block.FilledBlock.TheVariants.{Fast, Small}
 
 -- The k cells from each of these offsets on exist.
 abbrev pub LieIn : ℕ → List ℕ → List ℕ → Type 0

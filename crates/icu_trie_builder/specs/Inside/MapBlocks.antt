@@ -2,7 +2,7 @@
 use Rattle.std.specs.Prelude.{◌≡◌, ℕ, ◌*◌, ◌%◌, ◌<◌, ◌≤◌, List, length}
 use Rattle.icu_zerovec.specs.CodePoints.{code_point_limit}
 use Rattle.icu_trie_core.specs.Blocks.{block}
-use Rattle.icu_trie_builder.specs.declared.map_blocks.MapBlocks.{MapBlocks}
+use Rattle.icu_trie_builder.specs.declared.data.map_blocks.MapBlocks.{MapBlocks}
 
 -- The numbers of block number i.
 abbrev pub numbers_of : MapBlocks → ℕ → List ℕ

@@ -7,9 +7,9 @@ use crate::icu_trie::header::TrieType;
 use crate::icu_trie::value::TrieValue;
 use crate::icu_trie_builder::builder::CodePointTrieBuilder;
 use crate::icu_trie_builder::error::BuildError;
+use crate::icu_trie_builder::map::number_map::NumberMap;
 use crate::icu_trie_builder::number_trie::{NumberTrie, build_numbers};
 use crate::icu_trie_builder::writes::Write;
-use crate::icu_trie_map::number_map::NumberMap;
 use crate::support::AllocError;
 use crate::support::prelude::*;
 

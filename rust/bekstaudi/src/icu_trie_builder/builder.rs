@@ -2,8 +2,8 @@
 
 use crate::icu_trie::header::TrieType;
 use crate::icu_trie::value::TrieValue;
+use crate::icu_trie_builder::map::number_map::NumberMap;
 use crate::icu_trie_builder::writes::{ApplyRefused, Write};
-use crate::icu_trie_map::number_map::NumberMap;
 use crate::icu_zerovec::{CODE_POINT_LIMIT, MemoryError};
 use crate::support::prelude::*;
 use core::ops::RangeInclusive;

@@ -1,16 +1,27 @@
 //! The data of a trie: the first 128 cells, the distinct blocks of 64 and of 16, the high value and
 //! the error value.
+//!
+//! - `map_blocks`: places the blocks of the map
+//! - `filled_blocks`: shares blocks of 16 with a block of 64 if both have one number throughout
+//! - `null_block`: the null block, which a walk knows by its offset; `used_numbers` suggests a
+//!   frequent number for it
 
 use crate::icu_trie::header::TrieType;
+use crate::icu_trie_builder::data::map_blocks::{MAX_DATA_OFFSET, MapBlocks};
+use crate::icu_trie_builder::data::null_block::{NullBlock, place_null};
 use crate::icu_trie_builder::error::BuildError;
 use crate::icu_trie_builder::lengths::{FAST_BLOCK, SMALL_BLOCK};
-use crate::icu_trie_builder::map_blocks::{MAX_DATA_OFFSET, MapBlocks};
-use crate::icu_trie_builder::null_block::{NullBlock, place_null};
-use crate::icu_trie_compaction::cell_store::CellStore;
-use crate::icu_trie_map::number_map::NumberMap;
+use crate::support::prelude::*;
+
+mod filled_blocks;
+mod map_blocks;
+mod null_block;
+mod used_numbers;
+
+use crate::icu_trie_builder::compaction::cell_store::CellStore;
+use crate::icu_trie_builder::map::number_map::NumberMap;
 use crate::icu_zerovec::CODE_POINT_LIMIT;
 use crate::support::AllocError;
-use crate::support::prelude::*;
 
 /// The data offset that stands for "no null block". No block can have it.
 const NO_DATA_NULL_OFFSET: u32 = 0xfffff;

@@ -3,8 +3,8 @@
 use crate::icu_trie::header::{CodePointTrieHeader, TrieType};
 use crate::icu_trie_builder::data::{PlacedData, place_data};
 use crate::icu_trie_builder::error::BuildError;
-use crate::icu_trie_compaction::index::build_index;
-use crate::icu_trie_map::number_map::NumberMap;
+use crate::icu_trie_builder::index::build_index;
+use crate::icu_trie_builder::map::number_map::NumberMap;
 use crate::support::prelude::*;
 
 /// The parts of a trie whose values are numbers.

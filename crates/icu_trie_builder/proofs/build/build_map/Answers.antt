@@ -1,6 +1,6 @@
 use Rattle.std.proofs.Common.{◌≡◌, ℕ, ◌<◌, slice_index, Err, true, refl, rules, ap}
 use Rattle.std.specs.Prelude.{is_some}
-use Rattle.icu_trie_compaction.specs.declared.error.BuildError.TheVariants.{TooLarge}
+use Rattle.icu_trie_builder.specs.declared.error.BuildError.TheVariants.{TooLarge}
 use Rattle.icu_trie_builder.specs.Inside.ValuesOfNumbers.{number_value, AreValuesOf}
 use Rattle.icu_trie_builder.specs.Built.{IsBuiltFrom}
 use Rattle.icu_trie_builder.proofs.BuilderLemmas.{all_numbers, number-of_value, IfOk-three}

@@ -6,12 +6,13 @@ use Rattle.icu_trie_core.specs.Format.{fast_limit}
 use Rattle.icu_trie_builder.specs.Bounds.{stands_below}
 use Rattle.icu_trie_builder.specs.Inside.Data.{IsData}
 use Rattle.icu_trie_builder.specs.Inside.FilledBlocks.{IsMoved, IsNull}
-use Rattle.icu_trie_compaction.specs.Layout.{AllBelow}
-use Rattle.icu_trie_compaction.specs.Different.{count_different_but}
-use Rattle.icu_trie_compaction.specs.Placed.{IsCopied, IsPlaced}
-use Rattle.icu_trie_compaction.specs.declared.error.BuildError.TheVariants.{TooLarge}
+use Rattle.icu_trie_builder.specs.Inside.Index.Layout.{AllBelow}
+use Rattle.icu_trie_builder.specs.Different.{count_different_but}
+use Rattle.icu_trie_builder.specs.Inside.Compaction.Placed.{IsCopied, IsPlaced}
+use Rattle.icu_trie_builder.specs.declared.error.BuildError.TheVariants.{TooLarge}
 use Rattle.icu_trie_builder.proofs.DataLemmas.{fast_len, fast_one, fast_two, fast_three, small_three, fast_shared, small_shared, first_len, fast_cells, offsets_low, two-drawn, null-cases, null-number, NullOrNone, is_data, written-back}
-use Rattle.icu_trie_compaction.proofs.CallerLemmas.{count_different-le_count, parts}
+use Rattle.icu_trie_builder.proofs.CompactionLemmas.Different.{count_different-le_count}
+use Rattle.icu_trie_builder.proofs.IndexLemmas.Laying.{parts}
 use Rattle.icu_trie_builder.proofs.Sizes.{fast_blocks-list, stands-found, lone_blocks-list, small_blocks-all}
 use Rattle.icu_trie_builder.proofs.data.place_data.Goals as goal
 

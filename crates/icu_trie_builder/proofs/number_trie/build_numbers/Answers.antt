@@ -3,10 +3,10 @@ use Rattle.icu_trie_core.specs.declared.header.CodePointTrieHeader.{CodePointTri
 use Rattle.icu_trie_builder.specs.Bounds.{compact_data_bound}
 use Rattle.icu_trie_builder.specs.Inside.Data.{IsData}
 use Rattle.icu_trie_builder.specs.NullBlock.{HasDefaultNull}
-use Rattle.icu_trie_compaction.specs.Layout.{IsIndex, IsNullIndex}
-use Rattle.icu_trie_compaction.specs.declared.error.BuildError.TheVariants.{TooLarge}
+use Rattle.icu_trie_builder.specs.Inside.Index.Layout.{IsIndex, IsNullIndex}
+use Rattle.icu_trie_builder.specs.declared.error.BuildError.TheVariants.{TooLarge}
 use Rattle.icu_trie_builder.proofs.Answering.{answers, coherent, shared, few_offsets, few_all, small_low, fast_within, names_no_null, names_null, names_null_index, fast_index_len-limit}
-use Rattle.icu_trie_compaction.proofs.CallerLemmas.{parts}
+use Rattle.icu_trie_builder.proofs.IndexLemmas.Laying.{parts}
 use Rattle.icu_trie_builder.proofs.DrawnLemmas.{all-drawn}
 use Rattle.icu_trie_builder.proofs.Sizes.{lone_blocks-le}
 use Rattle.icu_trie_builder.proofs.number_trie.build_numbers.Goals as goal

@@ -1,6 +1,0 @@
-use Rattle.std.proofs.Common.{slice_index}
-use Rattle.icu_trie_compaction.specs.Inside.IndexParts.{IsGrown}
-use Rattle.icu_trie_compaction.proofs.index.push_fast.Given as goal
-
-abbrev pub invariant-loop-offset : goal.invariant-loop-offset
-invariant-loop-offset l = IsGrown l.offset-index (slice_index l.fast) l.initial.index.items l.index.items

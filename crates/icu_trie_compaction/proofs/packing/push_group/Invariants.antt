@@ -1,6 +1,0 @@
-use Rattle.std.proofs.Common.{◌+◌, ◌*◌}
-use Rattle.icu_trie_compaction.specs.Inside.IndexParts.{IsGrown, packed_cell}
-use Rattle.icu_trie_compaction.proofs.packing.push_group.Given as goal
-
-abbrev pub invariant-loop-q : goal.invariant-loop-q
-invariant-loop-q l = IsGrown (l.q + 1) (λ x. packed_cell l.offsets (9 * l.group + x)) l.fn.packed.items l.packed.items

@@ -1,9 +1,0 @@
-//! The lengths of index blocks, as `usize`.
-
-use icu_trie_core::impl_const::{INDEX_2_BLOCK_LENGTH, INDEX_3_BLOCK_LENGTH};
-
-/// The number of cells in an index-2 block.
-pub(crate) const INDEX_2_BLOCK: usize = INDEX_2_BLOCK_LENGTH as usize;
-
-/// The number of offsets in an index-3 block.
-pub(crate) const INDEX_3_BLOCK: usize = INDEX_3_BLOCK_LENGTH as usize;

@@ -1,6 +1,0 @@
-use Rattle.std.proofs.Common.{◌≡◌, ℕ, ◌<◌, true, false, slice_index}
-use Rattle.icu_trie_map.specs.Inside.Blocks.{is_mixed}
-use Rattle.icu_trie_map.proofs.blocks.are_one.Given as goal
-
-abbrev pub invariant-loop-i : goal.invariant-loop-i
-invariant-loop-i l = l.all ≡ true → (k : ℕ) → k < l.i → (is_mixed l.mixed k ≡ false) × (slice_index l.places k ≡ l.number)

@@ -1,5 +1,0 @@
-use Rattle.icu_trie_map.specs.Inside.Blocks.{IsWritten}
-use Rattle.icu_trie_map.proofs.blocks.fill_range.Given as goal
-
-abbrev pub invariant-loop-i : goal.invariant-loop-i
-invariant-loop-i l = IsWritten l.initial.cells l.cells l.start l.i l.number

@@ -1,3 +1,0 @@
--- Definitions for private functions and their proofs. No public contract uses them.
-pub mod Blocks
-pub mod Numbers

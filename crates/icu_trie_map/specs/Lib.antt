@@ -1,2 +1,0 @@
-pub mod NumberMap
-pub mod Inside

@@ -1,8 +1,0 @@
-//! A map from code points to 32-bit numbers, from which a trie is built (ICU4C's `UMutableCPTrie`).
-//!
-//! - `number_map`: [`NumberMap`](number_map::NumberMap), the map as the trie builder uses it
-//! - `blocks`: the numbers in blocks of 16 code points
-
-use crate::support::prelude::*;
-mod blocks;
-pub mod number_map;
