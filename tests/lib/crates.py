@@ -37,11 +37,14 @@ class Crate:
             words += ["-L", f"dependency={folder}"]
         return words
 
+    def lacking(self):
+        """The libraries below that are not proved here."""
+        return [it.name for it in self.below() if not os.path.exists(f"{it.folder}/out/rlib/{it.name}.rlib/format")]
+
     def demand_below(self):
         """Ends the script if a library below is not proved here."""
-        for it in self.below():
-            if not os.path.exists(f"{it.folder}/out/rlib/{it.name}.rlib/format"):
-                sys.exit(f"{it.name}, below {self.name}, is not proved here: run `rt ci` first, at the top")
+        if lacking := self.lacking():
+            sys.exit(f"{self.name} is over {' '.join(lacking)}, not proved here: run `rt ci` first, at the top")
 
 
 def crates():

@@ -1,5 +1,5 @@
 //! The program `ucptab`, translated: what it prints of whole tables, and of the streams that
-//! `tests/gate/program` gives the proved one. `tests/gate/command_lines` has all other rows.
+//! `tests/gate/ucptab` gives the proved one. `tests/gate/command_lines` has all other rows.
 
 use crate::runtime::*;
 use crate::support::prelude::*;
