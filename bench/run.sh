@@ -30,7 +30,7 @@ DEPS="$DEPS icu_char16trie icu_char16trie_builder"
 with_loops() {
     mkdir -p "$work/copy/crates/bench_ours/src"
     tar -C "$root" --exclude=out -cf - crates crates.txt HANDLES tests | tar -C "$work/copy" -xf -
-    # With a kit that stores nothing, the libraries that were proved in this clone.
+    # The libraries that `rt ci` proved in this clone.
     for library in "$root"/crates/*/out/rlib; do
         [ -d "$library" ] || continue
         mkdir -p "$work/copy/${library#"$root"/}"
@@ -49,7 +49,7 @@ else
     [ -z "${EDITION:-}" ] || c= without=-DWITHOUT_C
     command -v rt >/dev/null || stop "no rt: put the kit's folder bin on PATH"
     libc=$(dirname -- "$(dirname -- "$(readlink -f -- "$(command -v rt)")")")/c/liblibc_c.a
-    echo "bench: proves and builds; from a clean clone this takes some minutes" >&2
+    echo "bench: proves the loops and builds, over what rt ci proved, in some minutes" >&2
     with_loops
     ours=$("$work/copy/tests/compile" bench_ours) || stop "the loops in bench/ours are not proved and built"
     [ -z "$c" ] || "$root/c/build" --proved || stop "the library for C is not built"
