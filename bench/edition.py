@@ -1,9 +1,9 @@
 """Writes the Rust edition and the loops that the driver calls, and builds both:
-edition.py FOLDER [--check]
+edition.py FOLDER [--check] [FORM..]
 
-FOLDER then has `safe.a` and `proved-reads.a`: the loops of bench/ours, converted to Rust, over the
-public names of rust/bekstaudi without and with that feature. Each library also has the peer. With
---check nothing is built: the status says whether all of it compiles.
+FOLDER then has FORM.a for each form, or both: `safe.a` and `proved-reads.a` are the loops of bench/ours,
+converted to Rust, over the public names of rust/bekstaudi without and with that feature. Each library also
+has the peer. With --check nothing is built: the status says whether all of it compiles.
 """
 import glob
 import importlib.machinery
@@ -81,12 +81,15 @@ def write_calls(made, calls):
 
 def main(folder, *options):
     made, calls = maker(), f"{folder}/calls"
+    forms = {"safe": [], "proved-reads": ["--cfg", 'feature="proved-reads"']}
     made.edition(f"{folder}/edition")
     write_calls(made, calls)
     emitted, ending = ("metadata", "rmeta") if "--check" in options else ("link", "rlib")
     peer = f"{folder}/libpeer.{ending}"
     rustc(f"--emit={emitted}", "--crate-type=rlib", "--crate-name=peer", "-o", peer, f"{TOP}/bench/peer/lib.rs")
-    for name, words in {"safe": [], "proved-reads": ["--cfg", 'feature="proved-reads"']}.items():
+    for name, words in forms.items():
+        if name not in options and any(it in forms for it in options):
+            continue
         os.makedirs(f"{folder}/{name}")
         lib = f"{folder}/{name}/libbekstaudi.{ending}"
         words = [f"--emit={emitted}", "--cfg", 'feature="alloc"', *words]

@@ -23,9 +23,13 @@ bool wanted(const std::string &kernel);
 double seconds();
 
 // Compares the results, times the calls in turns, and prints the least time of each library, in ns
-// per one of `each`. An empty call has no time.
+// per one of `each`. An empty call has no time. If the program has two builds of ours, `ours` runs over
+// both in turn: what it reads has to be made before, and not by one of them.
 void row(const std::string &kernel, const std::string &data, double each, const Call &ours,
          const Call &rust, const Call &icu);
+
+// Calls this once for each build of ours, which the driver then calls: for comparisons before the times.
+void each_build(const std::function<void()> &compare);
 
 // The same numbers in each run.
 uint32_t random_number(uint32_t below);
@@ -50,6 +54,6 @@ void frozen_sets();
 void set_blends();
 void unit_tries();
 void packed();
-// The C functions; left out when the Rust edition is measured, which has none.
+// The C functions.
 void c_calls();
 void c_spans();

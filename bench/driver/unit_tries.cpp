@@ -1,8 +1,6 @@
 // Unit tries over generated lists of keys: listed, looked up and built. All libraries read ICU's
 // fast form.
-#ifndef WITHOUT_C
 #include "../../c/bekstaudi.hpp"
-#endif
 #include "bench.hpp"
 #include "calls.hpp"
 #include "lists.hpp"
@@ -122,7 +120,6 @@ static void compare_keys(const List &list, const UnicodeString &units,
     if (ours != keys || rust != keys) fail(list.name + ": the keys differ");
 }
 
-#ifndef WITHOUT_C
 // The value of each key, as icu_look finds it.
 static uint64_t c_look(const vector<uint8_t> &bytes, const List &list) {
     uint64_t sum = 0;
@@ -192,7 +189,6 @@ static void read_by_c(const List &list, const UnicodeString &units, const vector
         "c_words", list.name + "-longest", text.size(), [&] { return c_longest(bytes, text); },
         nullptr, [&] { return icu_longest(units, text); });
 }
-#endif
 
 static void read(const List &list) {
     const UnicodeString units = icu_units(list, USTRINGTRIE_BUILD_FAST);
@@ -219,10 +215,8 @@ static void read(const List &list) {
             [&] { return ours_c16_longest(PARTS(bytes), PARTS(text)); }, nullptr,
             [&] { return icu_longest(units, text); });
     }
-#ifndef WITHOUT_C
     if (wanted("c_words")) read_by_c(list, units, bytes);
     if (wanted("cpp_words")) read_by_classes(list, units, bytes);
-#endif
     if (!wanted("c16_look")) return;
     for (bool along : {false, true})
         row(
