@@ -18,7 +18,13 @@ static const char *const kernels[] = {
     "c16_entries", "c16_look", "c16_longest", "c16_build", "packed_read", "packed_search", "c_get_u8",
     "c_text_u8", "c_copy_u8", "c_range_u8", "c_ranges_u8", "c_setfor_u8", "c_build_u8", "c_span_words",
     "c_span_long", "c_set_from_points", "c_words", "cpp_copy_u8", "cpp_span_words", "cpp_words", "range_u8",
-    "frozen_contains_range", "c16_texts", "indices_u8", "find_u8", "span_u8"};
+    "frozen_contains_range", "c16_texts", "indices_u8", "find_u8", "span_u8", "c_open_u8", "c_call_u8",
+    "c_many_u8", "c_utf16_u8", "c_span_back", "c_span_utf16", "c_set_union", "c_set_intersection",
+    "c_set_difference", "c_set_symmetric", "c_set_complement", "c_set_contains", "c_frozen_contains",
+    "c_frozen_has", "c_set_index_of", "c_set_nth", "c_set_from_ranges", "c_set_size", "c_set_test",
+    "c_set_freeze", "c_set_contains_all", "c_units_step", "c_units_get_utf8", "c_units_prefixes",
+    "c_units_longest_utf8", "c_units_next", "c_units_list", "c_units_list_below", "c_units_build",
+    "c_units_build_utf8"};
 
 enum { LEAST_ROUNDS = 5, MOST_ROUNDS = 400 };
 // A row takes about this many seconds.
@@ -112,4 +118,6 @@ int main(int count, char **arguments) {
     packed();
     c_calls();
     c_spans();
+    c_sets();
+    c_units();
 }

@@ -57,3 +57,5 @@ void packed();
 // The C functions.
 void c_calls();
 void c_spans();
+void c_sets();
+void c_units();

@@ -1,17 +1,18 @@
-// This repository's C functions compared with ICU: inline look-ups, the values of a text at once,
-// the ranges of a trie, the set of a value, a build into a buffer, and the set of scattered points;
-// the values of a text also by the C++ classes.
+// This repository's C functions compared with ICU: opening a trie, look-ups inline, by a call and of many
+// code points, the values of a text at once in UTF-8 and UTF-16, the ranges of a trie, the set of a value, a
+// build into a buffer, and the set of scattered points; the values of a text also by the C++ classes.
 #include "../../c/bekstaudi.hpp"
 #include "icu_trie.hpp"
 #include <algorithm>
 #include <cstring>
 #include <unicode/uset.h>
+#include <unicode/unistr.h>
 #include <unicode/utf8.h>
 
 using std::string;
 using std::vector;
 
-enum { POINTS = 4096, TURNS = 12, CHARACTERS = 4096, RANGES = 256, ROOM = 1 << 20, SCATTERED = 50000 };
+enum { POINTS = 4096, TURNS = 12, CHARACTERS = 1 << 16, RANGES = 256, ROOM = 1 << 20, SCATTERED = 50000 };
 
 // A trie that ICU built, in its binary form, and opened by the C library.
 struct Opened {
@@ -35,20 +36,19 @@ struct Opened {
 #define ICU_GET(trie, c) UCPTRIE_FAST_GET(trie, UCPTRIE_8, (UChar32)(c))
 ADDER(ours_points, bks_get8)
 ADDER(icu_points, ICU_GET)
+ADDER(ours_called, bks_trie8_get)
+ADDER(icu_called, ucptrie_get)
+
+__attribute__((noinline)) static size_t icu_many(const UCPTrie *trie, const vector<uint32_t> &points,
+                                                 uint8_t *into) {
+    for (uint32_t c : points) *into++ = ICU_GET(trie, c);
+    return points.size();
+}
 
 template <class Turn> static uint64_t over_turns(const Turn &turn) {
     uint64_t sum = 0;
     for (int i = 0; i < TURNS; i++) sum += turn();
     return sum;
-}
-
-static void points(const string &name, const Opened &ours, const UCPTrie *icu, uint32_t below) {
-    vector<uint32_t> all(POINTS);
-    for (uint32_t &c : all) c = random_number(below);
-    row(
-        "c_get_u8", name, double(POINTS) * TURNS,
-        [&] { return over_turns([&] { return ours_points(&ours.trie, all.data()); }); }, nullptr,
-        [&] { return over_turns([&] { return icu_points(icu, all.data()); }); });
 }
 
 // Eight values at a time: one by one, the sum takes as long as what is measured.
@@ -61,6 +61,55 @@ static uint64_t sum_of(const vector<uint8_t> &values, size_t count) {
     }
     for (; i < count; i++) sum += values[i];
     return sum;
+}
+
+// Opens the trie anew in each turn, and adds up the bytes that it takes.
+static void opens(const string &name, const Opened &ours) {
+    const void *const bytes = ours.bytes.data();
+    row(
+        "c_open_u8", name, TURNS,
+        [&] {
+            return over_turns([&] {
+                bks_trie trie;
+                return bks_open(&trie, bytes, ROOM) == BKS_OK ? trie.size : 0;
+            });
+        },
+        nullptr, [&] {
+            return over_turns([&] {
+                UErrorCode error = U_ZERO_ERROR;
+                int32_t size = 0;
+                ucptrie_close(ucptrie_openFromBinary(UCPTRIE_TYPE_ANY, UCPTRIE_VALUE_BITS_8, bytes, ROOM,
+                                                     &size, &error));
+                return size;
+            });
+        });
+}
+
+static void points(const string &name, const Opened &ours, const UCPTrie *icu, uint32_t below) {
+    vector<uint32_t> all(POINTS);
+    for (uint32_t &c : all) c = random_number(below);
+    const double each = double(POINTS) * TURNS;
+    if (wanted("c_get_u8"))
+        row(
+            "c_get_u8", name, each,
+            [&] { return over_turns([&] { return ours_points(&ours.trie, all.data()); }); }, nullptr,
+            [&] { return over_turns([&] { return icu_points(icu, all.data()); }); });
+    if (wanted("c_call_u8"))
+        row(
+            "c_call_u8", name, each,
+            [&] { return over_turns([&] { return ours_called(&ours.trie, all.data()); }); }, nullptr,
+            [&] { return over_turns([&] { return icu_called(icu, all.data()); }); });
+    vector<uint8_t> values(POINTS);
+    if (wanted("c_many_u8"))
+        row(
+            "c_many_u8", name, each,
+            [&] {
+                return over_turns([&] {
+                    return sum_of(values, bks_trie8_get_many(&ours.trie, PARTS(all), PARTS(values)));
+                });
+            },
+            nullptr,
+            [&] { return over_turns([&] { return sum_of(values, icu_many(icu, all, values.data())); }); });
 }
 
 static uint64_t icu_values(const UCPTrie *trie, const string &text, vector<uint8_t> &values) {
@@ -81,6 +130,30 @@ static void text(const string &name, const Opened &ours, const UCPTrie *icu, con
                                                      one.bytes.size(), values.data(), CHARACTERS));
         },
         nullptr, [&] { return icu_values(icu, one.bytes, values); });
+}
+
+// The values of a text in UTF-16.
+static void units(const string &name, const Opened &ours, const UCPTrie *icu, const Text &one) {
+    const icu::UnicodeString text = icu::UnicodeString::fromUTF8(one.bytes);
+    vector<uint8_t> values(CHARACTERS + 4);
+    row(
+        "c_utf16_u8", name + "-" + one.name, CHARACTERS,
+        [&] {
+            const uint16_t *const start = reinterpret_cast<const uint16_t *>(text.getBuffer());
+            return sum_of(values,
+                          bks_trie8_get_utf16(&ours.trie, start, text.length(), values.data(), CHARACTERS));
+        },
+        nullptr, [&] {
+            const UCPTrie *const trie = icu;
+            const char16_t *at = text.getBuffer(), *const end = at + text.length();
+            uint8_t *const into = values.data();
+            size_t count = 0;
+            while (at < end) {
+                [[maybe_unused]] UChar32 c;
+                UCPTRIE_FAST_U16_NEXT(trie, UCPTRIE_8, at, end, c, into[count++]);
+            }
+            return sum_of(values, count);
+        });
 }
 
 // The values by a buffer of so many, which is summed each time that it is full.
@@ -230,15 +303,18 @@ void c_calls() {
         const IcuTrie icu = icu_trie(table, true, UCPTRIE_VALUE_BITS_8);
         const Opened ours(icu.get());
         const string name = name_of(table, true);
-        if (wanted("c_get_u8")) {
+        if (wanted("c_open_u8")) opens(name, ours);
+        if (wanted("c_get_u8") || wanted("c_call_u8") || wanted("c_many_u8")) {
             points(name + "-latin1", ours, icu.get(), 0x100);
             points(name + "-bmp", ours, icu.get(), 0x10000);
             points(name + "-all", ours, icu.get(), 0x110000);
         }
         if (wanted("c_text_u8"))
             for (const Text &one : texts(CHARACTERS)) text(name, ours, icu.get(), one);
+        if (wanted("c_utf16_u8"))
+            for (const Text &one : texts(CHARACTERS)) units(name, ours, icu.get(), one);
         if (wanted("c_copy_u8"))
-            for (size_t room : {256, CHARACTERS + 0})
+            for (size_t room : {256, 4096})
                 for (const Text &one : texts(CHARACTERS)) copies(name, ours, icu.get(), one, room);
         if (wanted("cpp_copy_u8"))
             for (const Text &one : texts(CHARACTERS)) by_classes(name, ours, icu.get(), one);
