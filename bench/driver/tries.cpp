@@ -7,7 +7,12 @@
 using std::string;
 using std::vector;
 
-enum { POINTS = 4096, TURNS = 12, SHORT_TEXT = 256, LONG_TEXT = 16 * SHORT_TEXT };
+enum { POINTS = 4096, TURNS = 12, SHORT_TEXT = 256, LONG_TEXT = 1 << 16 };
+
+// How often a text is read in one call. A long text is read once by each of the two loops: processors learn
+// where the sizes of a few thousand characters change if they read the same ones again, and then mispredict
+// no jump, as long as the loop has few of them. No application reads one text again and again.
+static size_t turns_of(size_t characters) { return characters == LONG_TEXT ? 2 : TURNS * POINTS / characters; }
 
 typedef uint64_t Adder(const UCPTrie *, const vector<uint32_t> &points, uint64_t sum);
 typedef uint64_t TextAdder(const UCPTrie *, const string &text, uint64_t wanted, uint64_t sum);
@@ -179,7 +184,7 @@ static void over_texts(const AlongText &along, const Table &table, bool is_fast)
     const TrieParts parts = parts_of(trie, 1, is_fast);
     TextAdder *const *adders = is_fast ? along.fast : along.small;
     for (size_t characters : {SHORT_TEXT, LONG_TEXT}) {
-        const size_t turns = TURNS * POINTS / characters;
+        const size_t turns = turns_of(characters);
         for (const Text &text : texts(characters)) {
             const uint8_t *bytes = reinterpret_cast<const uint8_t *>(text.bytes.data());
             const size_t size = text.bytes.size();
@@ -214,7 +219,7 @@ static void copies(const Table &table) {
     const IcuTrie trie = icu_trie(table, true, UCPTRIE_VALUE_BITS_8);
     const TrieParts parts = parts_of(trie, 1, true);
     for (size_t characters : {SHORT_TEXT, LONG_TEXT}) {
-        const size_t turns = TURNS * POINTS / characters;
+        const size_t turns = turns_of(characters);
         for (const Text &text : texts(characters)) {
             const uint8_t *bytes = reinterpret_cast<const uint8_t *>(text.bytes.data());
             vector<uint8_t> values(characters);

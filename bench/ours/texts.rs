@@ -1,19 +1,13 @@
 //! Values of a trie of 8-bit values along a text. Each function runs an even number of turns, half of
-//! them with the squares of the values, and returns a sum over all turns.
+//! them with the squares of the values, and returns a sum over all turns. A text is UTF-8 unless the
+//! function says otherwise: a test would take time, and ICU makes none.
+ghost use Rattle.std.specs.Str.{IsUtf8};
 
 use crate::tries::{Parts, power, trie_of};
 use icu_trie::cptrie::CodePointTrie;
 use icu_trie_text::text::{
     copy_values, find_value, span_of_values, value_indices_of, values_of, values_of_utf8,
 };
-
-/// Returns the trie with these parts and the text, or `None` if one of them is not valid.
-fn trie_and_text<'a>(
-    parts: &Parts<'a>,
-    text: &'a [u8],
-) -> Option<(CodePointTrie<'a, u8>, &'a str)> {
-    Some((trie_of(parts)?, std::str::from_utf8(text).ok()?))
-}
 
 /// Adds the values of the characters of a text to `sum`.
 #[inline(never)]
@@ -27,8 +21,11 @@ fn add_values<const SQUARED: bool>(trie: &CodePointTrie<'_, u8>, text: &str, sum
 
 /// Adds up the values of a text.
 #[unsafe(no_mangle)]
-pub extern "C" fn ours_values_8(parts: &Parts<'_>, text: &[u8], turns: usize) -> u64 {
-    let Some((trie, text)) = trie_and_text(parts, text) else {
+pub extern "C" fn ours_values_8(parts: &Parts<'_>, text: &[u8], turns: usize) -> u64
+    requires { IsUtf8 text.now }
+{
+    let text = unsafe { std::str::from_utf8_unchecked(text) };
+    let Some(trie) = trie_of::<u8>(parts) else {
         return u64::MAX;
     };
     let mut sum = 0u64;
@@ -51,8 +48,11 @@ fn add_indices<const SQUARED: bool>(trie: &CodePointTrie<'_, u8>, text: &str, su
 
 /// Adds up the byte offsets and the values of a text.
 #[unsafe(no_mangle)]
-pub extern "C" fn ours_indices_8(parts: &Parts<'_>, text: &[u8], turns: usize) -> u64 {
-    let Some((trie, text)) = trie_and_text(parts, text) else {
+pub extern "C" fn ours_indices_8(parts: &Parts<'_>, text: &[u8], turns: usize) -> u64
+    requires { IsUtf8 text.now }
+{
+    let text = unsafe { std::str::from_utf8_unchecked(text) };
+    let Some(trie) = trie_of::<u8>(parts) else {
         return u64::MAX;
     };
     let mut sum = 0u64;
@@ -83,8 +83,11 @@ fn add_found_square(trie: &CodePointTrie<'_, u8>, text: &str, wanted: u64, sum: 
 
 /// Adds up the byte offsets of the first character with a value, for the values from 0 on.
 #[unsafe(no_mangle)]
-pub extern "C" fn ours_find_8(parts: &Parts<'_>, text: &[u8], turns: usize) -> u64 {
-    let Some((trie, text)) = trie_and_text(parts, text) else {
+pub extern "C" fn ours_find_8(parts: &Parts<'_>, text: &[u8], turns: usize) -> u64
+    requires { IsUtf8 text.now }
+{
+    let text = unsafe { std::str::from_utf8_unchecked(text) };
+    let Some(trie) = trie_of::<u8>(parts) else {
         return u64::MAX;
     };
     let mut sum = 0u64;
@@ -111,8 +114,11 @@ fn add_span_of_squares(trie: &CodePointTrie<'_, u8>, text: &str, wanted: u64, su
 
 /// Adds up the same offsets, as spans.
 #[unsafe(no_mangle)]
-pub extern "C" fn ours_span_8(parts: &Parts<'_>, text: &[u8], turns: usize) -> u64 {
-    let Some((trie, text)) = trie_and_text(parts, text) else {
+pub extern "C" fn ours_span_8(parts: &Parts<'_>, text: &[u8], turns: usize) -> u64
+    requires { IsUtf8 text.now }
+{
+    let text = unsafe { std::str::from_utf8_unchecked(text) };
+    let Some(trie) = trie_of::<u8>(parts) else {
         return u64::MAX;
     };
     let mut sum = 0u64;
