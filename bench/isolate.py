@@ -2,7 +2,7 @@
 
 A word of LIBRARIES is a build: its static libraries, joined by commas. Writes one object for each build,
 FOLDER/build0.o and so on, in which only the functions that the callers need can be linked, under names of
-that build; FOLDER/peer.o of the library PEER, under the names that they have; and FOLDER/slots.o, where each
+that build; FOLDER/peer.o of the library PEER, under the names that they have; and FOLDER/slots.o, in which each
 function of ours jumps through a slot of `bench_slots`. `bench_table` has the functions of all builds, those
 of one build after another.
 """
