@@ -7,8 +7,8 @@ use Rattle.std.proofs.lemmas.List.{drop_more, take_more, take-append-drop, appen
 use Rattle.std.proofs.lemmas.List.Elements.{All-push, filter_map-append}
 use Rattle.ucd_files.specs.Files.{AreStatements, IsFaultless, IsFirstFault, IsUnfinished, is_open, last_line, paired_lines, read_pair, statement_or_none}
 use Rattle.ucd_files.specs.Statements.{statement_of}
-use Rattle.ucd_files.specs.declared.fault.FileFault.TheVariants.{Line}
-use Rattle.ucd_files.specs.declared.fault.LineFault.{LineFault}
+use Rattle.ucd_files.specs.declared.error.FileError.TheVariants.{Line}
+use Rattle.ucd_files.specs.declared.error.LineError.{LineError}
 use Rattle.ucd_files.specs.declared.names.Numbering.{Numbering}
 use Rattle.ucd_files.specs.declared.statement.Columns.{Columns}
 use Rattle.ucd_files.specs.declared.statement.Statement.{Statement}
@@ -62,7 +62,7 @@ module _ (columns : Columns) (numbering : Numbering) where
           (option_as_list said))
 
   -- a line with a fault, after lines with none
-  first_fault : (input : List ℕ) (n : ℕ) (previous line : List ℕ) (more : List (List ℕ × List ℕ)) (f : LineFault)
+  first_fault : (input : List ℕ) (n : ℕ) (previous line : List ℕ) (more : List (List ℕ × List ℕ)) (f : LineError)
       → drop n (paired_lines input) ≡ (previous, line) ∷ more → statement_of columns numbering previous line ≡ Err f
       → All (IsFaultless columns numbering) (take n (paired_lines input)) → IsFirstFault columns numbering input (n + 1) f
   first_fault input n previous line more f left is faultless =
@@ -72,8 +72,8 @@ module _ (columns : Columns) (numbering : Numbering) where
       record { counted = omega arith; faulty = rw (back, here) is; faultless_before = rw back faultless }
 
   -- the same, as an answer names it
-  pub first_fault_named : (input : List ℕ) (n : ℕ) (previous line : List ℕ) (more : List (List ℕ × List ℕ)) (f : LineFault)
-      (k : ℕ) (g : LineFault)
+  pub first_fault_named : (input : List ℕ) (n : ℕ) (previous line : List ℕ) (more : List (List ℕ × List ℕ)) (f : LineError)
+      (k : ℕ) (g : LineError)
       → Line (n + 1) f ≡ Line k g → drop n (paired_lines input) ≡ (previous, line) ∷ more
       → statement_of columns numbering previous line ≡ Err f
       → All (IsFaultless columns numbering) (take n (paired_lines input)) → IsFirstFault columns numbering input k g

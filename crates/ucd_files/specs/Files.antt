@@ -5,7 +5,7 @@ use Rattle.std.specs.Str.Lines.{lines}
 use Rattle.icu_trie_builder.specs.declared.writes.Write.{Write}
 use Rattle.ucd_files.specs.Fields.{ends_in_first}
 use Rattle.ucd_files.specs.Statements.{statement_of}
-use Rattle.ucd_files.specs.declared.fault.LineFault.{LineFault}
+use Rattle.ucd_files.specs.declared.error.LineError.{LineError}
 use Rattle.ucd_files.specs.declared.names.Numbering.{Numbering}
 use Rattle.ucd_files.specs.declared.statement.Columns.{Columns}
 use Rattle.ucd_files.specs.declared.statement.Columns.TheVariants.{UnicodeData}
@@ -43,11 +43,11 @@ explicit_write (Explicit write) = Some write
 
 module _ (columns : Columns) (numbering : Numbering) where
   -- What a line with the line before it says.
-  abbrev pub read_pair : List ℕ × List ℕ → Result (Option Statement) LineFault
+  abbrev pub read_pair : List ℕ × List ℕ → Result (Option Statement) LineError
   read_pair pair = statement_of columns numbering pair.0 pair.1
 
   -- The statement of a line, if it has one.
-  abbrev pub statement_or_none : Result (Option Statement) LineFault → Option Statement
+  abbrev pub statement_or_none : Result (Option Statement) LineError → Option Statement
   statement_or_none (Ok said) = said
   statement_or_none (Err fault) = None
 
@@ -68,7 +68,7 @@ module _ (columns : Columns) (numbering : Numbering) where
     pub left_open : is_open columns (last_line [] (lines input)) ≡ true
 
   -- Line k, counted from 1, has the fault f, and no line before it has one.
-  pub record IsFirstFault (input : List ℕ) (k : ℕ) (f : LineFault) : Type 0 where
+  pub record IsFirstFault (input : List ℕ) (k : ℕ) (f : LineError) : Type 0 where
     pub counted : 0 < k
     pub faulty : IsSomeAnd (slice_get (paired_lines input) (k - 1)) (λ pair. read_pair pair ≡ Err f)
     pub faultless_before : All IsFaultless (take (k - 1) (paired_lines input))

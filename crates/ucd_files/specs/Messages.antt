@@ -1,12 +1,12 @@
 -- The words of faults.
 use Rattle.std.specs.Prelude.{ℕ, List, ◌++◌, codes, decimal}
-use Rattle.ucd_files.specs.declared.fault.FileFault.{FileFault}
-use Rattle.ucd_files.specs.declared.fault.FileFault.TheVariants.{Line, Unfinished, Memory}
-use Rattle.ucd_files.specs.declared.fault.LineFault.{LineFault}
-use Rattle.ucd_files.specs.declared.fault.LineFault.TheVariants.{Unpaired, SplitRange, NotCodePoints, CodePoint, Reversed, NoValue, UnknownValue}
+use Rattle.ucd_files.specs.declared.error.FileError.{FileError}
+use Rattle.ucd_files.specs.declared.error.FileError.TheVariants.{Line, Unfinished, Memory}
+use Rattle.ucd_files.specs.declared.error.LineError.{LineError}
+use Rattle.ucd_files.specs.declared.error.LineError.TheVariants.{Unpaired, SplitRange, NotCodePoints, CodePoint, Reversed, NoValue, UnknownValue}
 
 -- What the test of a line that failed expects.
-abbrev pub expected_text : LineFault → List ℕ
+abbrev pub expected_text : LineError → List ℕ
 expected_text Unpaired =
     codes "a line `<NAME, First>`, then a line `<NAME, Last>` with the same value"
 expected_text SplitRange =
@@ -18,7 +18,7 @@ expected_text NoValue = codes "a value"
 expected_text UnknownValue = codes "a value that is a known name or number"
 
 -- The fault of a file, in words.
-abbrev pub fault_text : FileFault → List ℕ
+abbrev pub fault_text : FileError → List ℕ
 fault_text (Line k f) = codes "line " ++ (decimal k ++ (codes ": expected " ++ expected_text f))
 fault_text Unfinished = codes "the file ends after `<.., First>`"
 fault_text Memory = codes "no memory"

@@ -9,8 +9,8 @@ use Rattle.ucptab_table.specs.declared.rows.CodePoints.{CodePoints}
 use Rattle.ucptab_table.specs.declared.rows.CodePoints.TheVariants.{Single, Span}
 use Rattle.ucd_files.specs.Fields.{after_mark, column, ends_in_first, ends_in_last, field, has_field, marks_range, missing_of}
 use Rattle.ucd_files.specs.Names.{is_match, is_same_name, number_of}
-use Rattle.ucd_files.specs.declared.fault.LineFault.{LineFault}
-use Rattle.ucd_files.specs.declared.fault.LineFault.TheVariants.{Unpaired, SplitRange, NotCodePoints, CodePoint, Reversed, NoValue, UnknownValue}
+use Rattle.ucd_files.specs.declared.error.LineError.{LineError}
+use Rattle.ucd_files.specs.declared.error.LineError.TheVariants.{Unpaired, SplitRange, NotCodePoints, CodePoint, Reversed, NoValue, UnknownValue}
 use Rattle.ucd_files.specs.declared.names.Matching.TheVariants.{Exact}
 use Rattle.ucd_files.specs.declared.names.Numbering.{Numbering}
 use Rattle.ucd_files.specs.declared.names.Numbering.TheVariants.{One}
@@ -93,7 +93,7 @@ joined (Some (Single start)) (Some (Single end)) = Some (Span start end)
 joined start end = None
 
 -- Code points that are given, are code points and are in order.
-unfoldable pub checked_points : Option CodePoints → Result CodePoints LineFault
+unfoldable pub checked_points : Option CodePoints → Result CodePoints LineError
 checked_points None = Err NotCodePoints
 checked_points (Some points) =
     if nat_le code_point_limit (first_of points) then Err CodePoint
@@ -141,7 +141,7 @@ is_split columns line = is_half (code_points_of (field 0 (content_of line))) lin
 
 -- The code points of a line. Those of the second line of a range start at the line before it.
 -- Unihan writes a code point after `U+`.
-unfoldable pub points_of : Columns → List ℕ → List ℕ → Result CodePoints LineFault
+unfoldable pub points_of : Columns → List ℕ → List ℕ → Result CodePoints LineError
 points_of (UnicodeData n) previous content =
     checked_points (if ends_in_last content
     then joined (code_points_of (field 0 previous)) (code_points_of (field 0 content))
@@ -153,31 +153,31 @@ points_of columns previous content = checked_points (code_points_of (field 0 con
 -- ---- Lines
 
 -- The write of the number of a value.
-abbrev pub write_of_number : CodePoints → Option ℕ → Result (Write ℕ) LineFault
+abbrev pub write_of_number : CodePoints → Option ℕ → Result (Write ℕ) LineError
 write_of_number points None = Err UnknownValue
 write_of_number points (Some number) = Ok (write_at points number)
 
 -- The write of a value, given as text.
-unfoldable pub write_of : Numbering → CodePoints → List ℕ → Result (Write ℕ) LineFault
+unfoldable pub write_of : Numbering → CodePoints → List ℕ → Result (Write ℕ) LineError
 write_of numbering points text = if length text == 0 then Err NoValue
     else write_of_number points (number_of numbering text)
 
 -- The statement of a write.
-abbrev pub said : (Write ℕ → Statement) → Result (Write ℕ) LineFault
-    → Result (Option Statement) LineFault
+abbrev pub said : (Write ℕ → Statement) → Result (Write ℕ) LineError
+    → Result (Option Statement) LineError
 said kind (Ok write) = Ok (Some (kind write))
 said kind (Err fault) = Err fault
 
 -- The statement of a line with these code points and this value, which are both tested.
-abbrev pub statement_at : Numbering → (Write ℕ → Statement) → Result CodePoints LineFault
-    → Option (List ℕ) → Result (Option Statement) LineFault
+abbrev pub statement_at : Numbering → (Write ℕ → Statement) → Result CodePoints LineError
+    → Option (List ℕ) → Result (Option Statement) LineError
 statement_at numbering kind (Err fault) text = Err fault
 statement_at numbering kind (Ok points) None = Ok None
 statement_at numbering kind (Ok points) (Some text) = said kind (write_of numbering points text)
 
 -- What a line says that is neither an `@missing` line nor without content.
 unfoldable pub explicit_statement : Columns → Numbering → List ℕ → List ℕ
-    → Result (Option Statement) LineFault
+    → Result (Option Statement) LineError
 explicit_statement columns numbering previous content =
     statement_at numbering Explicit (points_of columns previous content)
     (value_text columns content)
@@ -190,14 +190,14 @@ text_of_missing columns numbering content = missing_text columns content
 
 -- What an `@missing` line says.
 unfoldable pub missing_statement : Columns → Numbering → List ℕ
-    → Result (Option Statement) LineFault
+    → Result (Option Statement) LineError
 missing_statement columns numbering content =
     statement_at numbering Missing (checked_points (code_points_of (field 0 content)))
     (text_of_missing columns numbering content)
 
 -- What a line says by its content, if it is no `@missing` line. Nothing if it has none.
 abbrev pub statement_in : Columns → Numbering → List ℕ → List ℕ → Option (List ℕ)
-    → Result (Option Statement) LineFault
+    → Result (Option Statement) LineError
 statement_in columns numbering previous line (Some missing) =
     missing_statement columns numbering missing
 statement_in columns numbering previous line None =
@@ -208,7 +208,7 @@ statement_in columns numbering previous line None =
 -- What a line says after the line `previous`: nothing if it is blank, a comment or about another
 -- property.
 unfoldable pub statement_of : Columns → Numbering → List ℕ → List ℕ
-    → Result (Option Statement) LineFault
+    → Result (Option Statement) LineError
 statement_of columns numbering previous line =
     if is_paired columns previous (content_in columns line)
     then statement_in columns numbering previous line (missing_of line)

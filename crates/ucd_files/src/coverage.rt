@@ -5,11 +5,11 @@ ghost use Rattle.icu_trie_builder.specs.Writes.{covers};
 ghost use Rattle.icu_zerovec.specs.CodePoints.{code_point_limit};
 ghost use Rattle.ucd_files.specs.Coverage.{has_value, CoverAll};
 ghost use Rattle.ucd_files.specs.Files.{AreStatements, IsFirstFault, IsUnfinished, writes_of};
-ghost use Rattle.ucd_files.specs.declared.fault.FileFault.TheVariants.{Line, Unfinished};
-ghost use Rattle.ucd_files.specs.declared.fault.LineFault.{LineFault};
+ghost use Rattle.ucd_files.specs.declared.error.FileError.TheVariants.{Line, Unfinished};
+ghost use Rattle.ucd_files.specs.declared.error.LineError.{LineError};
 ghost use Rattle.ucd_files.specs.declared.statement.Statement.{Statement};
 
-use crate::fault::FileFault;
+use crate::error::FileError;
 use crate::names::Numbering;
 use crate::read::read_writes;
 use crate::statement::Columns;
@@ -70,11 +70,11 @@ pub(crate) fn lines_cover_all(
     input: &[u8],
     columns: Columns<'_>,
     numbering: Numbering<'_>,
-) -> Result<bool, FileFault>
+) -> Result<bool, FileError>
     ensures ok { IfOk result (λ all. (said : List Statement)
         × AreStatements columns.entry numbering.entry input.now said
         × (IsTrue all ↔ CoverAll (writes_of said))) }
-    ensures line { (k : ℕ) (f : LineFault) → IfErr result (λ e. e ≡ Line k f
+    ensures line { (k : ℕ) (f : LineError) → IfErr result (λ e. e ≡ Line k f
         → IsFirstFault columns.entry numbering.entry input.now k f) }
     ensures unfinished { IfErr result (λ e. e ≡ Unfinished
         → IsUnfinished columns.entry numbering.entry input.now) }

@@ -5,12 +5,12 @@ ghost use Rattle.ucd_files.specs.Files.{IsFirstFault, IsUnfinished};
 ghost use Rattle.ucd_files.specs.MissingValues.{alias_number, first_name, first_other, only_missing, only_name, texts_in, IsMissingValue};
 ghost use Rattle.ucd_files.specs.Names.{is_by_names, pairs_of};
 ghost use Rattle.ucd_files.specs.ValueNames.{is_known};
-ghost use Rattle.ucd_files.specs.declared.fault.FileFault.TheVariants.{Line, Unfinished};
-ghost use Rattle.ucd_files.specs.declared.fault.LineFault.{LineFault};
+ghost use Rattle.ucd_files.specs.declared.error.FileError.TheVariants.{Line, Unfinished};
+ghost use Rattle.ucd_files.specs.declared.error.LineError.{LineError};
 
 use crate::aliases::missing_alias;
 use crate::coverage::lines_cover_all;
-use crate::fault::FileFault;
+use crate::error::FileError;
 use crate::fields::missing_of;
 use crate::kind::are_digits;
 use crate::names::{Matching, Name, Numbering, number_of};
@@ -166,10 +166,10 @@ pub fn missing_value(
     numbering: Numbering<'_>,
     aliases: &[u8],
     property: &[u8],
-) -> Result<MissingValue, FileFault>
+) -> Result<MissingValue, FileError>
     ensures ok { IfOk result (IsMissingValue columns.entry numbering.entry input.now property.now
         aliases.now) }
-    ensures line { (k : ℕ) (f : LineFault) → IfErr result (λ e. e ≡ Line k f
+    ensures line { (k : ℕ) (f : LineError) → IfErr result (λ e. e ≡ Line k f
         → IsFirstFault columns.entry numbering.entry input.now k f) }
     ensures unfinished { IfErr result (λ e. e ≡ Unfinished
         → IsUnfinished columns.entry numbering.entry input.now) }

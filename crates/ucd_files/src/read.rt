@@ -3,11 +3,11 @@ ghost use Rattle.std.specs.Prelude.{◌≡◌, ◌++◌, ◌∷◌, ℕ, List, [
 ghost use Rattle.std.specs.List.{filter_map};
 ghost use Rattle.std.specs.Option.{option_to_list};
 ghost use Rattle.ucd_files.specs.Files.{AreStatements, IsFirstFault, IsUnfinished, explicit_write, is_open, missing_write, writes_of};
-ghost use Rattle.ucd_files.specs.declared.fault.FileFault.TheVariants.{Line, Memory, Unfinished};
-ghost use Rattle.ucd_files.specs.declared.fault.LineFault.{LineFault};
+ghost use Rattle.ucd_files.specs.declared.error.FileError.TheVariants.{Line, Memory, Unfinished};
+ghost use Rattle.ucd_files.specs.declared.error.LineError.{LineError};
 ghost use Rattle.ucd_files.specs.declared.statement.Statement.{Statement};
 
-use crate::fault::FileFault;
+use crate::error::FileError;
 use crate::fields::ends_in_first;
 use crate::names::Numbering;
 use crate::statement::{Columns, Statement, statement_of};
@@ -28,18 +28,18 @@ fn is_open(columns: Columns<'_>, line: &[u8]) -> bool
 /// Returns what the lines of a file say, in order.
 ///
 /// # Errors
-/// Returns [`FileFault::Line`] for the first line with a fault, counted from 1,
-/// [`FileFault::Unfinished`] if the file ends in the middle of a range of `UnicodeData.txt`, and
-/// [`FileFault::Memory`] if an allocation fails.
+/// Returns [`FileError::Line`] for the first line with a fault, counted from 1,
+/// [`FileError::Unfinished`] if the file ends in the middle of a range of `UnicodeData.txt`, and
+/// [`FileError::Memory`] if an allocation fails.
 pub fn read_statements(
     alloc: Global,
     input: &[u8],
     columns: Columns<'_>,
     numbering: Numbering<'_>,
-) -> Result<Vec<Statement>, FileFault>
+) -> Result<Vec<Statement>, FileError>
     ensures ok { IfOk result (λ said. AreStatements columns.entry numbering.entry input.now
         said.items) }
-    ensures line { (k : ℕ) (f : LineFault) → IfErr result (λ e. e ≡ Line k f
+    ensures line { (k : ℕ) (f : LineError) → IfErr result (λ e. e ≡ Line k f
         → IsFirstFault columns.entry numbering.entry input.now k f) }
     ensures unfinished { IfErr result (λ e. e ≡ Unfinished
         → IsUnfinished columns.entry numbering.entry input.now) }
@@ -55,15 +55,15 @@ pub fn read_statements(
             Ok(None) => {}
             Ok(Some(statement)) => {
                 if said.push(statement).is_err() {
-                    return Err(FileFault::Memory);
+                    return Err(FileError::Memory);
                 }
             }
-            Err(fault) => return Err(FileFault::Line(number, fault)),
+            Err(fault) => return Err(FileError::Line(number, fault)),
         }
         previous = line;
     }
     if is_open(columns, previous) {
-        return Err(FileFault::Unfinished);
+        return Err(FileError::Unfinished);
     }
     Ok(said)
 }
@@ -116,19 +116,19 @@ pub fn writes_of(alloc: Global, statements: Vec<Statement>) -> Result<Vec<Write<
 /// in order. The last write that covers a code point gives its value.
 ///
 /// # Errors
-/// Returns [`FileFault::Line`] for the first line with a fault, counted from 1,
-/// [`FileFault::Unfinished`] if the file ends in the middle of a range of `UnicodeData.txt`, and
-/// [`FileFault::Memory`] if an allocation fails.
+/// Returns [`FileError::Line`] for the first line with a fault, counted from 1,
+/// [`FileError::Unfinished`] if the file ends in the middle of a range of `UnicodeData.txt`, and
+/// [`FileError::Memory`] if an allocation fails.
 pub fn read_writes(
     alloc: Global,
     input: &[u8],
     columns: Columns<'_>,
     numbering: Numbering<'_>,
-) -> Result<Vec<Write<u32>>, FileFault>
+) -> Result<Vec<Write<u32>>, FileError>
     ensures ok { IfOk result (λ writes. (said : List Statement)
         × AreStatements columns.entry numbering.entry input.now said
         × (writes.items ≡ writes_of said)) }
-    ensures line { (k : ℕ) (f : LineFault) → IfErr result (λ e. e ≡ Line k f
+    ensures line { (k : ℕ) (f : LineError) → IfErr result (λ e. e ≡ Line k f
         → IsFirstFault columns.entry numbering.entry input.now k f) }
     ensures unfinished { IfErr result (λ e. e ≡ Unfinished
         → IsUnfinished columns.entry numbering.entry input.now) }

@@ -5,7 +5,7 @@ ghost use Rattle.ucd_files.specs.Fields.{after_mark};
 ghost use Rattle.ucptab_table.specs.TableText.{code_points_of, write_at};
 ghost use Rattle.ucd_files.specs.Statements.{checked_points, content_in, explicit_statement, field_text, is_paired, is_same_range, is_simple, is_split, joined, later_field, missing_statement, missing_text, points_of, property_value, some_text, statement_of, text_of_missing, untagged, value_text, write_of};
 
-use crate::fault::LineFault;
+use crate::error::LineError;
 use crate::fields::{
     after_mark, column, ends_in_first, ends_in_last, field, has_field, marks_range, missing_of,
 };
@@ -172,21 +172,21 @@ pub(crate) fn missing_text<'t>(columns: Columns<'_>, content: &'t [u8]) -> Optio
 
 /// Returns the code points if they are code points and in order.
 #[tactic(auto, unfolding(crate::specs::Statements::checked_points))]
-fn checked_points(points: Option<CodePoints>) -> Result<CodePoints, LineFault>
+fn checked_points(points: Option<CodePoints>) -> Result<CodePoints, LineError>
     ensures { result ≡ checked_points points }
 {
     let Some(points) = points else {
-        return Err(LineFault::NotCodePoints);
+        return Err(LineError::NotCodePoints);
     };
     let (start, end) = match points {
         CodePoints::Single(code_point) => (code_point, code_point),
         CodePoints::Span(start, end) => (start, end),
     };
     if start >= CODE_POINT_LIMIT || end >= CODE_POINT_LIMIT {
-        return Err(LineFault::CodePoint);
+        return Err(LineError::CodePoint);
     }
     if start > end {
-        return Err(LineFault::Reversed);
+        return Err(LineError::Reversed);
     }
     Ok(points)
 }
@@ -258,7 +258,7 @@ fn marked_points(text: &[u8]) -> Option<CodePoints>
 
 /// Returns the code points of a line after the line `previous`.
 #[tactic(auto, unfolding(crate::specs::Statements::points_of))]
-fn points_of(columns: Columns<'_>, previous: &[u8], content: &[u8]) -> Result<CodePoints, LineFault>
+fn points_of(columns: Columns<'_>, previous: &[u8], content: &[u8]) -> Result<CodePoints, LineError>
     ensures { result ≡ points_of columns.entry previous.now content.now }
 {
     let own = code_points_of(field(0, content));
@@ -287,15 +287,15 @@ fn write_of(
     numbering: Numbering<'_>,
     points: CodePoints,
     text: &[u8],
-) -> Result<Write<u32>, LineFault>
+) -> Result<Write<u32>, LineError>
     ensures { result ≡ write_of numbering.entry points text.now }
 {
     if text.is_empty() {
-        return Err(LineFault::NoValue);
+        return Err(LineError::NoValue);
     }
     match number_of(numbering, text) {
         Some(number) => Ok(write_at(points, number)),
-        None => Err(LineFault::UnknownValue),
+        None => Err(LineError::UnknownValue),
     }
 }
 
@@ -306,7 +306,7 @@ fn explicit_statement(
     numbering: Numbering<'_>,
     previous: &[u8],
     content: &[u8],
-) -> Result<Option<Statement>, LineFault>
+) -> Result<Option<Statement>, LineError>
     ensures { result ≡ explicit_statement columns.entry numbering.entry previous.now content.now }
 {
     let points = points_of(columns, previous, content)?;
@@ -339,7 +339,7 @@ fn missing_statement(
     columns: Columns<'_>,
     numbering: Numbering<'_>,
     content: &[u8],
-) -> Result<Option<Statement>, LineFault>
+) -> Result<Option<Statement>, LineError>
     ensures { result ≡ missing_statement columns.entry numbering.entry content.now }
 {
     let points = checked_points(code_points_of(field(0, content)))?;
@@ -354,19 +354,19 @@ fn missing_statement(
 /// another property.
 ///
 /// # Errors
-/// Returns what is wrong with the line, by the first of the tests in [`LineFault`].
+/// Returns what is wrong with the line, by the first of the tests in [`LineError`].
 #[tactic(auto, unfolding(crate::specs::Statements::statement_of))]
 pub fn statement_of(
     columns: Columns<'_>,
     numbering: Numbering<'_>,
     previous: &[u8],
     line: &[u8],
-) -> Result<Option<Statement>, LineFault>
+) -> Result<Option<Statement>, LineError>
     ensures { result ≡ statement_of columns.entry numbering.entry previous.now line.now }
 {
     let content = content_in(columns, line);
     if !is_paired(columns, previous, content) {
-        return Err(LineFault::Unpaired);
+        return Err(LineError::Unpaired);
     }
     if let Some(missing) = missing_of(line) {
         return missing_statement(columns, numbering, missing);
@@ -375,7 +375,7 @@ pub fn statement_of(
         return Ok(None);
     }
     if is_split(columns, line) {
-        return Err(LineFault::SplitRange);
+        return Err(LineError::SplitRange);
     }
     explicit_statement(columns, numbering, previous, content)
 }

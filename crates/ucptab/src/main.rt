@@ -9,7 +9,7 @@ use std::io::{self, ErrorKind, Read, Write};
 use std::marker::Brand;
 use std::process::ExitCode;
 use std::sync::ledger::{Blank, Ledger};
-use ucptab_table::fault::{RowFault, TableError};
+use ucptab_table::error::{RowError, TableError};
 use ucptab_table::message::row_line_message;
 use ucptab_table::streams::{Failed, Sink, Source};
 use ucptab_table::text::write_fault;
@@ -25,7 +25,7 @@ struct Input<R: Read, L: Ledger> {
     failures: Steps<L>,
     error: Option<io::Error>,
     /// The line's number, counted from 1, and its fault.
-    fault: Option<(u64, RowFault)>,
+    fault: Option<(u64, RowError)>,
     line: Vec<u8>,
 }
 
@@ -45,7 +45,7 @@ impl<R: Read, L: Ledger> Source for Input<R, L> {
         }
     }
 
-    fn note_fault(&mut self, number: u64, line: &[u8], fault: RowFault) {
+    fn note_fault(&mut self, number: u64, line: &[u8], fault: RowError) {
         if self.line.extend_from_slice(line).is_ok() {
             self.fault = Some((number, fault));
         }
@@ -99,7 +99,7 @@ fn say(rt: &HostRuntime, stream: &str, failure: &Option<io::Error>) {
 }
 
 /// Says on standard error which line is not a row, what was expected of it, and a hint.
-fn say_fault(rt: &HostRuntime, number: u64, fault: RowFault, line: &[u8]) {
+fn say_fault(rt: &HostRuntime, number: u64, fault: RowError, line: &[u8]) {
     if let Ok(message) = row_line_message(rt.alloc(), INPUT, number, fault, line) {
         let _ = eprintln!(rt; "ucptab: {message}");
     }

@@ -6,8 +6,8 @@ use Rattle.std.specs.Str.Lines.{lines}
 use Rattle.std.proofs.lemmas.List.{drop_more, take_more, take-append-drop, append-nil, length-drop}
 use Rattle.std.proofs.lemmas.List.Elements.{All-push, filter_map-append}
 use Rattle.icu_trie_builder.specs.declared.writes.Write.{Write}
-use Rattle.ucptab_table.specs.declared.fault.RowFault.{RowFault}
-use Rattle.ucptab_table.specs.declared.fault.TableError.TheVariants.{Row}
+use Rattle.ucptab_table.specs.declared.error.RowError.{RowError}
+use Rattle.ucptab_table.specs.declared.error.TableError.TheVariants.{Row}
 use Rattle.ucptab_table.specs.TableText.{row_of, write_of, IsFaultless, AreRows, IsFirstFault}
 
 -- The first line that is left is the line at this index.
@@ -48,7 +48,7 @@ module _ (all : List (List ℕ)) (n : ℕ) (line : List ℕ) (more : List (List 
       (ap (λ x. filter_map write_of (take n all) ++ x) (option_as_list said))
 
 -- a line with a fault, after lines with none
-pub first_fault : (input : List ℕ) (n : ℕ) (line : List ℕ) (more : List (List ℕ)) (f : RowFault) → drop n (lines input) ≡ line ∷ more
+pub first_fault : (input : List ℕ) (n : ℕ) (line : List ℕ) (more : List (List ℕ)) (f : RowError) → drop n (lines input) ≡ line ∷ more
     → row_of line ≡ Err f
     → All IsFaultless (take n (lines input)) → IsFirstFault input (n + 1) f
 first_fault input n line more f left is faultless =
@@ -57,7 +57,7 @@ first_fault input n line more f left is faultless =
     record { counted = omega arith; faulty = rw (back, here) is; faultless_before = rw back faultless }
 
 -- the same, as an answer names it
-pub first_fault_named : (input : List ℕ) (n : ℕ) (line : List ℕ) (more : List (List ℕ)) (f : RowFault) (k : ℕ) (g : RowFault)
+pub first_fault_named : (input : List ℕ) (n : ℕ) (line : List ℕ) (more : List (List ℕ)) (f : RowError) (k : ℕ) (g : RowError)
     → Row (n + 1) f ≡ Row k g
     → drop n (lines input) ≡ line ∷ more → row_of line ≡ Err f → All IsFaultless (take n (lines input)) → IsFirstFault input k g
 first_fault_named input n line more f k g same left is faultless =

@@ -3,11 +3,11 @@ use Rattle.std.specs.Prelude.{ℕ, ◌-◌, nat_le, nat_lt, ◌&&◌, ◌==◌, 
 use Rattle.std.specs.List.{flat_map}
 use Rattle.std.specs.Fmt.{digits}
 use Rattle.ucptab_table.specs.Hints.{hint_of}
-use Rattle.ucptab_table.specs.declared.fault.RowFault.{RowFault}
-use Rattle.ucptab_table.specs.declared.fault.RowFault.TheVariants.{NotARow, CodePoint, Reversed, Value}
+use Rattle.ucptab_table.specs.declared.error.RowError.{RowError}
+use Rattle.ucptab_table.specs.declared.error.RowError.TheVariants.{NotARow, CodePoint, Reversed, Value}
 
 -- What the test of a row that failed expects.
-abbrev pub expected_text : RowFault → List ℕ
+abbrev pub expected_text : RowError → List ℕ
 expected_text NotARow = codes "HEX;VALUE or HEX..HEX;VALUE"
 expected_text CodePoint = codes "code points up to 10FFFF"
 expected_text Reversed = codes "a range whose end is not below its start"
@@ -39,11 +39,11 @@ line_message_text input number expected line =
     ++ quoted line
 
 -- `: HINT` if the line does not have the form of a row.
-abbrev pub hint_text : RowFault → List ℕ → List ℕ
+abbrev pub hint_text : RowError → List ℕ → List ℕ
 hint_text NotARow line = codes ": " ++ hint_of line
 hint_text _ line = []
 
 -- The same about a row's fault, and what is wrong with its form.
-abbrev pub row_message_text : List ℕ → ℕ → RowFault → List ℕ → List ℕ
+abbrev pub row_message_text : List ℕ → ℕ → RowError → List ℕ → List ℕ
 row_message_text input number fault line =
     line_message_text input number (expected_text fault) line ++ hint_text fault line

@@ -15,10 +15,10 @@ use Rattle.icu_trie_builder.specs.declared.writes.Write.{Write}
 use Rattle.icu_trie_builder.specs.declared.writes.Write.TheVariants.{One, Range}
 use Rattle.icu_trie_builder.specs.Bounds.{IsTooLarge}
 use Rattle.icu_trie_builder.specs.Writes.{answer_after, value_after}
-use Rattle.ucptab_table.specs.declared.fault.RowFault.{RowFault}
-use Rattle.ucptab_table.specs.declared.fault.RowFault.TheVariants.{NotARow, CodePoint, Reversed, Value}
-use Rattle.ucptab_table.specs.declared.fault.TableError.{TableError}
-use Rattle.ucptab_table.specs.declared.fault.TableError.TheVariants.{Row, TooLarge, Memory, Read, Write as WriteFault}
+use Rattle.ucptab_table.specs.declared.error.RowError.{RowError}
+use Rattle.ucptab_table.specs.declared.error.RowError.TheVariants.{NotARow, CodePoint, Reversed, Value}
+use Rattle.ucptab_table.specs.declared.error.TableError.{TableError}
+use Rattle.ucptab_table.specs.declared.error.TableError.TheVariants.{Row, TooLarge, Memory, Read, Write as WriteFailed}
 use Rattle.ucptab_table.specs.declared.rows.CodePoints.{CodePoints}
 use Rattle.ucptab_table.specs.declared.rows.CodePoints.TheVariants.{Single, Span}
 
@@ -93,7 +93,7 @@ write_at (Span start end) value =
     Range (record { start = start; end = end; exhausted = false }) value
 
 -- the write of a row, or the first fault of its numbers
-unfoldable pub row_of_numbers : CodePoints → ℕ → Result (Write ℕ) RowFault
+unfoldable pub row_of_numbers : CodePoints → ℕ → Result (Write ℕ) RowError
 row_of_numbers points value =
     if nat_le code_point_limit (first_of points) || nat_le code_point_limit (last_of points)
     then Err CodePoint
@@ -102,13 +102,13 @@ row_of_numbers points value =
     else Ok (write_at points value)))
 
 -- the same from the two fields of a row
-abbrev pub row_of_fields : Option CodePoints → Option ℕ → Result (Write ℕ) RowFault
+abbrev pub row_of_fields : Option CodePoints → Option ℕ → Result (Write ℕ) RowError
 row_of_fields None value = Err NotARow
 row_of_fields (Some points) None = Err NotARow
 row_of_fields (Some points) (Some value) = row_of_numbers points value
 
 -- the one write, or the fault
-abbrev pub some_write : Result (Write ℕ) RowFault → Result (Option (Write ℕ)) RowFault
+abbrev pub some_write : Result (Write ℕ) RowError → Result (Option (Write ℕ)) RowError
 some_write (Ok write) = Ok (Some write)
 some_write (Err fault) = Err fault
 
@@ -119,7 +119,7 @@ content_of line = trimmed (before 35 line)
 
 -- what a line says: nothing if its content is empty, and otherwise the write of the row `CODE
 -- POINTS ; N`, or its fault
-unfoldable pub row_of : List ℕ → Result (Option (Write ℕ)) RowFault
+unfoldable pub row_of : List ℕ → Result (Option (Write ℕ)) RowError
 row_of line =
     let content = content_of line in
     if length content == 0 then Ok None
@@ -141,7 +141,7 @@ pub record AreRows (input : List ℕ) (ws : List (Write ℕ)) : Type 0 where
   pub writes : ws ≡ filter_map write_of (lines input)
 
 -- line k of the input, counted from 1, has the fault f, and no line before it has a fault
-pub record IsFirstFault (input : List ℕ) (k : ℕ) (f : RowFault) : Type 0 where
+pub record IsFirstFault (input : List ℕ) (k : ℕ) (f : RowError) : Type 0 where
   pub counted : 0 < k
   pub faulty : IsSomeAnd (slice_get (lines input) (k - 1)) (λ line. row_of line ≡ Err f)
   pub faultless_before : All IsFaultless (take (k - 1) (lines input))
@@ -190,7 +190,7 @@ IsTableText input default error asked text = (ws : List (Write ℕ)) × (AreRows
     × IsTextOfMap (value_after ws default) (answer_after default error ws) asked text)
 
 -- What is printed for a row's fault, without the LF.
-abbrev pub row_fault_text : RowFault → List ℕ
+abbrev pub row_fault_text : RowError → List ℕ
 row_fault_text NotARow = codes "not a row"
 row_fault_text CodePoint = codes "code point too large"
 row_fault_text Reversed = codes "range reversed"
@@ -202,7 +202,7 @@ fault_text (Row k f) = codes "line " ++ (decimal k ++ (codes ": " ++ row_fault_t
 fault_text TooLarge = codes "too large"
 fault_text Memory = codes "no memory"
 fault_text Read = codes "read fault"
-fault_text WriteFault = codes "write fault"
+fault_text WriteFailed = codes "write fault"
 
 -- no line of the input has a fault, and its writes over the default make a map that has too many
 -- different blocks for a trie
@@ -215,7 +215,7 @@ IsTooLargeInput default input =
 -- too large. At a read fault the count of failed reads rose
 pub record HasCause (default : ℕ) (before after : Option (List ℕ))
     (failures_before failures_after : ℕ) (fault : TableError) : Type 0 where
-  pub row : (k : ℕ) (f : RowFault) → fault ≡ Row k f
+  pub row : (k : ℕ) (f : RowError) → fault ≡ Row k f
       → IfSome before (λ input. IsFirstFault input k f) × IsAtEnd after
   pub too_large : fault ≡ TooLarge → IfSome before (IsTooLargeInput default) × IsAtEnd after
   pub read : fault ≡ Read → failures_before < failures_after

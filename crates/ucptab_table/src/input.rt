@@ -3,10 +3,10 @@ ghost use Rattle.std.specs.Prelude.{◌≡◌, ◌⊎◌, ◌<◌, ◌-◌, ℕ,
 ghost use Rattle.std.specs.Io.KnownBytes.{IsAtEnd};
 ghost use Rattle.std.specs.Str.Lines.{lines, strip_carriage_return};
 ghost use Rattle.ucptab_table.specs.TableText.{AreRows, IsFirstFault};
-ghost use Rattle.ucptab_table.specs.declared.fault.RowFault.{RowFault};
-ghost use Rattle.ucptab_table.specs.declared.fault.TableError.TheVariants.{Row, Memory, Read};
+ghost use Rattle.ucptab_table.specs.declared.error.RowError.{RowError};
+ghost use Rattle.ucptab_table.specs.declared.error.TableError.TheVariants.{Row, Memory, Read};
 
-use crate::fault::TableError;
+use crate::error::TableError;
 use crate::rows::{position_or_len, row_of};
 use crate::streams::{Failed, Source};
 use icu_trie_builder::writes::Write;
@@ -94,9 +94,9 @@ pub fn line_at(input: &[u8], number: u64) -> Option<&[u8]>
 /// [`TableError::Memory`] if an allocation fails.
 pub fn read_rows(alloc: Global, input: &[u8]) -> Result<Vec<Write<u32>>, TableError>
     ensures ok { IfOk result (λ writes. AreRows input.now writes.items) }
-    ensures row { (k : ℕ) (f : RowFault) → IfErr result (λ e. e ≡ Row k f
+    ensures row { (k : ℕ) (f : RowError) → IfErr result (λ e. e ≡ Row k f
         → IsFirstFault input.now k f) }
-    ensures no_other { IfErr result (λ e. (e ≡ Memory) ⊎ ((k : ℕ) × ((f : RowFault)
+    ensures no_other { IfErr result (λ e. (e ≡ Memory) ⊎ ((k : ℕ) × ((f : RowError)
         × (e ≡ Row k f)))) }
 {
     let mut writes = Vec::new(alloc);
@@ -129,9 +129,9 @@ pub fn read_shown_rows<S: Source>(
     reader: &mut S,
 ) -> Result<Vec<Write<u32>>, TableError>
     ensures ok { IfOk result (λ writes. AreRows input.now writes.items) }
-    ensures row { (k : ℕ) (f : RowFault) → IfErr result (λ e. e ≡ Row k f
+    ensures row { (k : ℕ) (f : RowError) → IfErr result (λ e. e ≡ Row k f
         → IsFirstFault input.now k f) }
-    ensures no_other { IfErr result (λ e. (e ≡ Memory) ⊎ ((k : ℕ) × ((f : RowFault)
+    ensures no_other { IfErr result (λ e. (e ≡ Memory) ⊎ ((k : ℕ) × ((f : RowError)
         × (e ≡ Row k f)))) }
     ensures remaining { S.remaining reader.new ≡ S.remaining reader.old }
     ensures failures { S.failures reader.new ≡ S.failures reader.old }

@@ -9,11 +9,11 @@ ghost use Rattle.icu_trie_builder.specs.Bounds.{IsTooLarge};
 ghost use Rattle.icu_trie_builder.specs.Writes.{answer_after, value_after};
 ghost use Rattle.ucptab_table.specs.TableText.{fault_text, hexadecimal, HasCause, IsTableText, IsTextOfMap};
 ghost use Rattle.ucptab_table.specs.Words.{arguments_of};
-ghost use Rattle.ucptab_table.specs.declared.fault.TableError.{TableError};
-ghost use Rattle.ucptab_table.specs.declared.fault.TableError.TheVariants.{Memory, TooLarge, Write as WriteFault};
+ghost use Rattle.ucptab_table.specs.declared.error.TableError.{TableError};
+ghost use Rattle.ucptab_table.specs.declared.error.TableError.TheVariants.{Memory, TooLarge, Write as WriteFailed};
 
 pub mod digits;
-pub mod fault;
+pub mod error;
 pub mod hint;
 pub mod input;
 pub mod message;
@@ -23,7 +23,7 @@ pub mod streams;
 pub mod text;
 pub mod words;
 
-use crate::fault::TableError;
+use crate::error::TableError;
 use crate::input::{read_all, read_shown_rows};
 use crate::streams::{Failed, Sink, Source};
 use crate::text::{answers_text, ranges_text, write_fault};
@@ -77,7 +77,7 @@ fn table_text<S: Source>(
     ensures counted { IfOk result (λ _. S.failures reader.new ≡ S.failures reader.old) }
     ensures cause { IfErr result (HasCause default (S.remaining reader.old) (S.remaining reader.new)
         (S.failures reader.old) (S.failures reader.new)) }
-    ensures no_write { IfErr result (λ e. e ≢ WriteFault) }
+    ensures no_write { IfErr result (λ e. e ≢ WriteFailed) }
 {
     let input = read_all(alloc, reader)?;
     let writes = read_shown_rows(alloc, &input, reader)?;
@@ -107,8 +107,8 @@ pub fn run<S: Source, W: Sink>(
     ensures cause { IfErr result (HasCause default (S.remaining reader.old) (S.remaining reader.new)
         (S.failures reader.old) (S.failures reader.new)) }
     ensures write_fault { IfErr result
-        (λ e. e ≡ WriteFault → W.failures writer.old < W.failures writer.new) }
-    ensures before { IfErr result (λ e. e ≢ WriteFault → writer.new ≡ writer.old) }
+        (λ e. e ≡ WriteFailed → W.failures writer.old < W.failures writer.new) }
+    ensures before { IfErr result (λ e. e ≢ WriteFailed → writer.new ≡ writer.old) }
 {
     let text = table_text(alloc, trie_type, default, error, asked, reader)?;
     match writer.write(text.as_bytes()) {
@@ -143,8 +143,8 @@ fn answer<S: Source, W: Sink>(
         (S.remaining reader.new)
         (S.failures reader.old) (S.failures reader.new)) }
     ensures write_fault { IfErr result
-        (λ e. e ≡ WriteFault → W.failures writer.old < W.failures writer.new) }
-    ensures before { IfErr result (λ e. e ≢ WriteFault → writer.new ≡ writer.old) }
+        (λ e. e ≡ WriteFailed → W.failures writer.old < W.failures writer.new) }
+    ensures before { IfErr result (λ e. e ≢ WriteFailed → writer.new ≡ writer.old) }
 {
     let asked = asked_numbers(alloc, request.asked)?;
     run(
@@ -185,7 +185,7 @@ pub fn run_words<S: Source, W: Sink>(
     // is read before the usage line.
     ensures fault_line { result ≡ 1 → W.failures writer.new ≡ W.failures writer.old
         → IfSome (arguments_of (map string_bytes words.now)) (λ a. (fault : TableError)
-        × (fault ≢ WriteFault
+        × (fault ≢ WriteFailed
         × (HasCause a.default (S.remaining reader.old) (S.remaining reader.new)
         (S.failures reader.old) (S.failures reader.new) fault
         × Appends (W.contents writer.old) (W.contents writer.new) (fault_text fault ++ 10 ∷ [])))) }

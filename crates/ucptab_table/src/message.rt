@@ -4,7 +4,7 @@ ghost use Rattle.std.specs.List.{flat_map};
 ghost use Rattle.std.specs.Str.Lines.{lines};
 ghost use Rattle.ucptab_table.specs.Messages.{is_plain, line_message_text, quoted, row_message_text, shown_byte};
 
-use crate::fault::RowFault;
+use crate::error::RowError;
 use crate::hint::hint;
 use crate::input::line_at;
 use std::alloc::{AllocError, Global};
@@ -101,14 +101,14 @@ pub fn row_line_message(
     alloc: Global,
     input: &str,
     number: u64,
-    fault: RowFault,
+    fault: RowError,
     line: &[u8],
 ) -> Result<String, AllocError>
     ensures { IfOk result (λ text. string_bytes text
         ≡ row_message_text input.now number fault line.now) }
 {
     let mut text = line_message(alloc, input, number, fault.expected(), line)?;
-    if matches!(fault, RowFault::NotARow) {
+    if matches!(fault, RowError::NotARow) {
         text.push_str(": ")?;
         text.push_str(hint(line))?;
     }
@@ -124,7 +124,7 @@ pub fn row_message(
     input: &str,
     bytes: &[u8],
     number: u64,
-    fault: RowFault,
+    fault: RowError,
 ) -> Result<String, AllocError>
     ensures { 0 < number → IfOk result (λ text. string_bytes text
         ≡ row_message_text input.now number fault

@@ -4,7 +4,7 @@ ghost use Rattle.std.specs.List.{position_or_len};
 ghost use Rattle.ucptab_table.specs.TableText.{trim_start, trim_end, trimmed, before, after, code_points_of, row_of_numbers, content_of, row_of};
 
 use crate::digits::{decimal_number, hexadecimal};
-use crate::fault::RowFault;
+use crate::error::RowError;
 use icu_trie_builder::writes::Write;
 use icu_zerovec::CODE_POINT_LIMIT;
 
@@ -96,7 +96,7 @@ pub fn code_points_of(field: &[u8]) -> Option<CodePoints>
 
 /// Returns the write of a row, or the first fault of its numbers.
 #[tactic(auto, unfolding(crate::specs::TableText::row_of_numbers))]
-fn row_of_numbers(points: CodePoints, value: u64) -> Result<Write<u32>, RowFault>
+fn row_of_numbers(points: CodePoints, value: u64) -> Result<Write<u32>, RowError>
     ensures { result ≡ row_of_numbers points value }
 {
     let (start, end) = match points {
@@ -104,13 +104,13 @@ fn row_of_numbers(points: CodePoints, value: u64) -> Result<Write<u32>, RowFault
         CodePoints::Span(start, end) => (start, end),
     };
     if start >= CODE_POINT_LIMIT || end >= CODE_POINT_LIMIT {
-        return Err(RowFault::CodePoint);
+        return Err(RowError::CodePoint);
     }
     if start > end {
-        return Err(RowFault::Reversed);
+        return Err(RowError::Reversed);
     }
     let Ok(value) = u32::try_from(value) else {
-        return Err(RowFault::Value);
+        return Err(RowError::Value);
     };
     match points {
         CodePoints::Single(code_point) => Ok(Write::One(code_point, value)),
@@ -129,9 +129,9 @@ pub fn content_of(line: &[u8]) -> &[u8]
 /// Returns the write of a line, or `None` if the line is blank or a comment.
 ///
 /// # Errors
-/// Returns what is wrong with the line, by the first of the tests in [`RowFault`].
+/// Returns what is wrong with the line, by the first of the tests in [`RowError`].
 #[tactic(auto, unfolding(crate::specs::TableText::row_of))]
-pub fn row_of(line: &[u8]) -> Result<Option<Write<u32>>, RowFault>
+pub fn row_of(line: &[u8]) -> Result<Option<Write<u32>>, RowError>
     ensures { result ≡ row_of line.now }
 {
     let content = content_of(line);
@@ -139,10 +139,10 @@ pub fn row_of(line: &[u8]) -> Result<Option<Write<u32>>, RowFault>
         return Ok(None);
     }
     let Some(points) = code_points_of(trimmed(before(b';', content))) else {
-        return Err(RowFault::NotARow);
+        return Err(RowError::NotARow);
     };
     let Some(value) = decimal_number(trimmed(after(b';', content))) else {
-        return Err(RowFault::NotARow);
+        return Err(RowError::NotARow);
     };
     let write = row_of_numbers(points, value)?;
     Ok(Some(write))

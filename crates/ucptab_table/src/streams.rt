@@ -3,7 +3,7 @@ ghost use Rattle.std.specs.Prelude.{◌≡◌, ℕ, ◌+◌, ◌<◌, List, Opti
 ghost use Rattle.std.specs.Io.{ReadsAtMost};
 ghost use Rattle.std.specs.Io.KnownBytes.{Appends, Consumes, IsAtEnd};
 
-use crate::fault::RowFault;
+use crate::error::RowError;
 
 /// A read or a write failed.
 #[derive(Clone, Copy, Debug, PartialEq, Eq)]
@@ -32,7 +32,7 @@ pub trait Source {
 
     /// Is called with the first line that is not a row, its number, counted from 1, and its fault.
     /// What is left to read stays the same.
-    fn note_fault(&mut self, number: u64, line: &[u8], fault: RowFault)
+    fn note_fault(&mut self, number: u64, line: &[u8], fault: RowError)
         ensures remaining { remaining self.new ≡ remaining self.old }
         ensures failures { failures self.new ≡ failures self.old };
 }

@@ -8,7 +8,7 @@ ghost use Rattle.icu_trie_core.specs.Runs.{Run, AreMaximalRuns};
 ghost use Rattle.ucptab_table.specs.TableText.{answer_line, answers_text, fault_text, hex_text, run_line, runs_text};
 ghost use Rattle.ucptab_table.specs.Inside.Ranges.{run_of_values};
 
-use crate::fault::TableError;
+use crate::error::TableError;
 use crate::streams::{Failed, Sink};
 use icu_trie::cptrie::CodePointTrie;
 use icu_trie_core::range::CodePointMapRange;

@@ -1,5 +1,5 @@
 //! The files of aliases: the names of properties and of their values.
-use crate::fault::{Fault, said};
+use crate::error::{Error, said};
 use crate::properties::{push_listed, push_new};
 use crate::streams::{text_at, without_mark};
 use crate::unicode_files::are_names_of_one;
@@ -46,7 +46,7 @@ fn push_file(aliases: &mut Aliases, text: &[u8]) -> Result<(), AllocError> {
 }
 
 /// Reads the files of aliases that the arguments name.
-pub fn named_aliases(rt: &HostRuntime, matches: &ArgMatches<'_>) -> Result<Aliases, Fault> {
+pub fn named_aliases(rt: &HostRuntime, matches: &ArgMatches<'_>) -> Result<Aliases, Error> {
     let mut aliases = Aliases {
         values: Vec::new(rt.alloc()),
         properties: Vec::new(rt.alloc()),
@@ -135,6 +135,6 @@ fn unknown_line(alloc: Global, aliases: &Aliases, property: &str) -> Result<Stri
 }
 
 /// Returns the fault of a property of which no file of aliases has values.
-pub fn unknown_property(alloc: Global, aliases: &Aliases, property: &str) -> Fault {
+pub fn unknown_property(alloc: Global, aliases: &Aliases, property: &str) -> Error {
     said(unknown_line(alloc, aliases, property))
 }

@@ -1,6 +1,6 @@
 //! The command `build`: a table of rows, or of a file of the Unicode Character Database.
 use crate::compressed::expect_lines;
-use crate::fault::{Fault, about, said};
+use crate::error::{Error, about, said};
 use crate::forms::is_made;
 use crate::names::expect_names;
 use crate::tables::{form, number, trie_type, width};
@@ -10,12 +10,12 @@ use clap::ArgMatches;
 use icu_trie_core::header::TrieType;
 use std::alloc::{AllocError, Global};
 use ucd_files::kind::{FileKind, kind_of};
-use ucptab_table::fault::{RowFault, TableError};
+use ucptab_table::error::{RowError, TableError};
 use ucptab_table::input::line_at;
 use ucptab_table::message::row_message;
 use ucptab_table::rows::{after, before, code_points_of, content_of, trimmed};
 use ucptrie_tables::built;
-use ucptrie_tables::fault::BuildFault;
+use ucptrie_tables::error::TableBuildError;
 use ucptrie_tables::stated::stated_values;
 use ucptrie_tables::table::TableOptions;
 use ucptrie_tables::width::ValueWidth;
@@ -58,10 +58,10 @@ fn row_line(
     name: &str,
     rows: &[u8],
     number: u64,
-    fault: RowFault,
+    fault: RowError,
 ) -> Result<String, AllocError> {
     let mut line = row_message(alloc, name, rows, number, fault)?;
-    if matches!(fault, RowFault::NotARow) && has_name(line_at(rows, number).unwrap_or(&[])) {
+    if matches!(fault, RowError::NotARow) && has_name(line_at(rows, number).unwrap_or(&[])) {
         line.push_str("; for names give --format properties")?;
     }
     Ok(line)
@@ -69,14 +69,14 @@ fn row_line(
 
 /// Returns the fault of rows that make no table, or of a table that is not written. `name` is what
 /// they were read from.
-pub fn unbuilt(alloc: Global, name: &str, rows: &[u8], fault: BuildFault) -> Fault {
+pub fn unbuilt(alloc: Global, name: &str, rows: &[u8], fault: TableBuildError) -> Error {
     match fault {
-        BuildFault::Table(TableError::Memory) => Fault::Memory,
-        BuildFault::Table(TableError::TooLarge) => {
+        TableBuildError::Table(TableError::Memory) => Error::Memory,
+        TableBuildError::Table(TableError::TooLarge) => {
             let why = "too large: more different blocks of values than fit into a trie";
             about(alloc, name, why)
         }
-        BuildFault::Table(TableError::Row(number, fault)) => {
+        TableBuildError::Table(TableError::Row(number, fault)) => {
             said(row_line(alloc, name, rows, number, fault))
         }
         _ => about(alloc, name, fault),
@@ -89,12 +89,12 @@ fn build_rows(
     matches: &ArgMatches<'_>,
     name: &str,
     rows: &[u8],
-) -> Result<Vec<u8>, Fault> {
+) -> Result<Vec<u8>, Error> {
     let options = options_of_rows(matches, rows);
     let form = form(matches);
     match built(alloc, rows, options, form) {
         Ok(bytes) => Ok(with_names(alloc, matches, bytes, form, options.width, &[])?),
-        Err(BuildFault::Width(value, width)) => {
+        Err(TableBuildError::Width(value, width)) => {
             let place = row_with(rows, value);
             Err(too_wide(alloc, matches, name, place, value, width))
         }
@@ -116,7 +116,7 @@ fn build_lines(
     matches: &ArgMatches<'_>,
     name: &str,
     file: &[u8],
-) -> Result<Vec<u8>, Fault> {
+) -> Result<Vec<u8>, Error> {
     let option = option_of_files(matches);
     let kind = match named_kind(matches) {
         Some(kind) => kind,
@@ -136,10 +136,10 @@ pub fn build(
     matches: &ArgMatches<'_>,
     name: &str,
     file: &[u8],
-) -> Result<Vec<u8>, Fault> {
+) -> Result<Vec<u8>, Error> {
     expect_lines(rt.alloc(), name, file)?;
     match build_lines(rt, matches, name, file) {
-        Err(Fault::Said(_)) if named_kind(matches).is_none() && is_made(file) => {
+        Err(Error::Said(_)) if named_kind(matches).is_none() && is_made(file) => {
             let why = "expected lines: ucptrie convert reads tables, and ucptrie set reads sets";
             Err(about(rt.alloc(), name, why))
         }

@@ -1,6 +1,6 @@
 //! How the values of a file become numbers, by the arguments.
 use crate::aliases::{Aliases, name_in_values, unknown_property};
-use crate::fault::{Fault, about};
+use crate::error::{Error, about};
 use clap::ArgMatches;
 use std::alloc::Global;
 use ucd_files::choice::{Choice, NumberingKind, alias_choice, numbering_of, own_choice};
@@ -25,7 +25,7 @@ fn choice_of_aliases<'f>(
     alloc: Global,
     matches: &ArgMatches<'_>,
     file: &'f UnicodeFile<'f>,
-) -> Result<Choice<'f>, Fault> {
+) -> Result<Choice<'f>, Error> {
     let Some(property) = matches.get_str("property") else {
         let why = "--aliases needs --property, the property whose values are named";
         return Err(about(alloc, "arguments", why));
@@ -45,7 +45,7 @@ pub fn choice_of<'f>(
     alloc: Global,
     matches: &ArgMatches<'_>,
     file: &'f UnicodeFile<'f>,
-) -> Result<Choice<'f>, Fault> {
+) -> Result<Choice<'f>, Error> {
     if file.aliases.values.is_empty() {
         return Ok(own_choice(alloc, file.bytes, file.columns)?);
     }

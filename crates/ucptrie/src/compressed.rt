@@ -1,5 +1,5 @@
 //! Input that has to be converted first: compressed files, UTF-16 and line ends of old systems.
-use crate::fault::{CompressedInput, Fault, about, said};
+use crate::error::{CompressedInput, Error, about, said};
 use crate::heading::push_word;
 use crate::streams::INPUT;
 use std::alloc::{AllocError, Global};
@@ -50,16 +50,16 @@ pub fn expect_decompressed(
     name: &str,
     option: &'static str,
     bytes: &[u8],
-) -> Result<(), Fault> {
+) -> Result<(), Error> {
     match compression_of(bytes) {
-        Some(how) => Err(Fault::Compressed(compressed_input(alloc, name, option, how)?)),
+        Some(how) => Err(Error::Compressed(compressed_input(alloc, name, option, how)?)),
         None => Ok(()),
     }
 }
 
 /// Returns a fault if bytes that are to be text are compressed or start as UTF-16. `name` is what
 /// they were read from.
-pub fn expect_text(alloc: Global, name: &str, bytes: &[u8]) -> Result<(), Fault> {
+pub fn expect_text(alloc: Global, name: &str, bytes: &[u8]) -> Result<(), Error> {
     expect_decompressed(alloc, name, "", bytes)?;
     if bytes.starts_with(b"\xfe\xff".as_slice()) || bytes.starts_with(b"\xff\xfe".as_slice()) {
         return Err(about(alloc, name, "found UTF-16: convert it to UTF-8"));
@@ -69,7 +69,7 @@ pub fn expect_text(alloc: Global, name: &str, bytes: &[u8]) -> Result<(), Fault>
 
 /// Returns a fault if the lines of a text end in CR alone: it has no LF, but CR before its end.
 /// `name` is what it was read from.
-pub fn expect_line_feeds(alloc: Global, name: &str, text: &[u8]) -> Result<(), Fault> {
+pub fn expect_line_feeds(alloc: Global, name: &str, text: &[u8]) -> Result<(), Error> {
     let body = text.strip_suffix(b"\r".as_slice()).unwrap_or(text);
     if body.contains(&b'\r') && !text.contains(&b'\n') {
         let why = "a CR has no LF after it: lines end with LF or CR LF";
@@ -107,7 +107,7 @@ fn cr_line(alloc: Global, name: &str, number: u64) -> Result<String, AllocError>
 
 /// Returns a fault if bytes that are to be lines start as in another format, or if a CR has no LF
 /// after it. `name` is what they were read from.
-pub fn expect_lines(alloc: Global, name: &str, bytes: &[u8]) -> Result<(), Fault> {
+pub fn expect_lines(alloc: Global, name: &str, bytes: &[u8]) -> Result<(), Error> {
     expect_text(alloc, name, bytes)?;
     match line_with_cr(bytes) {
         Some(number) => Err(said(cr_line(alloc, name, number))),

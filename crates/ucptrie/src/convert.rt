@@ -1,6 +1,6 @@
 //! The command `convert`: a table in another form, or of another type, width or error value.
 use crate::build::unbuilt;
-use crate::fault::{Fault, about};
+use crate::error::{Error, about};
 use crate::names::{expect_names, is_list, say_many};
 use crate::offsets::start_of;
 use crate::tables::{file_in, form, number, table_of_property, trie_type, width};
@@ -8,12 +8,12 @@ use crate::unicode_files::with_names;
 use crate::wide::too_wide_in;
 use clap::ArgMatches;
 use std::alloc::Global;
-use ucptrie_tables::fault::BuildFault;
+use ucptrie_tables::error::TableBuildError;
 use ucptrie_tables::parsed::ParsedFile;
 use ucptrie_tables::properties::property_names;
 use ucptrie_tables::rebuild::rebuilt;
 use ucptrie_tables::table::Table;
-use ucptrie_tables::toml_names::NamesFault;
+use ucptrie_tables::toml_names::NamesError;
 use ucptrie_tables::width::ValueWidth;
 use ucptrie_tables::written::{Form, written};
 
@@ -24,7 +24,7 @@ fn changed(
     matches: &ArgMatches<'_>,
     name: &str,
     table: Table,
-) -> Result<Table, Fault> {
+) -> Result<Table, Error> {
     let (kind, bits) = (trie_type(matches), width(matches));
     let error = number(matches, "error");
     if kind.is_none() && bits.is_none() && error.is_none() {
@@ -36,7 +36,7 @@ fn changed(
     let error = error.unwrap_or(table.trie.error_value());
     match rebuilt(alloc, &table, kind, bits, error) {
         Ok(table) => Ok(table),
-        Err(BuildFault::Width(value, width)) => {
+        Err(TableBuildError::Width(value, width)) => {
             Err(too_wide_in(alloc, matches, name, &table, value, width))
         }
         Err(fault) => Err(unbuilt(alloc, name, &[], fault)),
@@ -47,7 +47,7 @@ fn changed(
 ///
 /// Rows are ranges. The ranges of a table that is not coherent may differ from its values, so its
 /// rows would make another table and are not written.
-fn converted(alloc: Global, name: &str, table: &Table, form: Form<'_>) -> Result<Vec<u8>, Fault> {
+fn converted(alloc: Global, name: &str, table: &Table, form: Form<'_>) -> Result<Vec<u8>, Error> {
     if matches!(form, Form::Rows) && !table.trie.is_coherent() {
         let why = "not coherent, so its ranges may differ from its look-ups: no rows are written";
         return Err(about(alloc, name, why));
@@ -67,14 +67,14 @@ fn with_names_of_file(
     file: &ParsedFile<'_>,
     bytes: Vec<u8>,
     width: ValueWidth,
-) -> Result<Vec<u8>, Fault> {
+) -> Result<Vec<u8>, Error> {
     let form = form(matches);
     if !matches!(form, Form::C(_) | Form::Rust(_)) && !is_list(matches) {
         return Ok(with_names(rt.alloc(), matches, bytes, form, width, &[])?);
     }
     let names = match property_names(rt.alloc(), file, matches.get_str("property")) {
         Ok(names) => names,
-        Err(NamesFault::Memory) => return Err(Fault::Memory),
+        Err(NamesError::Memory) => return Err(Error::Memory),
         Err(fault) => return Err(about(rt.alloc(), name, fault)),
     };
     say_many(rt, matches, name, names.as_slice())?;
@@ -88,7 +88,7 @@ pub fn convert(
     matches: &ArgMatches<'_>,
     name: &str,
     bytes: &[u8],
-) -> Result<Vec<u8>, Fault> {
+) -> Result<Vec<u8>, Error> {
     let file = file_in(rt.alloc(), name, bytes, start_of(matches))?;
     let table = table_of_property(rt.alloc(), matches, name, &file)?;
     let table = changed(rt.alloc(), matches, name, table)?;

@@ -1,7 +1,7 @@
 //! The values of code points without a line.
 use crate::aliases::name_in_values;
 use crate::choice::UnicodeFile;
-use crate::fault::{Fault, about, said};
+use crate::error::{Error, about, said};
 use crate::properties::push_text;
 use crate::streams::say;
 use crate::unicode_files::unread;
@@ -17,7 +17,7 @@ use ucd_files::statement::Columns;
 use ucd_files::title::title_of;
 use ucptab_table::input::first_line;
 use ucptab_table::rows::{after, code_points_of, content_of, trimmed};
-use ucptrie_tables::fault::UnicodeFileFault;
+use ucptrie_tables::error::UnicodeFileError;
 
 /// Returns the line about a value that only an `@missing` line has.
 fn only_missing_line(alloc: Global, name: &str, value: &[u8]) -> Result<String, AllocError> {
@@ -36,7 +36,7 @@ pub fn test_own_names(
     alloc: Global,
     file: &UnicodeFile<'_>,
     choice: &Choice<'_>,
-) -> Result<(), Fault> {
+) -> Result<(), Error> {
     if !matches!(choice.kind, ValueKind::Own) {
         return Ok(());
     }
@@ -52,7 +52,7 @@ pub fn test_numbers(
     alloc: Global,
     file: &UnicodeFile<'_>,
     choice: &Choice<'_>,
-) -> Result<(), Fault> {
+) -> Result<(), Error> {
     if !matches!(choice.kind, ValueKind::Own) {
         return Ok(());
     }
@@ -73,7 +73,7 @@ pub fn default_of(
     numbering: Numbering<'_>,
     other: u32,
     how: &str,
-) -> Result<u32, Fault> {
+) -> Result<u32, Error> {
     let aliases = &file.aliases;
     let property = matches.get_str("property").unwrap_or("").as_bytes();
     match missing_value(
@@ -93,7 +93,7 @@ pub fn default_of(
                 file.name,
                 file.bytes,
                 numbering,
-                UnicodeFileFault::File(fault),
+                UnicodeFileError::File(fault),
             ))
         }
     }

@@ -1,6 +1,6 @@
 //! Names in source, and lists of the names of values.
 use crate::choice::{UnicodeFile, numbering};
-use crate::fault::{Fault, about};
+use crate::error::{Error, about};
 use crate::streams::say;
 use clap::ArgMatches;
 use std::alloc::{AllocError, Global};
@@ -40,7 +40,7 @@ pub fn name_in<'a>(matches: &ArgMatches<'a>) -> &'a str {
 
 /// Tests whether each name in source can start with that of the arguments, and whether in Rust it
 /// can be that of a module.
-pub fn test_name(alloc: Global, matches: &ArgMatches<'_>) -> Result<(), Fault> {
+pub fn test_name(alloc: Global, matches: &ArgMatches<'_>) -> Result<(), Error> {
     let name = name_in(matches);
     if !is_name(name) {
         let why = "expected letters, digits and _, not starting with a digit";
@@ -70,7 +70,7 @@ pub fn expect_names(
     matches: &ArgMatches<'_>,
     name: &str,
     bytes: &[u8],
-) -> Result<(), Fault> {
+) -> Result<(), Error> {
     if is_list(matches) && bytes.is_empty() {
         let why = "expected values with names for --as names, found only numbers";
         return Err(about(alloc, name, why));

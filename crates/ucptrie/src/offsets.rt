@@ -1,5 +1,5 @@
 //! Tries inside other files, as in ICU's data files.
-use crate::fault::{Fault, about, said};
+use crate::error::{Error, about, said};
 use crate::tables::number;
 use clap::ArgMatches;
 use std::alloc::{AllocError, Global};
@@ -92,7 +92,7 @@ pub fn from_trie<'b>(
     name: &str,
     bytes: &'b [u8],
     start: Start,
-) -> Result<&'b [u8], Fault> {
+) -> Result<&'b [u8], Error> {
     if let Start::At(offset) = start {
         return match bytes.get(offset as usize..) {
             Some(part) => Ok(part),

@@ -1,6 +1,6 @@
 //! Where the bytes of a table go: to standard output, into a file, or nowhere if a file is compared
 //! with them.
-use crate::fault::{Fault, about, about_arguments, said};
+use crate::error::{Error, about, about_arguments, said};
 use crate::streams::put;
 use clap::ArgMatches;
 use std::alloc::{AllocError, Global};
@@ -21,7 +21,7 @@ pub enum Target<'a> {
 }
 
 /// Returns where the arguments send the bytes.
-pub fn target_of<'a>(alloc: Global, matches: &ArgMatches<'a>) -> Result<Target<'a>, Fault> {
+pub fn target_of<'a>(alloc: Global, matches: &ArgMatches<'a>) -> Result<Target<'a>, Error> {
     match (matches.get_str("output"), matches.get_str("check")) {
         (None | Some("-"), None) => Ok(Target::Output),
         (Some(path), None) => Ok(Target::File(path)),
@@ -113,7 +113,7 @@ fn other_line(
 }
 
 /// Compares the file of this name with the bytes.
-fn check(rt: &HostRuntime, path: &str, bytes: &[u8], is_binary: bool) -> Result<(), Fault> {
+fn check(rt: &HostRuntime, path: &str, bytes: &[u8], is_binary: bool) -> Result<(), Error> {
     let found = match fs::read(rt, path) {
         Ok(found) => found,
         Err(error) => return Err(about(rt.alloc(), path, error)),
@@ -130,7 +130,7 @@ pub fn deliver(
     target: Target<'_>,
     bytes: &[u8],
     is_binary: bool,
-) -> Result<(), Fault> {
+) -> Result<(), Error> {
     match target {
         Target::Output => put(rt, bytes),
         Target::Check(path) => check(rt, path, bytes, is_binary),

@@ -1,5 +1,5 @@
 //! Files in which no line has the property or the field that is asked for.
-use crate::fault::{Fault, said};
+use crate::error::{Error, said};
 use crate::tables::number;
 use clap::ArgMatches;
 use std::alloc::{AllocError, Global};
@@ -104,7 +104,7 @@ pub fn missing_property(
     property: &str,
     name: &str,
     file: &[u8],
-) -> Fault {
+) -> Error {
     said(missing_line(alloc, columns, property, name, file))
 }
 
@@ -152,7 +152,7 @@ pub fn expect_field(
     columns: Columns<'_>,
     name: &str,
     file: &[u8],
-) -> Result<(), Fault> {
+) -> Result<(), Error> {
     match asked_field(matches, columns) {
         Some(n) if !is_field_of(n, file) => Err(said(no_field_line(alloc, name, n))),
         _ => Ok(()),

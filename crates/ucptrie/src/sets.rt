@@ -2,7 +2,7 @@
 use crate::build::unbuilt;
 use crate::choice::UnicodeFile;
 use crate::compressed::expect_lines;
-use crate::fault::{Fault, about, about_arguments};
+use crate::error::{Error, about, about_arguments};
 use crate::forms::{is_json, is_toml};
 use crate::groups::numbers_in_group;
 use crate::missing::{default_of, test_numbers, test_own_names};
@@ -26,7 +26,7 @@ use ucd_files::names::{Matching, Numbering, is_same_name, number_of};
 use ucd_files::statement::Columns;
 use ucd_files::title::title_of;
 use ucd_files::value_names::ValueNames;
-use ucptrie_sets::fault::{SetFileFault, SetWriteFault, ValueSetFault};
+use ucptrie_sets::error::{SetFileError, SetWriteError, ValueSetError};
 use ucptrie_sets::of_value::set_of_value;
 use ucptrie_sets::serialized::set_of_bytes;
 use ucptrie_sets::toml_file::{count_strings, set_of_file};
@@ -87,10 +87,10 @@ fn set_in_table(
     name: &str,
     table: &Table,
     value: u32,
-) -> Result<CodePointInversionList<'static>, Fault> {
+) -> Result<CodePointInversionList<'static>, Error> {
     match set_of_value(alloc, &table.trie, value) {
         Ok(set) => Ok(set),
-        Err(ValueSetFault::Memory) => Err(Fault::Memory),
+        Err(ValueSetError::Memory) => Err(Error::Memory),
         Err(fault) => Err(about(alloc, name, fault)),
     }
 }
@@ -101,22 +101,22 @@ fn union_in_table(
     name: &str,
     table: &Table,
     values: &[u32],
-) -> Result<CodePointInversionList<'static>, Fault> {
+) -> Result<CodePointInversionList<'static>, Error> {
     let mut union = CodePointInversionListBuilder::new(alloc);
     for value in values {
         let set = set_in_table(alloc, name, table, *value)?;
         if union.add_set(&set).is_err() {
-            return Err(Fault::Memory);
+            return Err(Error::Memory);
         }
     }
     match union.build() {
         Ok(set) => Ok(set),
-        Err(_) => Err(Fault::Memory),
+        Err(_) => Err(Error::Memory),
     }
 }
 
 /// Returns the value that the arguments ask for as a number, which is 1 if they ask for none.
-fn asked_number(alloc: Global, matches: &ArgMatches<'_>) -> Result<u32, Fault> {
+fn asked_number(alloc: Global, matches: &ArgMatches<'_>) -> Result<u32, Error> {
     let Some(text) = matches.get_str("value") else {
         return Ok(1);
     };
@@ -156,7 +156,7 @@ fn numbers_named(
     file: &UnicodeFile<'_>,
     names: &ValueNames<'_>,
     text: &str,
-) -> Result<Vec<u32>, Fault> {
+) -> Result<Vec<u32>, Error> {
     let mut numbers = Vec::new(alloc);
     if let Some(number) = number_named(names, text) {
         numbers.push(number)?;
@@ -182,7 +182,7 @@ fn asked_values<'n>(
     matches: &ArgMatches<'_>,
     file: &UnicodeFile<'_>,
     choice: &'n Choice<'n>,
-) -> Result<(Numbering<'n>, Vec<u32>), Fault> {
+) -> Result<(Numbering<'n>, Vec<u32>), Error> {
     match (matches.get_str("value"), choice.kind) {
         (Some(text), _) => {
             let numbers = numbers_named(alloc, matches, file, &choice.names, text)?;
@@ -205,7 +205,7 @@ fn default_in_set(
     file: &UnicodeFile<'_>,
     choice: &Choice<'_>,
     numbering: Numbering<'_>,
-) -> Result<u32, Fault> {
+) -> Result<u32, Error> {
     match choice.kind {
         ValueKind::Binary => Ok(0),
         ValueKind::Aliases => {
@@ -222,7 +222,7 @@ fn set_of_lines(
     matches: &ArgMatches<'_>,
     file: &UnicodeFile<'_>,
     choice: &Choice<'_>,
-) -> Result<CodePointInversionList<'static>, Fault> {
+) -> Result<CodePointInversionList<'static>, Error> {
     let (numbering, values) = asked_values(alloc, matches, file, choice)?;
     test_conflicts(alloc, file, numbering)?;
     test_own_names(alloc, file, choice)?;
@@ -241,7 +241,7 @@ fn set_of_unicode_file(
     name: &str,
     bytes: &[u8],
     kind: FileKind,
-) -> Result<CodePointInversionList<'static>, Fault> {
+) -> Result<CodePointInversionList<'static>, Error> {
     let file = unicode_file(rt, matches, name, bytes, kind)?;
     let choice = choice_of_file(rt, matches, &file)?;
     set_of_lines(rt.alloc(), matches, &file, &choice)
@@ -253,7 +253,7 @@ fn set_of_rows(
     matches: &ArgMatches<'_>,
     name: &str,
     rows: &[u8],
-) -> Result<CodePointInversionList<'static>, Fault> {
+) -> Result<CodePointInversionList<'static>, Error> {
     if let Some(option) = column_option(matches) {
         return Err(not_of_rows(alloc, option));
     }
@@ -270,7 +270,7 @@ fn set_of_table(
     matches: &ArgMatches<'_>,
     name: &str,
     file: &[u8],
-) -> Result<CodePointInversionList<'static>, Fault> {
+) -> Result<CodePointInversionList<'static>, Error> {
     let value = asked_number(alloc, matches)?;
     let table = table_in(alloc, matches, name, file, start_of(matches))?;
     set_in_table(alloc, name, &table, value)
@@ -307,7 +307,7 @@ fn set_of_toml(
     matches: &ArgMatches<'_>,
     name: &str,
     file: &[u8],
-) -> Result<CodePointInversionList<'static>, Fault> {
+) -> Result<CodePointInversionList<'static>, Error> {
     let Ok(text) = str::from_utf8(file) else {
         return set_of_table(rt.alloc(), matches, name, file);
     };
@@ -321,8 +321,8 @@ fn set_of_toml(
             say_strings(rt, name, text, property)?;
             Ok(set)
         }
-        Err(SetFileFault::Memory) => Err(Fault::Memory),
-        Err(SetFileFault::NotToml | SetFileFault::NoSets) => {
+        Err(SetFileError::Memory) => Err(Error::Memory),
+        Err(SetFileError::NotToml | SetFileError::NoSets) => {
             set_of_table(rt.alloc(), matches, name, file)
         }
         Err(fault) => Err(about(rt.alloc(), name, fault)),
@@ -346,10 +346,10 @@ fn set_of_serialized(
     alloc: Global,
     name: &str,
     file: &[u8],
-) -> Result<CodePointInversionList<'static>, Fault> {
+) -> Result<CodePointInversionList<'static>, Error> {
     match set_of_bytes(alloc, file) {
         Ok(set) => Ok(set),
-        Err(SerializedSetError::Memory) => Err(Fault::Memory),
+        Err(SerializedSetError::Memory) => Err(Error::Memory),
         Err(fault) => Err(about(alloc, name, fault)),
     }
 }
@@ -360,7 +360,7 @@ fn asked_set(
     matches: &ArgMatches<'_>,
     name: &str,
     file: &[u8],
-) -> Result<CodePointInversionList<'static>, Fault> {
+) -> Result<CodePointInversionList<'static>, Error> {
     let source = source_of(matches, file);
     if let Some(option) = unused_option(matches, source) {
         return Err(about_arguments(rt.alloc(), option, "not for such a file: leave it out"));
@@ -410,14 +410,14 @@ pub fn set(
     matches: &ArgMatches<'_>,
     name: &str,
     file: &[u8],
-) -> Result<Vec<u8>, Fault> {
+) -> Result<Vec<u8>, Error> {
     let set = asked_set(rt, matches, name, file)?;
     if set.is_empty() {
         say_empty(rt, name)?;
     }
     match written(rt.alloc(), &set, set_form(matches)) {
         Ok(bytes) => Ok(bytes),
-        Err(SetWriteFault::Memory) => Err(Fault::Memory),
+        Err(SetWriteError::Memory) => Err(Error::Memory),
         Err(fault) => Err(about(rt.alloc(), name, fault)),
     }
 }

@@ -1,6 +1,6 @@
 //! Files and streams, and the names by which faults call them.
 use crate::compressed::{expect_decompressed, expect_lines};
-use crate::fault::{Fault, about};
+use crate::error::{Error, about};
 use std::alloc::Global;
 use std::io::{Read, Write};
 use std::{fs, io};
@@ -25,7 +25,7 @@ pub fn without_mark(text: &[u8]) -> &[u8] {
 }
 
 /// Reads all of standard input.
-fn input(rt: &HostRuntime) -> Result<Vec<u8>, Fault> {
+fn input(rt: &HostRuntime) -> Result<Vec<u8>, Error> {
     let mut bytes = Vec::new(rt.alloc());
     match rt.stdin().read_to_end(&mut bytes) {
         Ok(_) => Ok(bytes),
@@ -34,7 +34,7 @@ fn input(rt: &HostRuntime) -> Result<Vec<u8>, Fault> {
 }
 
 /// Reads a file, or standard input if its name is `-`.
-pub fn bytes_at(rt: &HostRuntime, path: &str) -> Result<Vec<u8>, Fault> {
+pub fn bytes_at(rt: &HostRuntime, path: &str) -> Result<Vec<u8>, Error> {
     if path == "-" {
         return input(rt);
     }
@@ -46,7 +46,7 @@ pub fn bytes_at(rt: &HostRuntime, path: &str) -> Result<Vec<u8>, Fault> {
 
 /// Reads a text from a file, or from standard input if its name is `-`. `option` is the option that
 /// names it, with a space.
-pub fn text_at(rt: &HostRuntime, path: &str, option: &'static str) -> Result<Vec<u8>, Fault> {
+pub fn text_at(rt: &HostRuntime, path: &str, option: &'static str) -> Result<Vec<u8>, Error> {
     let bytes = bytes_at(rt, path)?;
     expect_decompressed(rt.alloc(), input_name(path), option, &bytes)?;
     expect_lines(rt.alloc(), input_name(path), &bytes)?;
@@ -55,15 +55,15 @@ pub fn text_at(rt: &HostRuntime, path: &str, option: &'static str) -> Result<Vec
 
 /// Returns the fault of a write to standard output. It says nothing if the reader has closed the
 /// pipe, as `head` does.
-fn unwritten(alloc: Global, error: io::Error) -> Fault {
+fn unwritten(alloc: Global, error: io::Error) -> Error {
     if matches!(error.kind(), io::ErrorKind::BrokenPipe) {
-        return Fault::ClosedPipe;
+        return Error::ClosedPipe;
     }
     about(alloc, OUTPUT, error)
 }
 
 /// Writes to standard output.
-pub fn put(rt: &HostRuntime, bytes: &[u8]) -> Result<(), Fault> {
+pub fn put(rt: &HostRuntime, bytes: &[u8]) -> Result<(), Error> {
     match rt.stdout().write_all(bytes) {
         Ok(()) => Ok(()),
         Err(error) => Err(unwritten(rt.alloc(), error)),

@@ -1,6 +1,6 @@
 //! The tables of files, and how a table is to be written.
 use crate::compressed::expect_text;
-use crate::fault::{Fault, about, said};
+use crate::error::{Error, about, said};
 use crate::forms::is_toml;
 use crate::names::name_in;
 use crate::offsets::{Start, from_trie, starts_trie};
@@ -9,12 +9,12 @@ use clap::ArgMatches;
 use icu_trie_core::header::TrieType;
 use std::alloc::{AllocError, Global};
 use std::str;
-use ucptrie_sets::fault::SetFileFault;
+use ucptrie_sets::error::SetFileError;
 use ucptrie_sets::toml_file::set_of_file;
-use ucptrie_tables::fault::{ReadFault, TomlFault};
+use ucptrie_tables::error::{ReadError, TomlFileError};
 use ucptrie_tables::other_toml::{OtherToml, other_toml};
 use ucptrie_tables::parsed::ParsedFile;
-use ucptrie_tables::properties::{PropertyFault, read_property};
+use ucptrie_tables::properties::{PropertyError, read_property};
 use ucptrie_tables::table::Table;
 use ucptrie_tables::width::ValueWidth;
 use ucptrie_tables::written::Form;
@@ -57,7 +57,7 @@ pub fn form<'a>(matches: &ArgMatches<'a>) -> Form<'a> {
 }
 
 /// Returns the line about a text in no known form.
-fn toml_line(alloc: Global, name: &str, fault: &TomlFault) -> Result<String, AllocError> {
+fn toml_line(alloc: Global, name: &str, fault: &TomlFileError) -> Result<String, AllocError> {
     let (number, why) = (fault.line(), fault.message());
     let mut line = String::new(alloc);
     write!(
@@ -68,10 +68,10 @@ fn toml_line(alloc: Global, name: &str, fault: &TomlFault) -> Result<String, All
 }
 
 /// Returns the fault of a file that has no table. `name` is what it was read from.
-fn unread(alloc: Global, name: &str, fault: ReadFault) -> Fault {
+fn unread(alloc: Global, name: &str, fault: ReadError) -> Error {
     match fault {
-        ReadFault::Memory => Fault::Memory,
-        ReadFault::Toml(fault) => said(toml_line(alloc, name, &fault)),
+        ReadError::Memory => Error::Memory,
+        ReadError::Toml(fault) => said(toml_line(alloc, name, &fault)),
         _ => about(alloc, name, fault),
     }
 }
@@ -103,31 +103,31 @@ fn several_line(alloc: Global, name: &str, found: &str) -> Result<String, AllocE
 }
 
 /// Returns the fault of a file that has no table of the property. `name` is what it was read from.
-fn unchosen(alloc: Global, name: &str, property: &str, fault: PropertyFault) -> Fault {
+fn unchosen(alloc: Global, name: &str, property: &str, fault: PropertyError) -> Error {
     match fault {
-        PropertyFault::Read(fault) => unread(alloc, name, fault),
-        PropertyFault::NotToml => about(alloc, name, "not TOML, so it has no properties"),
-        PropertyFault::Missing(found) => said(missing_line(alloc, name, property, &found)),
-        PropertyFault::Several(found) => said(several_line(alloc, name, &found)),
+        PropertyError::Read(fault) => unread(alloc, name, fault),
+        PropertyError::NotToml => about(alloc, name, "not TOML, so it has no properties"),
+        PropertyError::Missing(found) => said(missing_line(alloc, name, property, &found)),
+        PropertyError::Several(found) => said(several_line(alloc, name, &found)),
     }
 }
 
 /// Returns whether TOML is at fault in which a trie is missing.
-fn lacks_trie(fault: &PropertyFault) -> bool {
+fn lacks_trie(fault: &PropertyError) -> bool {
     matches!(
         fault,
-        PropertyFault::Read(ReadFault::TrieToml(_)) | PropertyFault::Missing(_)
+        PropertyError::Read(ReadError::TrieToml(_)) | PropertyError::Missing(_)
     )
 }
 
 /// Returns whether a file has sets of code points in TOML.
-fn has_sets(alloc: Global, file: &[u8]) -> Result<bool, Fault> {
+fn has_sets(alloc: Global, file: &[u8]) -> Result<bool, Error> {
     let Ok(text) = str::from_utf8(file) else {
         return Ok(false);
     };
     match set_of_file(alloc, text, None) {
-        Err(SetFileFault::Memory) => Err(Fault::Memory),
-        Err(SetFileFault::NotToml | SetFileFault::NoSets) => Ok(false),
+        Err(SetFileError::Memory) => Err(Error::Memory),
+        Err(SetFileError::NotToml | SetFileError::NoSets) => Ok(false),
         _ => Ok(true),
     }
 }
@@ -144,8 +144,8 @@ fn without_trie(
     name: &str,
     file: &ParsedFile<'_>,
     property: &str,
-    fault: PropertyFault,
-) -> Result<Fault, Fault> {
+    fault: PropertyError,
+) -> Result<Error, Error> {
     if has_sets(alloc, file.bytes())? {
         let why = "a set of code points, and no table: use ucptrie set";
         return Ok(about(alloc, name, why));
@@ -161,10 +161,10 @@ const NO_TABLE: &str =
     "expected a table in ICU's binary form, JSON or TOML; ucptrie build makes one of lines";
 
 /// Returns a file with its TOML. `name` is what it was read from.
-fn parsed<'f>(alloc: Global, name: &str, bytes: &'f [u8]) -> Result<ParsedFile<'f>, Fault> {
+fn parsed<'f>(alloc: Global, name: &str, bytes: &'f [u8]) -> Result<ParsedFile<'f>, Error> {
     match ParsedFile::new(alloc, bytes) {
         Ok(file) => Ok(file),
-        Err(ReadFault::Toml(_)) if !is_toml(bytes) => Err(about(alloc, name, NO_TABLE)),
+        Err(ReadError::Toml(_)) if !is_toml(bytes) => Err(about(alloc, name, NO_TABLE)),
         Err(fault) => Err(unread(alloc, name, fault)),
     }
 }
@@ -176,7 +176,7 @@ pub fn table_of_property(
     matches: &ArgMatches<'_>,
     name: &str,
     file: &ParsedFile<'_>,
-) -> Result<Table, Fault> {
+) -> Result<Table, Error> {
     let property = matches.get_str("property");
     match read_property(alloc, file, property) {
         Ok(table) => Ok(table),
@@ -197,7 +197,7 @@ pub fn file_in<'f>(
     name: &str,
     bytes: &'f [u8],
     start: Start,
-) -> Result<ParsedFile<'f>, Fault> {
+) -> Result<ParsedFile<'f>, Error> {
     if bytes.is_empty() {
         return Err(about(alloc, name, "the file is empty"));
     }
@@ -215,7 +215,7 @@ pub fn table_in(
     name: &str,
     bytes: &[u8],
     start: Start,
-) -> Result<Table, Fault> {
+) -> Result<Table, Error> {
     let file = file_in(alloc, name, bytes, start)?;
     table_of_property(alloc, matches, name, &file)
 }
@@ -227,7 +227,7 @@ pub fn table_at(
     matches: &ArgMatches<'_>,
     id: &str,
     start: Start,
-) -> Result<Table, Fault> {
+) -> Result<Table, Error> {
     let path = matches.get_str(id).unwrap_or("-");
     let bytes = bytes_at(rt, path)?;
     let file = match start {

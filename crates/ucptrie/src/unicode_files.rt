@@ -2,9 +2,9 @@
 use crate::aliases::{Aliases, name_in_lines, name_in_values, named_aliases};
 use crate::build::{options, unbuilt};
 use crate::choice::{UnicodeFile, choice_of, numbering};
-use crate::fault::{Fault, about, about_arguments, said};
+use crate::error::{Error, about, about_arguments, said};
 use crate::fractions::{say_fractions, say_reading};
-use crate::line_faults::fault_line;
+use crate::line_errors::fault_line;
 use crate::missing::{default_of, say_missing, test_numbers, test_own_names};
 use crate::names::{is_list, say_many_in};
 use crate::overlap::{Conflict, conflict_of_texts, find_conflict, has_values_of};
@@ -16,7 +16,7 @@ use crate::wide::{line_with, too_wide};
 use clap::ArgMatches;
 use std::alloc::{AllocError, Global};
 use ucd_files::choice::{Choice, ValueKind};
-use ucd_files::fault::FileFault;
+use ucd_files::error::FileError;
 use ucd_files::fields::has_field;
 use ucd_files::kind::{FileKind, has_missing_lines, has_property, has_values};
 use ucd_files::names::{Name, Numbering, is_same_name};
@@ -25,7 +25,7 @@ use ucd_files::title::title_of;
 use ucptab_table::input::{first_line, line_at};
 use ucptab_table::message::line_message;
 use ucptab_table::rows::content_of;
-use ucptrie_tables::fault::{BuildFault, UnicodeFileFault};
+use ucptrie_tables::error::{TableBuildError, UnicodeFileError};
 use ucptrie_tables::names_list::names_list;
 use ucptrie_tables::table::TableOptions;
 use ucptrie_tables::unicode_file::table_of_file;
@@ -61,7 +61,7 @@ pub fn column_option(matches: &ArgMatches<'_>) -> Option<&'static str> {
 
 /// Returns the fault of an option that only files of the Unicode Character Database need, and that
 /// is given for rows.
-pub fn not_of_rows(alloc: Global, option: &str) -> Fault {
+pub fn not_of_rows(alloc: Global, option: &str) -> Error {
     about_arguments(
         alloc,
         option,
@@ -102,7 +102,7 @@ pub fn are_names_of_one(property: &[u8], name: &[u8]) -> bool {
 }
 
 /// Returns the field of a property in `UnicodeData.txt`. `name` is what the file was read from.
-fn unicode_data_field(alloc: Global, name: &str, property: Option<&str>) -> Result<usize, Fault> {
+fn unicode_data_field(alloc: Global, name: &str, property: Option<&str>) -> Result<usize, Error> {
     let Some(property) = property else {
         let why = "the file has many properties: name one by --property or --field";
         return Err(about(alloc, name, why));
@@ -166,7 +166,7 @@ fn old_block(file: &[u8]) -> Option<u64> {
 
 /// Returns field 1, unless a code point has two values there. `name` is what the lines were read
 /// from.
-fn only_field(alloc: Global, name: &str, file: &[u8]) -> Result<Columns<'static>, Fault> {
+fn only_field(alloc: Global, name: &str, file: &[u8]) -> Result<Columns<'static>, Error> {
     if let Some(number) = old_block(file) {
         let line = line_at(file, number).unwrap_or(&[]);
         let form = "HEX..HEX before the first `;`";
@@ -186,7 +186,7 @@ pub fn test_conflicts(
     alloc: Global,
     file: &UnicodeFile<'_>,
     numbering: Numbering<'_>,
-) -> Result<(), Fault> {
+) -> Result<(), Error> {
     match find_conflict(alloc, file.bytes, file.columns, numbering)? {
         Some(conflict) => Err(said(two_values(alloc, file.name, conflict, ""))),
         None => Ok(()),
@@ -240,7 +240,7 @@ fn columns_of_all(
     aliases: &Aliases,
     name: &str,
     file: &[u8],
-) -> Result<Columns<'static>, Fault> {
+) -> Result<Columns<'static>, Error> {
     let columns = Columns::Field(1);
     if let Some(conflict) = conflict_of_texts(alloc, file)? {
         let own_name = name_in_values(aliases, property.as_bytes());
@@ -264,7 +264,7 @@ fn columns_of_lines<'a>(
     aliases: &Aliases,
     name: &str,
     file: &'a [u8],
-) -> Result<Columns<'a>, Fault> {
+) -> Result<Columns<'a>, Error> {
     match property {
         Some(property) if has_property(file, property.as_bytes()) => {
             Ok(Columns::Property(property.as_bytes()))
@@ -284,7 +284,7 @@ fn columns_of_unihan<'a>(
     property: &'a str,
     name: &str,
     file: &[u8],
-) -> Result<Columns<'a>, Fault> {
+) -> Result<Columns<'a>, Error> {
     let columns = Columns::Unihan(property.as_bytes());
     if has_unihan_property(file, property.as_bytes()) {
         return Ok(columns);
@@ -300,7 +300,7 @@ fn columns<'f, 'a: 'f>(
     kind: FileKind,
     name: &str,
     file: &'f [u8],
-) -> Result<Columns<'f>, Fault> {
+) -> Result<Columns<'f>, Error> {
     if !has_values(file) {
         return Err(about(
             alloc,
@@ -339,7 +339,7 @@ pub fn unicode_file<'f, 'a: 'f>(
     name: &'f str,
     bytes: &'f [u8],
     kind: FileKind,
-) -> Result<UnicodeFile<'f>, Fault> {
+) -> Result<UnicodeFile<'f>, Error> {
     let aliases = named_aliases(rt, matches)?;
     let columns = columns(rt.alloc(), matches, &aliases, kind, name, bytes)?;
     expect_field(rt.alloc(), matches, columns, name, bytes)?;
@@ -358,15 +358,15 @@ pub fn unread(
     name: &str,
     file: &[u8],
     numbering: Numbering<'_>,
-    fault: UnicodeFileFault,
-) -> Fault {
+    fault: UnicodeFileError,
+) -> Error {
     match fault {
-        UnicodeFileFault::File(FileFault::Memory) => Fault::Memory,
-        UnicodeFileFault::File(FileFault::Unfinished) => about(alloc, name, FileFault::Unfinished),
-        UnicodeFileFault::File(FileFault::Line(number, fault)) => {
+        UnicodeFileError::File(FileError::Memory) => Error::Memory,
+        UnicodeFileError::File(FileError::Unfinished) => about(alloc, name, FileError::Unfinished),
+        UnicodeFileError::File(FileError::Line(number, fault)) => {
             said(fault_line(alloc, name, file, number, fault, numbering))
         }
-        UnicodeFileFault::Build(fault) => unbuilt(alloc, name, file, fault),
+        UnicodeFileError::Build(fault) => unbuilt(alloc, name, file, fault),
     }
 }
 
@@ -411,7 +411,7 @@ fn written_of_file(
     choice: &Choice<'_>,
     numbering: Numbering<'_>,
     options: TableOptions,
-) -> Result<Vec<u8>, UnicodeFileFault> {
+) -> Result<Vec<u8>, UnicodeFileError> {
     let form = form(matches);
     let table = table_of_file(alloc, file.bytes, file.columns, numbering, options)?;
     let bytes = written(alloc, &table, form)?;
@@ -430,7 +430,7 @@ fn options_of_file(
     file: &UnicodeFile<'_>,
     choice: &Choice<'_>,
     numbering: Numbering<'_>,
-) -> Result<TableOptions, Fault> {
+) -> Result<TableOptions, Error> {
     let given = options(matches);
     let needs_default = match choice.kind {
         ValueKind::Aliases => true,
@@ -452,7 +452,7 @@ fn built_of_file(
     matches: &ArgMatches<'_>,
     file: &UnicodeFile<'_>,
     choice: &Choice<'_>,
-) -> Result<Vec<u8>, Fault> {
+) -> Result<Vec<u8>, Error> {
     let numbering = numbering(matches, file, choice);
     test_conflicts(alloc, file, numbering)?;
     if matches!(numbering, Numbering::Names(_, _)) {
@@ -464,7 +464,7 @@ fn built_of_file(
     let options = options_of_file(alloc, matches, file, choice, numbering)?;
     match written_of_file(alloc, matches, file, choice, numbering, options) {
         Ok(bytes) => Ok(bytes),
-        Err(UnicodeFileFault::Build(BuildFault::Width(value, width))) => {
+        Err(UnicodeFileError::Build(TableBuildError::Width(value, width))) => {
             let place = line_with(file, numbering, value);
             Err(too_wide(alloc, matches, file.name, place, value, width))
         }
@@ -478,7 +478,7 @@ pub fn choice_of_file<'f>(
     rt: &HostRuntime,
     matches: &ArgMatches<'_>,
     file: &'f UnicodeFile<'f>,
-) -> Result<Choice<'f>, Fault> {
+) -> Result<Choice<'f>, Error> {
     say_whole_file(rt, file)?;
     say_missing(rt, matches, file)?;
     choice_of(rt.alloc(), matches, file)
@@ -492,7 +492,7 @@ pub fn build_file(
     name: &str,
     bytes: &[u8],
     kind: FileKind,
-) -> Result<Vec<u8>, Fault> {
+) -> Result<Vec<u8>, Error> {
     let file = unicode_file(rt, matches, name, bytes, kind)?;
     let choice = choice_of_file(rt, matches, &file)?;
     say_fractions(rt, matches, &file, &choice)?;

@@ -1,6 +1,6 @@
 //! Where a value comes from that has more bits than the asked width.
 use crate::choice::UnicodeFile;
-use crate::fault::{Fault, said};
+use crate::error::{Error, said};
 use crate::tables::number;
 use clap::ArgMatches;
 use icu_trie_builder::writes::Write;
@@ -116,7 +116,7 @@ pub fn too_wide(
     place: Option<u64>,
     value: u32,
     width: ValueWidth,
-) -> Fault {
+) -> Error {
     let giver = match place {
         Some(_) => name,
         None => giver(matches, name, value),
@@ -153,7 +153,7 @@ pub fn too_wide_in(
     table: &Table,
     value: u32,
     width: ValueWidth,
-) -> Fault {
+) -> Error {
     match point_with(table, value) {
         Some(c) => said(wide_point_line(alloc, name, c, value, width)),
         None => too_wide(alloc, matches, name, None, value, width),

@@ -1,6 +1,6 @@
 //! The command `words`: a word list as a unit trie.
 use crate::compressed::{expect_line_feeds, expect_text};
-use crate::fault::{Fault, about, said};
+use crate::error::{Error, about, said};
 use crate::names::name_in;
 use clap::ArgMatches;
 use icu_char16trie::char16trie::Char16Trie;
@@ -8,7 +8,7 @@ use std::alloc::{AllocError, Global};
 use ucptab_table::input::line_at;
 use ucptab_table::message::{line_message, push_quoted};
 use ucptrie_words::built::{trie_of_units, trie_of_words};
-use ucptrie_words::fault::{RowsFault, UnitsFault, WordsFault};
+use ucptrie_words::error::{RowsError, UnitsError, WordsError};
 use ucptrie_words::written::{Form, written};
 
 /// Returns the form that the arguments name.
@@ -23,11 +23,11 @@ fn form<'a>(matches: &ArgMatches<'a>) -> Form<'a> {
 }
 
 /// Returns the fault of a word list that makes no trie. `name` is what it was read from.
-fn unbuilt(alloc: Global, name: &str, list: &[u8], fault: WordsFault) -> Fault {
+fn unbuilt(alloc: Global, name: &str, list: &[u8], fault: WordsError) -> Error {
     match fault {
-        WordsFault::Memory => Fault::Memory,
-        WordsFault::TooLarge => about(alloc, name, fault),
-        WordsFault::Line(number, fault) => {
+        WordsError::Memory => Error::Memory,
+        WordsError::TooLarge => about(alloc, name, fault),
+        WordsError::Line(number, fault) => {
             let line = line_at(list, number).unwrap_or(&[]);
             said(line_message(alloc, name, number, fault.expected(), line))
         }
@@ -40,11 +40,11 @@ fn trie<'f>(
     matches: &ArgMatches<'_>,
     name: &str,
     file: &'f [u8],
-) -> Result<Char16Trie<'f>, Fault> {
+) -> Result<Char16Trie<'f>, Error> {
     if matches.get_str("format") == Some("icu") {
         return match trie_of_units(alloc, file) {
             Ok(trie) => Ok(trie),
-            Err(UnitsFault::Memory) => Err(Fault::Memory),
+            Err(UnitsError::Memory) => Err(Error::Memory),
             Err(fault) => Err(about(alloc, name, fault)),
         };
     }
@@ -70,15 +70,15 @@ fn converted(
     name: &str,
     trie: &Char16Trie<'_>,
     form: Form<'_>,
-) -> Result<Vec<u8>, Fault> {
+) -> Result<Vec<u8>, Error> {
     if trie.data.is_empty() && !matches!(form, Form::Rows) {
         let why = "no words, and no units: UCharsTrie needs one word at least";
         return Err(about(alloc, name, why));
     }
     match written(alloc, trie, form) {
         Ok(bytes) => Ok(bytes),
-        Err(RowsFault::Memory) => Err(Fault::Memory),
-        Err(RowsFault::Key(key)) => Err(said(key_line(alloc, name, &key))),
+        Err(RowsError::Memory) => Err(Error::Memory),
+        Err(RowsError::Key(key)) => Err(said(key_line(alloc, name, &key))),
     }
 }
 
@@ -89,7 +89,7 @@ pub fn word_list(
     matches: &ArgMatches<'_>,
     name: &str,
     file: &[u8],
-) -> Result<Vec<u8>, Fault> {
+) -> Result<Vec<u8>, Error> {
     let trie = trie(alloc, matches, name, file)?;
     converted(alloc, name, &trie, form(matches))
 }

@@ -7,19 +7,19 @@ use Rattle.toml.specs.Data.{Data, Members}
 use Rattle.toml.specs.Parse.{parse_document}
 use Rattle.icu_zerovec.specs.FirstFault.{and_then, before, read_from}
 use Rattle.ucptrie_sets.specs.TomlSets.{asked_among, file_ranges, is_asked, items_at, items_in, only_one, pair_in, range_of, range_or, ranges_in, ranges_of, IsRefused, IsWhyNoSetInFile}
-use Rattle.ucptrie_sets.specs.declared.fault.SetFileFault.{SetFileFault}
-use Rattle.ucptrie_sets.specs.declared.fault.SetFileFault.TheVariants.{NotToml, NoSets, Missing, Several, NoRanges, NotAPair, Reversed, Memory}
+use Rattle.ucptrie_sets.specs.declared.error.SetFileError.{SetFileError}
+use Rattle.ucptrie_sets.specs.declared.error.SetFileError.TheVariants.{NotToml, NoSets, Missing, Several, NoRanges, NotAPair, Reversed, Memory}
 
-before-never : (r : ℕ × ℕ) (rest : Result (List (ℕ × ℕ)) SetFileFault) → (rest ≡ Err NotToml → ⊥) → before (Ok r) rest ≡ Err NotToml → ⊥
+before-never : (r : ℕ × ℕ) (rest : Result (List (ℕ × ℕ)) SetFileError) → (rest ≡ Err NotToml → ⊥) → before (Ok r) rest ≡ Err NotToml → ⊥
 before-never r (Ok xs) never e = cc
 before-never r (Err f) never e = never e
 
-if-never : (i : ℕ) (r : ℕ × ℕ) (b : Bool) (rest : Result (List (ℕ × ℕ)) SetFileFault) → (rest ≡ Err NotToml → ⊥)
+if-never : (i : ℕ) (r : ℕ × ℕ) (b : Bool) (rest : Result (List (ℕ × ℕ)) SetFileError) → (rest ≡ Err NotToml → ⊥)
     → before (if b then Err (Reversed i) else Ok r) rest ≡ Err NotToml → ⊥
 if-never i r true rest never e = cc
 if-never i r false rest never e = before-never r rest never e
 
-range_or-never : (i : ℕ) (o : Option (ℕ × ℕ)) (rest : Result (List (ℕ × ℕ)) SetFileFault) → (rest ≡ Err NotToml → ⊥)
+range_or-never : (i : ℕ) (o : Option (ℕ × ℕ)) (rest : Result (List (ℕ × ℕ)) SetFileError) → (rest ≡ Err NotToml → ⊥)
     → before (range_or i o) rest ≡ Err NotToml → ⊥
 range_or-never i None rest never e = cc
 range_or-never i (Some r) rest never e = if-never i r (nat_lt r.1 r.0) rest never e
@@ -47,7 +47,7 @@ items-never name None e = cc
 items-never name (Some properties) e = one-never (filter (is_asked name) properties) e
 
 -- the faults of a file are those of its text
-pub why_in_file : (text : List ℕ) (name : Option (List ℕ)) (file : Members) → parse_document text ≡ Some file → (e : SetFileFault)
+pub why_in_file : (text : List ℕ) (name : Option (List ℕ)) (file : Members) → parse_document text ≡ Some file → (e : SetFileError)
     → IsRefused (file_ranges name file) e → IsWhyNoSetInFile text name e
 why_in_file text name file reads NotToml h = absurd (items-never name (items_at (codes "binary_property") file) h)
 why_in_file text name file reads NoSets h = (file, reads, h)

@@ -8,8 +8,8 @@ use Rattle.icu_zerovec.proofs.CallerLemmas.{at_end, at_start, goes_on, stops, wi
 use Rattle.icu_invlist.specs.InversionList.{between, holds}
 use Rattle.icu_invlist.proofs.CallerLemmas.{holds-nil}
 use Rattle.ucptrie_sets.specs.TomlSets.{is_listed, list_of, range_of, ranges_in, IsRefused, IsSetOfRanges}
-use Rattle.ucptrie_sets.specs.declared.fault.SetFileFault.{SetFileFault}
-use Rattle.ucptrie_sets.specs.declared.fault.SetFileFault.TheVariants.{NotToml, NoSets, Missing, Several, NoRanges, NotAPair, Reversed, Memory}
+use Rattle.ucptrie_sets.specs.declared.error.SetFileError.{SetFileError}
+use Rattle.ucptrie_sets.specs.declared.error.SetFileError.TheVariants.{NotToml, NoSets, Missing, Several, NoRanges, NotAPair, Reversed, Memory}
 
 pub list_of-items_view : (vs : List Value) → list_of (items_view vs) ≡ map view vs
 list_of-items_view [] = refl
@@ -52,7 +52,7 @@ one_more_read items i x old new r h below is range grown = record {
       ∙ (ap (λ b. b || between r.0 (r.1 + 1) c) (h.members c within) ∙ sym (is_listed-last h.front r c));
 }
 
-pub stops_reading : (items : List Value) (i : ℕ) (x : Value) (set : List ℕ) (f : SetFileFault) → AreReadUpTo items i set → i < length items
+pub stops_reading : (items : List Value) (i : ℕ) (x : Value) (set : List ℕ) (f : SetFileError) → AreReadUpTo items i set → i < length items
     → x ≡ get_or items i x → range_of i (view x) ≡ Err f → ranges_in (map view items) ≡ Err f
 stops_reading items i x set f h below is fault =
     stops range_of view items i x h.front (ranges_in (map view items)) f below is h.read fault
@@ -65,7 +65,7 @@ all_read items i old h end new same = (
   λ c below. ap (λ s. holds s c) same ∙ h.members c below,
 )
 
-pub refused : {A : Type 0} (read : Result A SetFileFault) (f : SetFileFault) → read ≡ Err f → IsRefused read f
+pub refused : {A : Type 0} (read : Result A SetFileError) (f : SetFileError) → read ≡ Err f → IsRefused read f
 refused read NotToml h = h
 refused read NoSets h = h
 refused read Missing h = h

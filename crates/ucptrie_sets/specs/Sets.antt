@@ -11,10 +11,10 @@ use Rattle.icu_invlist_binary.specs.declared.error.SerializedSetError.TheVariant
 use Rattle.icu_trie_core.specs.ValueNumbers.{fitting}
 use Rattle.icu_trie.specs.Parts.{Parts}
 use Rattle.icu_trie.specs.Ranges.{answers, IsCoherentTrie}
-use Rattle.ucptrie_sets.specs.declared.fault.SetWriteFault.{SetWriteFault}
-use Rattle.ucptrie_sets.specs.declared.fault.SetWriteFault.TheVariants as written_faults
-use Rattle.ucptrie_sets.specs.declared.fault.ValueSetFault.{ValueSetFault}
-use Rattle.ucptrie_sets.specs.declared.fault.ValueSetFault.TheVariants.{NotCoherent, Memory}
+use Rattle.ucptrie_sets.specs.declared.error.SetWriteError.{SetWriteError}
+use Rattle.ucptrie_sets.specs.declared.error.SetWriteError.TheVariants as written_faults
+use Rattle.ucptrie_sets.specs.declared.error.ValueSetError.{ValueSetError}
+use Rattle.ucptrie_sets.specs.declared.error.ValueSetError.TheVariants.{NotCoherent, Memory}
 
 -- ---- The set of a value
 
@@ -25,7 +25,7 @@ pub record IsSetOfValue (trie : Parts ℕ) (value : ℕ) (set : List ℕ) : Type
       → (holds set c ≡ true) ↔ (answers trie c ≡ Some value)
 
 -- Why there is no set: the trie is not coherent, or it is and an allocation failed.
-abbrev pub IsWhyNoSet : Parts ℕ → ValueSetFault → Type 0
+abbrev pub IsWhyNoSet : Parts ℕ → ValueSetError → Type 0
 IsWhyNoSet trie NotCoherent = ¬ (IsCoherentTrie (fitting (2 ^ 32)) trie)
 IsWhyNoSet trie Memory = IsCoherentTrie (fitting (2 ^ 32)) trie
 
@@ -50,7 +50,7 @@ units_in (low ∷ []) = []
 units_in (low ∷ high ∷ bytes) = unit_of low high ∷ units_in bytes
 
 -- Why a set is not serialized: it has no such form, or it has one and an allocation failed.
-abbrev pub IsWhyNotSerialized : List ℕ → SetWriteFault → Type 0
+abbrev pub IsWhyNotSerialized : List ℕ → SetWriteError → Type 0
 IsWhyNotSerialized set written_faults.TooLong = ¬ (HasForm set)
 IsWhyNotSerialized set written_faults.Memory = HasForm set
 
@@ -61,6 +61,6 @@ IsWhyNoSetInUnits units read_errors.Memory = ⊤
 IsWhyNoSetInUnits units why = IsWhyNotRead units why
 
 -- How an error of the serialized form is passed on.
-abbrev pub refusal_of_serialize : SerializeError → SetWriteFault
+abbrev pub refusal_of_serialize : SerializeError → SetWriteError
 refusal_of_serialize write_errors.TooLong = written_faults.TooLong
 refusal_of_serialize write_errors.Memory = written_faults.Memory

@@ -9,8 +9,8 @@ use Rattle.icu_zerovec.specs.CodePoints.{code_point_limit}
 use Rattle.icu_zerovec.specs.FirstFault.{and_then, read_from}
 use Rattle.icu_invlist.specs.InversionList.{between, holds}
 use Rattle.icu_trie_core.specs.ValueNumbers.{fitting}
-use Rattle.ucptrie_sets.specs.declared.fault.SetFileFault.{SetFileFault}
-use Rattle.ucptrie_sets.specs.declared.fault.SetFileFault.TheVariants.{NotToml, NoSets, Missing, Several, NoRanges, NotAPair, Reversed, Memory}
+use Rattle.ucptrie_sets.specs.declared.error.SetFileError.{SetFileError}
+use Rattle.ucptrie_sets.specs.declared.error.SetFileError.TheVariants.{NotToml, NoSets, Missing, Several, NoRanges, NotAPair, Reversed, Memory}
 
 -- ---- Ranges
 
@@ -45,16 +45,16 @@ abbrev pub items_in : Data → Option (List Data)
 items_in d = option_map list_of (as_array d)
 
 -- The inclusive bounds of a range, if it is one and not reversed. `i` is the item's index.
-abbrev pub range_or : ℕ → Option (ℕ × ℕ) → Result (ℕ × ℕ) SetFileFault
+abbrev pub range_or : ℕ → Option (ℕ × ℕ) → Result (ℕ × ℕ) SetFileError
 range_or i None = Err (NotAPair i)
 range_or i (Some r) = if nat_lt r.1 r.0 then Err (Reversed i) else Ok r
 
 -- The inclusive bounds of the range that item i is, or its fault.
-abbrev pub range_of : ℕ → Data → Result (ℕ × ℕ) SetFileFault
+abbrev pub range_of : ℕ → Data → Result (ℕ × ℕ) SetFileError
 range_of i d = range_or i (option_and_then pair_in (items_in d))
 
 -- The ranges that the items are, or the first fault.
-abbrev pub ranges_in : List Data → Result (List (ℕ × ℕ)) SetFileFault
+abbrev pub ranges_in : List Data → Result (List (ℕ × ℕ)) SetFileError
 ranges_in items = read_from range_of 0 items
 
 -- One of the ranges contains the code point.
@@ -90,13 +90,13 @@ is_asked None property = true
 is_asked (Some name) property = is_named name (as_table property)
 
 -- The only one of the properties, or the fault.
-abbrev pub only_one : List Data → Result Data SetFileFault
+abbrev pub only_one : List Data → Result Data SetFileError
 only_one [] = Err Missing
 only_one (d ∷ []) = Ok d
 only_one (d ∷ e ∷ ds) = Err Several
 
 -- The only one of the properties that is asked for.
-abbrev pub asked_among : Option (List ℕ) → List Data → Result Data SetFileFault
+abbrev pub asked_among : Option (List ℕ) → List Data → Result Data SetFileError
 asked_among name properties = only_one (filter (is_asked name) properties)
 
 -- The items of the array at a key of a table.
@@ -108,7 +108,7 @@ abbrev pub ranges_of : Data → Option (List Data)
 ranges_of property = option_and_then (items_at (codes "ranges")) (as_table property)
 
 -- The ranges of the property that is asked for in a file, or the first fault.
-abbrev pub file_ranges : Option (List ℕ) → Members → Result (List (ℕ × ℕ)) SetFileFault
+abbrev pub file_ranges : Option (List ℕ) → Members → Result (List (ℕ × ℕ)) SetFileError
 file_ranges name file =
     and_then (ok_or (items_at (codes "binary_property") file) NoSets) (λ properties.
     and_then (asked_among name properties) (λ property.
@@ -122,7 +122,7 @@ strings_in property =
     option_map_or length (option_and_then (items_at (codes "strings")) (as_table property)) 0
 
 -- The same for the property that is asked for, if it is the only one.
-abbrev pub strings_of_asked : Result Data SetFileFault → ℕ
+abbrev pub strings_of_asked : Result Data SetFileError → ℕ
 strings_of_asked (Ok property) = strings_in property
 strings_of_asked (Err fault) = 0
 
@@ -143,12 +143,12 @@ pub record IsSetOfFile (text : List ℕ) (name : Option (List ℕ)) (set : List 
   pub members : IsSetOfRanges ranges set
 
 -- The error of a reader is the fault of what it read. No clause can say when an allocation fails.
-abbrev pub IsRefused : {A : Type 0} → Result A SetFileFault → SetFileFault → Type 0
+abbrev pub IsRefused : {A : Type 0} → Result A SetFileError → SetFileError → Type 0
 IsRefused read Memory = ⊤
 IsRefused read fault = read ≡ Err fault
 
 -- Why a text has no set: it is not TOML, or its first fault.
-abbrev pub IsWhyNoSetInFile : List ℕ → Option (List ℕ) → SetFileFault → Type 0
+abbrev pub IsWhyNoSetInFile : List ℕ → Option (List ℕ) → SetFileError → Type 0
 IsWhyNoSetInFile text name NotToml = parse_document text ≡ None
 IsWhyNoSetInFile text name Memory = ⊤
 IsWhyNoSetInFile text name fault =

@@ -7,11 +7,11 @@
 //! - `written`: a set in one of the forms, as the bytes of a file
 //! - `rows`: a row for each range; `toml_text`: TOML as icuexportdata writes it
 //! - `source`: what the sources have in common; `c_source` and `rust_source` write these
-//! - `fault`: why there is no set, or why it is not written
+//! - `error`: why there is no set, or why it is not written
 #![tactic(auto)]
 
 mod c_source;
-pub mod fault;
+pub mod error;
 pub mod of_value;
 mod rows;
 mod rust_source;

@@ -2,7 +2,7 @@
 ghost use Rattle.std.specs.Prelude.{IfErr, IfOk};
 ghost use Rattle.ucptrie_sets.specs.Sets.{IsSetOfValue, IsWhyNoSet};
 
-use crate::fault::ValueSetFault;
+use crate::error::ValueSetError;
 use icu_invlist::codepointinvlist::CodePointInversionList;
 use icu_trie::cptrie::CodePointTrie;
 use std::alloc::Global;
@@ -10,19 +10,19 @@ use std::alloc::Global;
 /// Returns the set of the code points that have the value in the trie.
 ///
 /// # Errors
-/// - `ValueSetFault::NotCoherent` if and only if the trie is not coherent. Tries that are
+/// - `ValueSetError::NotCoherent` if and only if the trie is not coherent. Tries that are
 ///   built are coherent; a trie from a file may not be.
-/// - `ValueSetFault::Memory` if an allocation fails.
+/// - `ValueSetError::Memory` if an allocation fails.
 pub fn set_of_value(
     alloc: Global,
     trie: &CodePointTrie<'_, u32>,
     value: u32,
-) -> Result<CodePointInversionList<'static>, ValueSetFault>
+) -> Result<CodePointInversionList<'static>, ValueSetError>
     ensures ok { IfOk result (IsSetOfValue trie.now value) }
     ensures err { IfErr result (IsWhyNoSet trie.now) }
 {
     if !trie.is_coherent() {
-        return Err(ValueSetFault::NotCoherent);
+        return Err(ValueSetError::NotCoherent);
     }
     let set = trie.get_set_for_value(alloc, value)?;
     Ok(set)

@@ -3,7 +3,7 @@ ghost use Rattle.std.specs.Prelude.{◌≡◌, ℕ, ◌++◌, IfOk, IfErr, OnOk}
 ghost use Rattle.icu_invlist_binary.specs.SerializedSet.{HasForm, IsSerialized, units_of};
 ghost use Rattle.ucptrie_sets.specs.Sets.{IsWhyNoSetInUnits, IsWhyNotSerialized, bytes_of_unit, bytes_of_units, unit_of, units_in};
 
-use crate::fault::SetWriteFault;
+use crate::error::SetWriteError;
 use icu_invlist::codepointinvlist::CodePointInversionList;
 use icu_invlist_binary::serialized::{SerializedSetError, from_serialized, to_serialized};
 use std::alloc::{AllocError, Global};
@@ -31,12 +31,12 @@ fn bytes_of_units(alloc: Global, units: &[u16]) -> Result<Vec<u8>, AllocError>
 /// Returns the set in ICU's serialized form, as bytes.
 ///
 /// # Errors
-/// - `SetWriteFault::TooLong` if and only if the boundaries take more than 0x7FFF units.
-/// - `SetWriteFault::Memory` if an allocation fails.
+/// - `SetWriteError::TooLong` if and only if the boundaries take more than 0x7FFF units.
+/// - `SetWriteError::Memory` if an allocation fails.
 pub(crate) fn serialized_bytes(
     alloc: Global,
     set: &CodePointInversionList<'_>,
-) -> Result<Vec<u8>, SetWriteFault>
+) -> Result<Vec<u8>, SetWriteError>
     ensures ok { IfOk result (λ bytes. bytes.items ≡ bytes_of_units (units_of set.now)) }
     ensures room { OnOk result (HasForm set.now) }
     ensures err { IfErr result (IsWhyNotSerialized set.now) }

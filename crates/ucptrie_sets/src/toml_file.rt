@@ -11,7 +11,7 @@ ghost use Rattle.icu_zerovec.specs.CodePoints.{code_point_limit};
 ghost use Rattle.icu_invlist.specs.InversionList.{between, holds};
 ghost use Rattle.ucptrie_sets.specs.TomlSets.{asked_among, code_point_of, file_ranges, has_text, is_asked, items_at, items_in, pair_in, range_of, ranges_in, ranges_of, strings_in, strings_of_file, IsRefused, IsSetOfFile, IsSetOfRanges, IsWhyNoSetInFile};
 
-use crate::fault::SetFileFault;
+use crate::error::SetFileError;
 use icu_invlist::codepointinvlist::{CodePointInversionList, CodePointInversionListBuilder};
 use icu_zerovec::{CODE_POINT_LIMIT, MemoryError};
 use std::alloc::{AllocError, Global};
@@ -63,15 +63,15 @@ fn pair_of(value: &Value) -> Option<(u32, u32)>
 }
 
 /// Returns the inclusive bounds of item `i` of `ranges`.
-fn range_of(value: &Value, i: usize) -> Result<(u32, u32), SetFileFault>
+fn range_of(value: &Value, i: usize) -> Result<(u32, u32), SetFileError>
     ensures exact { result ≡ range_of i (view value.now) }
     ensures within { IfOk result (λ r. r.1 < code_point_limit) }
 {
     let Some((start, end)) = pair_of(value) else {
-        return Err(SetFileFault::NotAPair(i));
+        return Err(SetFileError::NotAPair(i));
     };
     if end < start {
-        return Err(SetFileFault::Reversed(i));
+        return Err(SetFileError::Reversed(i));
     }
     Ok((start, end))
 }
@@ -93,7 +93,7 @@ fn add_range(
 fn set_of_items(
     alloc: Global,
     items: &[Value],
-) -> Result<CodePointInversionList<'static>, SetFileFault>
+) -> Result<CodePointInversionList<'static>, SetFileError>
     ensures ok { IfOk result (λ set. (ranges : List (ℕ × ℕ))
         × (ranges_in (map view items.now) ≡ Ok ranges) × IsSetOfRanges ranges set) }
     ensures err { IfErr result (IsRefused (ranges_in (map view items.now))) }
@@ -159,17 +159,17 @@ fn first_asked<'a>(properties: &'a [Value], name: Option<&str>) -> Option<(&'a V
 }
 
 /// Returns the only one of the properties that is asked for.
-fn asked_among<'a>(properties: &'a [Value], name: Option<&str>) -> Result<&'a Value, SetFileFault>
+fn asked_among<'a>(properties: &'a [Value], name: Option<&str>) -> Result<&'a Value, SetFileError>
     ensures { MatchResult result
         (λ v. asked_among (option_map (λ n. n.now) name.entry) (map view properties.now)
         ≡ Ok (view v.now))
         (λ e. asked_among (option_map (λ n. n.now) name.entry) (map view properties.now) ≡ Err e) }
 {
     let Some((property, others)) = first_asked(properties, name) else {
-        return Err(SetFileFault::Missing);
+        return Err(SetFileError::Missing);
     };
     match first_asked(others, name) {
-        Some(_) => Err(SetFileFault::Several),
+        Some(_) => Err(SetFileError::Several),
         None => Ok(property),
     }
 }
@@ -200,7 +200,7 @@ fn set_of_table(
     alloc: Global,
     file: &Table,
     name: Option<&str>,
-) -> Result<CodePointInversionList<'static>, SetFileFault>
+) -> Result<CodePointInversionList<'static>, SetFileError>
     ensures ok { IfOk result (λ set. (ranges : List (ℕ × ℕ))
         × (file_ranges (option_map (λ n. n.now) name.entry) (table_view file.now) ≡ Ok ranges)
         × IsSetOfRanges ranges set) }
@@ -208,11 +208,11 @@ fn set_of_table(
         (IsRefused (file_ranges (option_map (λ n. n.now) name.entry) (table_view file.now))) }
 {
     let Some(properties) = items_at(file, "binary_property") else {
-        return Err(SetFileFault::NoSets);
+        return Err(SetFileError::NoSets);
     };
     let property = asked_among(properties, name)?;
     let Some(items) = ranges_of(property) else {
-        return Err(SetFileFault::NoRanges);
+        return Err(SetFileError::NoRanges);
     };
     set_of_items(alloc, items)
 }
@@ -224,20 +224,20 @@ fn set_of_table(
 /// read.
 ///
 /// # Errors
-/// Returns the first variant of [`SetFileFault`] that applies. The items of `ranges` are tested in
+/// Returns the first variant of [`SetFileError`] that applies. The items of `ranges` are tested in
 /// order. `Memory` is returned if an allocation fails.
 pub fn set_of_file(
     alloc: Global,
     text: &str,
     name: Option<&str>,
-) -> Result<CodePointInversionList<'static>, SetFileFault>
+) -> Result<CodePointInversionList<'static>, SetFileError>
     ensures ok { IfOk result (IsSetOfFile text.now (option_map (λ n. n.now) name.entry)) }
     ensures err { IfErr result (IsWhyNoSetInFile text.now (option_map (λ n. n.now) name.entry)) }
 {
     match toml::table_from_str(alloc, text) {
         Ok(file) => set_of_table(alloc, &file, name),
-        Err(error) if error.is_memory() => Err(SetFileFault::Memory),
-        Err(_) => Err(SetFileFault::NotToml),
+        Err(error) if error.is_memory() => Err(SetFileError::Memory),
+        Err(_) => Err(SetFileError::NotToml),
     }
 }
 

@@ -11,7 +11,7 @@ ghost use Rattle.ucptrie_sets.specs.Sets.{bytes_of_units};
 ghost use Rattle.ucptrie_sets.specs.WrittenSets.{IsWhyNotWritten};
 
 use crate::c_source::{c_text, frozen_c_text};
-use crate::fault::SetWriteFault;
+use crate::error::SetWriteError;
 use crate::rows::rows_text;
 use crate::rust_source::{frozen_rust_text, rust_text};
 use crate::serialized::serialized_bytes;
@@ -55,14 +55,14 @@ fn json_text(alloc: Global, set: &CodePointInversionList<'_>) -> Result<String, 
 /// Returns the set in a form, as the bytes of a file.
 ///
 /// # Errors
-/// - `SetWriteFault::TooLong` in ICU's serialized form, if and only if the boundaries take more
+/// - `SetWriteError::TooLong` in ICU's serialized form, if and only if the boundaries take more
 ///   than 0x7FFF units.
-/// - `SetWriteFault::Memory` if an allocation fails.
+/// - `SetWriteError::Memory` if an allocation fails.
 pub fn written(
     alloc: Global,
     set: &CodePointInversionList<'_>,
     form: SetForm<'_>,
-) -> Result<Vec<u8>, SetWriteFault>
+) -> Result<Vec<u8>, SetWriteError>
     ensures rows { form.entry ≡ SetForm.Rows
         → IfOk result (λ bytes. bytes.items ≡ rows_of set.now) }
     ensures icu { form.entry ≡ SetForm.Icu

@@ -7,12 +7,12 @@ use Rattle.std.proofs.lemmas.Bool.Decides.{nat_tests}
 use Rattle.icu_trie_core.specs.ValueNumbers.{fitting}
 use Rattle.icu_trie.specs.Parts.{Parts, last_cell}
 use Rattle.icu_trie_binary.specs.WrittenTrie.{why_not_written}
-use Rattle.ucptab_table.specs.declared.fault.TableError.TheVariants.{Row, TooLarge, Memory, Read, Write}
+use Rattle.ucptab_table.specs.declared.error.TableError.TheVariants.{Row, TooLarge, Memory, Read, Write}
 use Rattle.ucptrie_tables.specs.Inside.Numbers.{HasNumbersOf, IsWhyNotNarrowed}
 use Rattle.ucptrie_tables.specs.Tables.{HasBinaryForm, IsWhyNotWritten, first_unfit, values_in_turn}
 use Rattle.ucptrie_tables.specs.ValueWidth.{bytes_of}
-use Rattle.ucptrie_tables.specs.declared.fault.BuildFault.{BuildFault}
-use Rattle.ucptrie_tables.specs.declared.fault.BuildFault.TheVariants.{Table as TableFault, Width, Binary}
+use Rattle.ucptrie_tables.specs.declared.error.TableBuildError.{TableBuildError}
+use Rattle.ucptrie_tables.specs.declared.error.TableBuildError.TheVariants.{Table as TableFailed, Width, Binary}
 use Rattle.ucptrie_tables.specs.declared.table.Table.{Table}
 use Rattle.ucptrie_tables.specs.declared.width.ValueWidth.{ValueWidth}
 use Rattle.ucptrie_tables.specs.declared.written.Form.TheVariants.{Icu}
@@ -79,13 +79,13 @@ module _ (w : ValueWidth) (limit : ℕ) (unfit : (p : Parts ℕ) → first_unfit
     room = rw (width, sym (HasNumbersOf-same (2 ^ 32) limit t.trie n h)) room;
   }
 
-  pub IsWhyNotWritten-narrowed : (t : Table) (e : BuildFault) → t.width ≡ w
+  pub IsWhyNotWritten-narrowed : (t : Table) (e : TableBuildError) → t.width ≡ w
       → IsWhyNotNarrowed (bytes_of w) (λ n. n) (fitting limit) t e → IsWhyNotWritten Icu t e
-  IsWhyNotWritten-narrowed t (TableFault Memory) width why = tt
-  IsWhyNotWritten-narrowed t (TableFault (Row k f)) width why = absurd why
-  IsWhyNotWritten-narrowed t (TableFault TooLarge) width why = absurd why
-  IsWhyNotWritten-narrowed t (TableFault Read) width why = absurd why
-  IsWhyNotWritten-narrowed t (TableFault Write) width why = absurd why
+  IsWhyNotWritten-narrowed t (TableFailed Memory) width why = tt
+  IsWhyNotWritten-narrowed t (TableFailed (Row k f)) width why = absurd why
+  IsWhyNotWritten-narrowed t (TableFailed TooLarge) width why = absurd why
+  IsWhyNotWritten-narrowed t (TableFailed Read) width why = absurd why
+  IsWhyNotWritten-narrowed t (TableFailed Write) width why = absurd why
   IsWhyNotWritten-narrowed t (Width value given) width why =
       let h = why.1 in
       let null : h.null ≡ t.trie.header.null_value = fitted (2 ^ 32) t.trie.header.null_value h.null h.null_is in
@@ -101,7 +101,7 @@ module _ (w : ValueWidth) (limit : ℕ) (unfit : (p : Parts ℕ) → first_unfit
   HasBinaryForm-narrowed-ok Bytes t width (Ok v) over = HasBinaryForm-narrowed t over.0 width over.1 over.2
   HasBinaryForm-narrowed-ok Bytes t width (Err e) over = tt
 
-  pub IsWhyNotWritten-narrowed-err : {V : Type 0} (t : Table) → t.width ≡ w → (r : Result V BuildFault)
+  pub IsWhyNotWritten-narrowed-err : {V : Type 0} (t : Table) → t.width ≡ w → (r : Result V TableBuildError)
       → IfErr r (IsWhyNotNarrowed (bytes_of w) (λ n. n) (fitting limit) t) → IfErr r (IsWhyNotWritten Icu t)
   IsWhyNotWritten-narrowed-err t width (Ok v) why = tt
   IsWhyNotWritten-narrowed-err t width (Err e) why = IsWhyNotWritten-narrowed t e width why

@@ -6,8 +6,8 @@ use Rattle.std.specs.Str.Lines.{lines}
 use Rattle.ucptab_table.specs.TableText.{code_points_of, content_of}
 use Rattle.ucptab_table.specs.declared.rows.CodePoints.{CodePoints}
 use Rattle.ucptab_table.specs.declared.rows.CodePoints.TheVariants.{Single, Span}
-use Rattle.ucptrie_tables.specs.declared.asked.AskedFault.{AskedFault}
-use Rattle.ucptrie_tables.specs.declared.asked.AskedFault.TheVariants.{Line, Memory}
+use Rattle.ucptrie_tables.specs.declared.asked.AskedError.{AskedError}
+use Rattle.ucptrie_tables.specs.declared.asked.AskedError.TheVariants.{Line, Memory}
 
 -- So many numbers from the first one on, in ascending order.
 abbrev pub numbers_from : ℕ → ℕ → List ℕ
@@ -48,6 +48,6 @@ pub record IsFirstUnasked (text : List ℕ) (k : ℕ) : Type 0 where
   pub before : All IsAsking (take (k - 1) (lines text))
 
 -- Why a text asks for no numbers. No clause can say when an allocation fails.
-abbrev pub IsWhyNotAsked : List ℕ → AskedFault → Type 0
+abbrev pub IsWhyNotAsked : List ℕ → AskedError → Type 0
 IsWhyNotAsked text (Line k) = IsFirstUnasked text k
 IsWhyNotAsked text Memory = ⊤

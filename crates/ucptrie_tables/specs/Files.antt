@@ -22,8 +22,8 @@ use Rattle.icu_trie_formats.specs.declared.trie_toml.TrieFromTomlError.{TrieFrom
 use Rattle.icu_trie_formats.specs.declared.trie_toml.TrieFromTomlError.TheVariants as trie_refusals
 use Rattle.ucptrie_tables.specs.TomlFiles.{trie_table, width_of}
 use Rattle.ucptrie_tables.specs.ValueWidth.{bytes_of}
-use Rattle.ucptrie_tables.specs.declared.fault.ReadFault.{ReadFault}
-use Rattle.ucptrie_tables.specs.declared.fault.ReadFault.TheVariants.{Binary, Json, TrieJson, Toml, TrieToml, Memory}
+use Rattle.ucptrie_tables.specs.declared.error.ReadError.{ReadError}
+use Rattle.ucptrie_tables.specs.declared.error.ReadError.TheVariants.{Binary, Json, TrieJson, Toml, TrieToml, Memory}
 use Rattle.ucptrie_tables.specs.declared.table.Table.{Table}
 use Rattle.ucptrie_tables.specs.declared.width.ValueWidth.TheVariants.{Bits32}
 
@@ -75,7 +75,7 @@ IsSwappedOf file t = IsBinaryOf (in_other_order (bytes_of t.width) file) t
 
 -- Why a file with the signature has no table: its first fault as a trie of the width that its
 -- header has. No clause can say when an allocation fails, here and below.
-abbrev pub IsWhyNoBinary : List ℕ → ReadFault → Type 0
+abbrev pub IsWhyNoBinary : List ℕ → ReadError → Type 0
 IsWhyNoBinary file (Binary why) = IsWhyNoneStored file why
 IsWhyNoBinary file Memory = ⊤
 IsWhyNoBinary file _ = ⊥
@@ -94,7 +94,7 @@ IsWhyNoneSwapped file why =
     ⊎ (IsWhyNotSwappedAs 2 file OtherWidth × IsWhyNotSwappedAs 4 file why)))
 
 -- Why a file with the signature in the other byte order has no table.
-abbrev pub IsWhyNoSwapped : List ℕ → ReadFault → Type 0
+abbrev pub IsWhyNoSwapped : List ℕ → ReadError → Type 0
 IsWhyNoSwapped file (Binary why) = IsWhyNoneSwapped file why
 IsWhyNoSwapped file Memory = ⊤
 IsWhyNoSwapped file _ = ⊥
@@ -107,7 +107,7 @@ IsJsonOf text t = (d : Data) × (read_text text ≡ Some d)
     × (trie_of_json (fitting (2 ^ 32)) d ≡ Ok t.trie) × (t.width ≡ Bits32)
 
 -- Why a text taken for JSON has no table: it is not JSON, or the first fault of its JSON as a trie.
-abbrev pub IsWhyNoJson : List ℕ → ReadFault → Type 0
+abbrev pub IsWhyNoJson : List ℕ → ReadError → Type 0
 IsWhyNoJson text (Json why) = read_text text ≡ None
 IsWhyNoJson text (TrieJson json_refusals.Memory) = ⊥
 IsWhyNoJson text (TrieJson why) = (d : Data) × (read_text text ≡ Some d)
@@ -139,19 +139,19 @@ IsWhyNoTrieToml table (trie_refusals.Trie why) = (parts : TomlParts) × (toml_of
 IsWhyNoTrieToml table trie_refusals.Memory = ⊥
 
 -- The same as a fault of reading.
-abbrev pub IsWhyNoTomlTrie : Members → ReadFault → Type 0
+abbrev pub IsWhyNoTomlTrie : Members → ReadError → Type 0
 IsWhyNoTomlTrie table (TrieToml why) = IsWhyNoTrieToml table why
 IsWhyNoTomlTrie table Memory = ⊤
 IsWhyNoTomlTrie table _ = ⊥
 
 -- Why a text is not read as TOML.
-abbrev pub IsWhyNotToml : List ℕ → ReadFault → Type 0
+abbrev pub IsWhyNotToml : List ℕ → ReadError → Type 0
 IsWhyNotToml text (Toml why) = parse_document text ≡ None
 IsWhyNotToml text Memory = ⊤
 IsWhyNotToml text _ = ⊥
 
 -- Why a text taken for TOML has no table: it is not TOML, or its table is not a trie.
-abbrev pub IsWhyNoToml : List ℕ → ReadFault → Type 0
+abbrev pub IsWhyNoToml : List ℕ → ReadError → Type 0
 IsWhyNoToml text (Toml why) = parse_document text ≡ None
 IsWhyNoToml text (TrieToml why) = (file : Members) × (parse_document text ≡ Some file)
     × IsWhyNoTrieToml (trie_table file) why
@@ -161,16 +161,16 @@ IsWhyNoToml text _ = ⊥
 -- ---- How the errors of the crates below are passed on: an allocation that failed is `Memory`
 
 -- The error of a trie in JSON.
-abbrev pub refusal_of_json : TrieJsonError → ReadFault
+abbrev pub refusal_of_json : TrieJsonError → ReadError
 refusal_of_json json_refusals.Memory = Memory
 refusal_of_json why = TrieJson why
 
 -- The error of a trie in TOML.
-abbrev pub refusal_of_toml : TrieFromTomlError → ReadFault
+abbrev pub refusal_of_toml : TrieFromTomlError → ReadError
 refusal_of_toml trie_refusals.Memory = Memory
 refusal_of_toml why = TrieToml why
 
 -- The error of a trie in the other byte order.
-abbrev pub refusal_of_swapped : SwappedError → ReadFault
+abbrev pub refusal_of_swapped : SwappedError → ReadError
 refusal_of_swapped (swapped_refusals.Binary why) = Binary why
 refusal_of_swapped swapped_refusals.Memory = Memory

@@ -12,12 +12,12 @@ use Rattle.icu_trie_formats.specs.TrieToml.{items_in}
 use Rattle.ucptrie_tables.specs.Files.{HasNoForm, HasSignature, HasSwappedSignature, IsBinaryOf, IsJsonOf, IsSwappedOf, IsTakenForJson, IsTakenForToml, IsTomlTrieOf, IsWhyNoBinary, IsWhyNoJson, IsWhyNoSwapped, IsWhyNoTomlTrie}
 use Rattle.ucptrie_tables.specs.TomlFiles.{trie_of_table}
 use Rattle.ucptrie_tables.specs.TomlNames.{names_of}
-use Rattle.ucptrie_tables.specs.declared.fault.ReadFault.{ReadFault}
-use Rattle.ucptrie_tables.specs.declared.fault.ReadFault.TheVariants.{Memory, Text}
-use Rattle.ucptrie_tables.specs.declared.properties.PropertyFault.{PropertyFault}
-use Rattle.ucptrie_tables.specs.declared.properties.PropertyFault.TheVariants.{Read, NotToml, Missing, Several}
+use Rattle.ucptrie_tables.specs.declared.error.ReadError.{ReadError}
+use Rattle.ucptrie_tables.specs.declared.error.ReadError.TheVariants.{Memory, Text}
+use Rattle.ucptrie_tables.specs.declared.properties.PropertyError.{PropertyError}
+use Rattle.ucptrie_tables.specs.declared.properties.PropertyError.TheVariants.{Read, NotToml, Missing, Several}
 use Rattle.ucptrie_tables.specs.declared.table.Table.{Table}
-use Rattle.ucptrie_tables.specs.declared.toml_names.NamesFault.{NamesFault}
+use Rattle.ucptrie_tables.specs.declared.toml_names.NamesError.{NamesError}
 
 -- ---- The properties of a file
 
@@ -78,9 +78,9 @@ chosen_trie name file = of_asked (asked_of name file) name where
   of_asked (p ∷ q ∷ ps) name = None
 
 -- The names of the values of the only property that is asked for. Without one there are none.
-abbrev pub chosen_names : Option (List ℕ) → Members → Result (List (List ℕ × ℕ)) NamesFault
+abbrev pub chosen_names : Option (List ℕ) → Members → Result (List (List ℕ × ℕ)) NamesError
 chosen_names name file = of_asked (asked_of name file) where
-  of_asked : List TrieProperty → Result (List (List ℕ × ℕ)) NamesFault
+  of_asked : List TrieProperty → Result (List (List ℕ × ℕ)) NamesError
   of_asked [] = Ok []
   of_asked (p ∷ []) = names_of p.table
   of_asked (p ∷ q ∷ ps) = Ok []
@@ -94,14 +94,14 @@ abbrev pub listed : List TrieProperty → List ℕ
 listed = join_by name_of (codes ", ")
 
 -- Why the trie of a file that is chosen can't be read.
-abbrev pub IsWhyUnread : Option Members → ReadFault → Type 0
+abbrev pub IsWhyUnread : Option Members → ReadError → Type 0
 IsWhyUnread chosen Memory = ⊤
 IsWhyUnread None why = ⊥
 IsWhyUnread (Some trie) why = IsWhyNoTomlTrie trie why
 
 -- Why a file has no table of the property that is asked for: none has the name, or several are
 -- asked for, or the chosen trie can't be read.
-abbrev pub IsWhyNoneAsked : Option (List ℕ) → Members → PropertyFault → Type 0
+abbrev pub IsWhyNoneAsked : Option (List ℕ) → Members → PropertyError → Type 0
 IsWhyNoneAsked name file (Read why) = IsWhyUnread (chosen_trie name file) why
 IsWhyNoneAsked name file NotToml = ⊥
 IsWhyNoneAsked name file (Missing found) = (is_some name ≡ true) × (asked_of name file ≡ [])
@@ -118,14 +118,14 @@ pub record IsAskedTable (text : List ℕ) (name : Option (List ℕ)) (t : Table)
   pub trie : IsTomlTrieOf chosen t
 
 -- Why a TOML text has no such table.
-abbrev pub IsWhyNotAsked : List ℕ → Option (List ℕ) → PropertyFault → Type 0
+abbrev pub IsWhyNotAsked : List ℕ → Option (List ℕ) → PropertyError → Type 0
 IsWhyNotAsked text name fault =
     (file : Members) × (parse_document text ≡ Some file) × IsWhyNoneAsked name file fault
 
 -- ---- Files in other forms
 
 -- What `read_table` returns for a file in each form but TOML.
-pub record IsReadOf (file : List ℕ) (read : Result Table ReadFault) : Type 0 where
+pub record IsReadOf (file : List ℕ) (read : Result Table ReadError) : Type 0 where
   pub binary : HasSignature file → MatchResult read (IsBinaryOf file) (IsWhyNoBinary file)
   pub swapped : HasSwappedSignature file
       → MatchResult read (IsSwappedOf file) (IsWhyNoSwapped file)
@@ -133,7 +133,7 @@ pub record IsReadOf (file : List ℕ) (read : Result Table ReadFault) : Type 0 w
   pub text : HasNoForm file → read ≡ Err Text
 
 -- The same as the result of `read_property`.
-abbrev pub of_property : Result Table ReadFault → Result Table PropertyFault
+abbrev pub of_property : Result Table ReadError → Result Table PropertyError
 of_property (Ok t) = Ok t
 of_property (Err fault) = Err (Read fault)
 

@@ -7,11 +7,11 @@ use Rattle.icu_trie_builder.specs.Bounds.{IsTooLarge}
 use Rattle.icu_trie_builder.specs.Built.{IsWellBuilt}
 use Rattle.icu_trie_builder.specs.MapAnswers.{AnswersMap}
 use Rattle.icu_trie_builder.specs.NullBlock.{HasDefaultNull}
-use Rattle.ucptab_table.specs.declared.fault.TableError.TheVariants.{TooLarge, Memory}
+use Rattle.ucptab_table.specs.declared.error.TableError.TheVariants.{TooLarge, Memory}
 use Rattle.ucptrie_tables.specs.Tables.{IsValueOfMap}
 use Rattle.ucptrie_tables.specs.ValueWidth.{bits_of, first_wider}
-use Rattle.ucptrie_tables.specs.declared.fault.BuildFault.{BuildFault}
-use Rattle.ucptrie_tables.specs.declared.fault.BuildFault.TheVariants.{Table as TableFault, Width, Binary}
+use Rattle.ucptrie_tables.specs.declared.error.TableBuildError.{TableBuildError}
+use Rattle.ucptrie_tables.specs.declared.error.TableBuildError.TheVariants.{Table as TableFailed, Width, Binary}
 use Rattle.ucptrie_tables.specs.declared.table.Table.{Table}
 use Rattle.ucptrie_tables.specs.declared.width.ValueWidth.{ValueWidth}
 
@@ -52,11 +52,11 @@ pub record IsTooWideRebuilt (old : Parts ℕ) (kind : TrieType) (asked : ValueWi
 
 -- Why a table is not rebuilt: its values make too many different blocks for a trie, or one has more
 -- bits than the requested width. No clause can say when an allocation fails.
-abbrev pub IsWhyNotRebuilt : Parts ℕ → TrieType → ValueWidth → ℕ → BuildFault → Type 0
-IsWhyNotRebuilt old trie_type width error (TableFault TooLarge) =
+abbrev pub IsWhyNotRebuilt : Parts ℕ → TrieType → ValueWidth → ℕ → TableBuildError → Type 0
+IsWhyNotRebuilt old trie_type width error (TableFailed TooLarge) =
     (value : ℕ → ℕ) × (AreValues old value × IsTooLarge value)
-IsWhyNotRebuilt old trie_type width error (TableFault Memory) = ⊤
-IsWhyNotRebuilt old trie_type width error (TableFault _) = ⊥
+IsWhyNotRebuilt old trie_type width error (TableFailed Memory) = ⊤
+IsWhyNotRebuilt old trie_type width error (TableFailed _) = ⊥
 IsWhyNotRebuilt old trie_type width error (Width value given) =
     IsTooWideRebuilt old trie_type width error value given
 IsWhyNotRebuilt old trie_type width error (Binary why) = ⊥

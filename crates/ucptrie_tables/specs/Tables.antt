@@ -15,10 +15,10 @@ use Rattle.icu_trie_builder.specs.NullBlock.{HasDefaultNull}
 use Rattle.icu_trie_builder.specs.Writes.{value_after}
 use Rattle.icu_trie_builder.specs.declared.writes.Write.{Write}
 use Rattle.ucptab_table.specs.TableText.{AreRows, IsFirstFault, IsTooLargeInput}
-use Rattle.ucptab_table.specs.declared.fault.TableError.TheVariants.{Row, TooLarge, Memory}
+use Rattle.ucptab_table.specs.declared.error.TableError.TheVariants.{Row, TooLarge, Memory}
 use Rattle.ucptrie_tables.specs.ValueWidth.{bits_of, bytes_of, first_wider}
-use Rattle.ucptrie_tables.specs.declared.fault.BuildFault.{BuildFault}
-use Rattle.ucptrie_tables.specs.declared.fault.BuildFault.TheVariants.{Table as TableFault, Width, Binary}
+use Rattle.ucptrie_tables.specs.declared.error.TableBuildError.{TableBuildError}
+use Rattle.ucptrie_tables.specs.declared.error.TableBuildError.TheVariants.{Table as TableFailed, Width, Binary}
 use Rattle.ucptrie_tables.specs.declared.table.Table.{Table}
 use Rattle.ucptrie_tables.specs.declared.table.TableOptions.{TableOptions}
 use Rattle.ucptrie_tables.specs.declared.width.ValueWidth.{ValueWidth}
@@ -65,11 +65,11 @@ pub record IsTooWideForWrites (writes : List (Write ℕ)) (options : TableOption
 
 -- Why writes make no table: they make too many different blocks for a trie, or a value has more
 -- bits than the requested width. No clause can say when an allocation fails.
-abbrev pub IsWhyNoTableOfWrites : List (Write ℕ) → TableOptions → BuildFault → Type 0
-IsWhyNoTableOfWrites writes options (TableFault TooLarge) =
+abbrev pub IsWhyNoTableOfWrites : List (Write ℕ) → TableOptions → TableBuildError → Type 0
+IsWhyNoTableOfWrites writes options (TableFailed TooLarge) =
     IsTooLarge (value_after writes options.default)
-IsWhyNoTableOfWrites writes options (TableFault Memory) = ⊤
-IsWhyNoTableOfWrites writes options (TableFault _) = ⊥
+IsWhyNoTableOfWrites writes options (TableFailed Memory) = ⊤
+IsWhyNoTableOfWrites writes options (TableFailed _) = ⊥
 IsWhyNoTableOfWrites writes options (Width value width) =
     IsTooWideForWrites writes options value width
 IsWhyNoTableOfWrites writes options (Binary why) = ⊥
@@ -104,11 +104,11 @@ pub record IsTooWide (input : List ℕ) (options : TableOptions) (value : ℕ) (
 -- Why an input makes no table: a line has a fault, and no line before it has one; the rows make
 -- too many different blocks for a trie; or a value has more bits than the requested width. No
 -- clause can say when an allocation fails.
-abbrev pub IsWhyNoTable : List ℕ → TableOptions → BuildFault → Type 0
-IsWhyNoTable input options (TableFault (Row k f)) = IsFirstFault input k f
-IsWhyNoTable input options (TableFault TooLarge) = IsTooLargeInput options.default input
-IsWhyNoTable input options (TableFault Memory) = ⊤
-IsWhyNoTable input options (TableFault _) = ⊥
+abbrev pub IsWhyNoTable : List ℕ → TableOptions → TableBuildError → Type 0
+IsWhyNoTable input options (TableFailed (Row k f)) = IsFirstFault input k f
+IsWhyNoTable input options (TableFailed TooLarge) = IsTooLargeInput options.default input
+IsWhyNoTable input options (TableFailed Memory) = ⊤
+IsWhyNoTable input options (TableFailed _) = ⊥
 IsWhyNoTable input options (Width value width) = IsTooWide input options value width
 IsWhyNoTable input options (Binary why) = ⊥
 
@@ -138,9 +138,9 @@ pub record HasBinaryForm (t : Table) : Type 0 where
 -- Why a table is not written. Only the binary form has such reasons: the first value that has more
 -- bits than the table's width, else why the form cannot store the trie. No contract can say when an
 -- allocation fails.
-abbrev pub IsWhyNotWritten : Form → Table → BuildFault → Type 0
-IsWhyNotWritten form t (TableFault Memory) = ⊤
-IsWhyNotWritten form t (TableFault _) = ⊥
+abbrev pub IsWhyNotWritten : Form → Table → TableBuildError → Type 0
+IsWhyNotWritten form t (TableFailed Memory) = ⊤
+IsWhyNotWritten form t (TableFailed _) = ⊥
 IsWhyNotWritten form t (Width value width) =
     (form ≡ Icu) × (width ≡ t.width) × (first_unfit t.width t.trie ≡ Some value)
 IsWhyNotWritten form t (Binary why) =
@@ -148,12 +148,12 @@ IsWhyNotWritten form t (Binary why) =
     × (why_not_written (bytes_of t.width) (λ n. n) t.trie ≡ Some why)
 
 -- The error of `built` for an error of `written`: a failed allocation is `Memory`.
-abbrev pub refusal_of_write : WriteError → BuildFault
-refusal_of_write WriteMemory = TableFault Memory
+abbrev pub refusal_of_write : WriteError → TableBuildError
+refusal_of_write WriteMemory = TableFailed Memory
 refusal_of_write why = Binary why
 
 -- Why `built` fails: the rows make no table, or their table cannot be written.
-abbrev pub IsWhyNotBuilt : List ℕ → TableOptions → Form → BuildFault → Type 0
+abbrev pub IsWhyNotBuilt : List ℕ → TableOptions → Form → TableBuildError → Type 0
 IsWhyNotBuilt input options form fault =
     IsWhyNoTable input options fault
     ⊎ ((t : Table) × (IsTableOf input options t × IsWhyNotWritten form t fault))

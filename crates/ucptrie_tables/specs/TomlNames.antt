@@ -9,8 +9,8 @@ use Rattle.ucd_files.specs.Names.{is_match}
 use Rattle.ucd_files.specs.declared.names.Matching.TheVariants.{Exact}
 use Rattle.ucptrie_tables.specs.declared.toml_names.NameArray.{NameArray}
 use Rattle.ucptrie_tables.specs.declared.toml_names.NameArray.TheVariants.{Values, Ranges}
-use Rattle.ucptrie_tables.specs.declared.toml_names.NamesFault.{NamesFault}
-use Rattle.ucptrie_tables.specs.declared.toml_names.NamesFault.TheVariants.{Item, Memory}
+use Rattle.ucptrie_tables.specs.declared.toml_names.NamesError.{NamesError}
+use Rattle.ucptrie_tables.specs.declared.toml_names.NamesError.TheVariants.{Item, Memory}
 
 -- ---- Names with numbers, as pairs
 
@@ -103,7 +103,7 @@ with_item array names d = option_and_then (λ table.
 -- The names of the values that the items of an array are, the first of which has index i; or the
 -- first item that is none.
 abbrev pub with_items : NameArray → ℕ → List (List ℕ × ℕ) → List Data
-    → Result (List (List ℕ × ℕ)) NamesFault
+    → Result (List (List ℕ × ℕ)) NamesError
 with_items array i names [] = Ok names
 with_items array i names (d ∷ ds) = and_then (ok_or (with_item array names d) (Item array i))
     (λ more. with_items array (i + 1) more ds)
@@ -113,13 +113,13 @@ abbrev pub items_at : List ℕ → Members → Option (List Data)
 items_at key table = option_and_then items_in (get_member key table)
 
 -- The names of a property's values: those in `values`, or else those in `ranges`.
-abbrev pub names_of : Members → Result (List (List ℕ × ℕ)) NamesFault
+abbrev pub names_of : Members → Result (List (List ℕ × ℕ)) NamesError
 names_of property = of_values (items_at (codes "values") property) where
-  of_ranges : Option (List Data) → Result (List (List ℕ × ℕ)) NamesFault
+  of_ranges : Option (List Data) → Result (List (List ℕ × ℕ)) NamesError
   of_ranges None = Ok []
   of_ranges (Some items) = with_items Ranges 0 [] items
 
-  of_values : Option (List Data) → Result (List (List ℕ × ℕ)) NamesFault
+  of_values : Option (List Data) → Result (List (List ℕ × ℕ)) NamesError
   of_values None = of_ranges (items_at (codes "ranges") property)
   of_values (Some items) = with_items Values 0 [] items
 
@@ -131,6 +131,6 @@ AreNamesOr (Some names) is new = (is ≡ true) × (new ≡ names)
 AreNamesOr None is new = is ≡ false
 
 -- The error of a reader is its first fault. No clause can say when an allocation fails.
-abbrev pub IsWhyNoNames : Result (List (List ℕ × ℕ)) NamesFault → NamesFault → Type 0
+abbrev pub IsWhyNoNames : Result (List (List ℕ × ℕ)) NamesError → NamesError → Type 0
 IsWhyNoNames read Memory = ⊤
 IsWhyNoNames read fault = read ≡ Err fault

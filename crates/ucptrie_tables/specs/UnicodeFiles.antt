@@ -1,13 +1,13 @@
 -- The table of a file of the Unicode Character Database.
 use Rattle.std.specs.Prelude.{ℕ, List, ⊤}
 use Rattle.ucd_files.specs.Files.{AreStatements, IsFirstFault, IsUnfinished, writes_of}
-use Rattle.ucd_files.specs.declared.fault.FileFault.TheVariants.{Line, Unfinished, Memory}
+use Rattle.ucd_files.specs.declared.error.FileError.TheVariants.{Line, Unfinished, Memory}
 use Rattle.ucd_files.specs.declared.names.Numbering.{Numbering}
 use Rattle.ucd_files.specs.declared.statement.Columns.{Columns}
 use Rattle.ucd_files.specs.declared.statement.Statement.{Statement}
 use Rattle.ucptrie_tables.specs.Tables.{IsTableOfWrites, IsWhyNoTableOfWrites}
-use Rattle.ucptrie_tables.specs.declared.fault.UnicodeFileFault.{UnicodeFileFault}
-use Rattle.ucptrie_tables.specs.declared.fault.UnicodeFileFault.TheVariants.{File, Build}
+use Rattle.ucptrie_tables.specs.declared.error.UnicodeFileError.{UnicodeFileError}
+use Rattle.ucptrie_tables.specs.declared.error.UnicodeFileError.TheVariants.{File, Build}
 use Rattle.ucptrie_tables.specs.declared.table.Table.{Table}
 use Rattle.ucptrie_tables.specs.declared.table.TableOptions.{TableOptions}
 
@@ -22,7 +22,7 @@ module _ (columns : Columns) (numbering : Numbering) (file : List ℕ) (options 
 
   -- Why a file makes no table: the first line that has a fault; a range that is not finished; or
   -- what its lines say makes none. No clause can say when an allocation fails.
-  abbrev pub IsWhyNoTableOfFile : UnicodeFileFault → Type 0
+  abbrev pub IsWhyNoTableOfFile : UnicodeFileError → Type 0
   IsWhyNoTableOfFile (File (Line k f)) = IsFirstFault columns numbering file k f
   IsWhyNoTableOfFile (File Unfinished) = IsUnfinished columns numbering file
   IsWhyNoTableOfFile (File Memory) = ⊤

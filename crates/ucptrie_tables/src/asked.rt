@@ -10,7 +10,7 @@ use ucptab_table::rows::{CodePoints, code_points_of, content_of};
 
 /// Why a text asks for no numbers.
 #[derive(Clone, Copy, Debug, PartialEq, Eq)]
-pub enum AskedFault {
+pub enum AskedError {
     /// The first line, counted from 1, that is neither `HEX` nor `HEX..HEX`.
     Line(u64),
     /// An allocation failed.
@@ -71,9 +71,9 @@ fn push_line(asked: &mut Vec<u32>, line: &[u8]) -> Result<bool, AllocError>
 /// blank lines ask for nothing.
 ///
 /// # Errors
-/// Returns [`AskedFault::Line`] for the first line with another field, and [`AskedFault::Memory`]
+/// Returns [`AskedError::Line`] for the first line with another field, and [`AskedError::Memory`]
 /// if an allocation fails.
-pub fn push_asked_lines(asked: &mut Vec<u32>, text: &[u8]) -> Result<(), AskedFault>
+pub fn push_asked_lines(asked: &mut Vec<u32>, text: &[u8]) -> Result<(), AskedError>
     ensures ok { OnOk result (AreAsked text.now asked.old.items asked.new.items) }
     ensures err { IfErr result (IsWhyNotAsked text.now) }
 {
@@ -84,8 +84,8 @@ pub fn push_asked_lines(asked: &mut Vec<u32>, text: &[u8]) -> Result<(), AskedFa
         rest = after;
         match push_line(asked, line) {
             Ok(true) => {}
-            Ok(false) => return Err(AskedFault::Line(number)),
-            Err(_) => return Err(AskedFault::Memory),
+            Ok(false) => return Err(AskedError::Line(number)),
+            Err(_) => return Err(AskedError::Memory),
         }
     }
     Ok(())

@@ -23,7 +23,7 @@
 //! - `toml_text`: a table in TOML
 //! - `value_names`: names of values in C and in Rust; `static_source`: a static trie in Rust
 //! - `names_list`: names of values as lines `NUMBER;NAME`
-//! - `fault`: why a table can't be made, written or read
+//! - `error`: why a table can't be made, written or read
 #![tactic(auto)]
 
 ghost use Rattle.std.specs.Prelude.{◌≡◌, ◌++◌, ℕ, List, [], ◌∷◌, Err, IfErr, IfOk};
@@ -31,12 +31,12 @@ ghost use Rattle.std.specs.Borrow.{Bor};
 ghost use Rattle.serde_json.specs.Written.{compact_text};
 ghost use Rattle.icu_trie_formats.specs.TrieJson.{json_of};
 ghost use Rattle.ucptab_table.specs.TableText.{IsFirstFault, IsTableText, IsTooLargeInput};
-ghost use Rattle.ucptab_table.specs.declared.fault.RowFault.{RowFault};
-ghost use Rattle.ucptab_table.specs.declared.fault.TableError.TheVariants.{Row, TooLarge};
+ghost use Rattle.ucptab_table.specs.declared.error.RowError.{RowError};
+ghost use Rattle.ucptab_table.specs.declared.error.TableError.TheVariants.{Row, TooLarge};
 ghost use Rattle.ucptrie_tables.specs.Stated.{stating_lines};
 ghost use Rattle.ucptrie_tables.specs.TableSource.{c_text, rust_text, toml_text};
 ghost use Rattle.ucptrie_tables.specs.Tables.{binary_bytes, IsTableOf, IsWhyNotBuilt};
-ghost use Rattle.ucptrie_tables.specs.declared.fault.BuildFault.TheVariants.{Table as TableFault};
+ghost use Rattle.ucptrie_tables.specs.declared.error.TableBuildError.TheVariants.{Table as TableFailed};
 ghost use Rattle.ucptrie_tables.specs.declared.table.Table.{Table};
 
 pub mod asked;
@@ -44,8 +44,8 @@ mod c_source;
 mod cells;
 pub mod compare;
 pub mod diff;
+pub mod error;
 pub mod explain;
-pub mod fault;
 pub mod names_list;
 pub mod other_toml;
 pub mod parsed;
@@ -67,7 +67,7 @@ mod values;
 pub mod width;
 pub mod written;
 
-use crate::fault::BuildFault;
+use crate::error::TableBuildError;
 use crate::table::{TableOptions, table_of_rows};
 use crate::written::{Form, written};
 use std::alloc::Global;
@@ -78,17 +78,17 @@ use std::alloc::Global;
 /// that state the null value and the error value.
 ///
 /// # Errors
-/// Returns [`BuildFault::Table`] for the first line that is not a row, for a map that is too large
-/// for a trie, and if an allocation fails. Returns [`BuildFault::Width`] for a value of a code
+/// Returns [`TableBuildError::Table`] for the first line that is not a row, for a map that is too large
+/// for a trie, and if an allocation fails. Returns [`TableBuildError::Width`] for a value of a code
 /// point, or the error value, that has more bits than the asked width; in ICU's binary form also
-/// for the null value. Returns [`BuildFault::Binary`] if ICU's binary form has no room for the
+/// for the null value. Returns [`TableBuildError::Binary`] if ICU's binary form has no room for the
 /// trie.
 pub fn built(
     alloc: Global,
     rows: &[u8],
     options: TableOptions,
     form: Form<'_>,
-) -> Result<Vec<u8>, BuildFault>
+) -> Result<Vec<u8>, TableBuildError>
     ensures rows { form.entry ≡ Form.Rows → IfOk result
         (λ bytes. (t : Table) × (IsTableOf rows.now options t × ((text : List ℕ)
         × (IsTableText rows.now options.default options.error [] text
@@ -107,9 +107,9 @@ pub fn built(
         (λ bytes. (t : Table)
         × (IsTableOf rows.now options t × (bytes.items ≡ rust_text name.now t))) }
     ensures err { IfErr result (IsWhyNotBuilt rows.now options form.entry) }
-    ensures row { (k : ℕ) (f : RowFault) → result ≡ Err (TableFault (Row k f))
+    ensures row { (k : ℕ) (f : RowError) → result ≡ Err (TableFailed (Row k f))
         → IsFirstFault rows.now k f }
-    ensures too_large { result ≡ Err (TableFault TooLarge)
+    ensures too_large { result ≡ Err (TableFailed TooLarge)
         → IsTooLargeInput options.default rows.now }
 {
     let table = table_of_rows(alloc, rows, options)?;

@@ -3,7 +3,7 @@ ghost use Rattle.std.specs.Prelude.{◌≡◌, ℕ, List, IfErr, IfOk, option_ma
 ghost use Rattle.ucptrie_tables.specs.Files.{IsTakenForToml, IsWhyNotToml};
 ghost use Rattle.ucptrie_tables.specs.Properties.{IsTomlFileOf};
 
-use crate::fault::ReadFault;
+use crate::error::ReadError;
 use crate::read::{file_of_toml, toml_text};
 use std::alloc::Global;
 use std::marker::Model;
@@ -27,9 +27,9 @@ impl<'f> ParsedFile<'f> {
     /// Parses a file if it is taken for TOML.
     ///
     /// # Errors
-    /// Returns [`ReadFault::Toml`] if the text is not TOML, and [`ReadFault::Memory`] if an
+    /// Returns [`ReadError::Toml`] if the text is not TOML, and [`ReadError::Memory`] if an
     /// allocation fails.
-    pub fn new(alloc: Global, bytes: &'f [u8]) -> Result<ParsedFile<'f>, ReadFault>
+    pub fn new(alloc: Global, bytes: &'f [u8]) -> Result<ParsedFile<'f>, ReadError>
         ensures ok { IfOk result (λ file. file ≡ bytes.now) }
         ensures err { IfErr result (λ e. IsTakenForToml bytes.now × IsWhyNotToml bytes.now e) }
     {

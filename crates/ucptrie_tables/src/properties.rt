@@ -8,15 +8,15 @@ ghost use Rattle.ucptrie_tables.specs.Files.{IsTakenForToml};
 ghost use Rattle.ucptrie_tables.specs.Inside.ReadProperties.{as_read};
 ghost use Rattle.ucptrie_tables.specs.Properties.{asked_of, chosen_names, chosen_trie, is_asked, is_named, is_text, listed, name_of, of_property, properties_at, property_of, text_at, IsAskedTable, IsReadOf, IsWhyNoneAsked, IsWhyNotAsked};
 ghost use Rattle.ucptrie_tables.specs.TomlNames.{IsWhyNoNames};
-ghost use Rattle.ucptrie_tables.specs.declared.fault.ReadFault.{ReadFault};
-ghost use Rattle.ucptrie_tables.specs.declared.properties.PropertyFault.TheVariants.{NotToml};
+ghost use Rattle.ucptrie_tables.specs.declared.error.ReadError.{ReadError};
+ghost use Rattle.ucptrie_tables.specs.declared.properties.PropertyError.TheVariants.{NotToml};
 ghost use Rattle.ucptrie_tables.specs.declared.table.Table.{Table};
 
-use crate::fault::ReadFault;
+use crate::error::ReadError;
 use crate::parsed::ParsedFile;
 use crate::read::{read_table, table_of_members, trie_of_table, value_at};
 use crate::table::Table;
-use crate::toml_names::{NamesFault, items_in, names_of};
+use crate::toml_names::{NamesError, items_in, names_of};
 use std::alloc::{AllocError, Global};
 use ucd_files::value_names::ValueNames;
 
@@ -33,9 +33,9 @@ struct Property<'a> {
 
 /// Why a file has no table of a property.
 #[derive(Debug, Drop)]
-pub enum PropertyFault {
+pub enum PropertyError {
     /// The file has no table, or that of the property is not one.
-    Read(ReadFault),
+    Read(ReadError),
     /// The file is not TOML, so its table is that of no property.
     NotToml,
     /// No property has this name and a trie. These have a trie.
@@ -44,24 +44,24 @@ pub enum PropertyFault {
     Several(String),
 }
 
-impl From<ReadFault> for PropertyFault {
-    ghost use Rattle.ucptrie_tables.specs.declared.properties.PropertyFault.TheVariants.{Read};
+impl From<ReadError> for PropertyError {
+    ghost use Rattle.ucptrie_tables.specs.declared.properties.PropertyError.TheVariants.{Read};
 
     ghost from_gives = { λ x e. e ≡ Read x };
 
-    fn from(fault: ReadFault) -> PropertyFault {
-        PropertyFault::Read(fault)
+    fn from(fault: ReadError) -> PropertyError {
+        PropertyError::Read(fault)
     }
 }
 
-impl From<AllocError> for PropertyFault {
-    ghost use Rattle.ucptrie_tables.specs.declared.fault.ReadFault.TheVariants.{Memory};
-    ghost use Rattle.ucptrie_tables.specs.declared.properties.PropertyFault.TheVariants.{Read};
+impl From<AllocError> for PropertyError {
+    ghost use Rattle.ucptrie_tables.specs.declared.error.ReadError.TheVariants.{Memory};
+    ghost use Rattle.ucptrie_tables.specs.declared.properties.PropertyError.TheVariants.{Read};
 
     ghost from_gives = { λ _ e. e ≡ Read Memory };
 
-    fn from(_error: AllocError) -> PropertyFault {
-        PropertyFault::Read(ReadFault::Memory)
+    fn from(_error: AllocError) -> PropertyError {
+        PropertyError::Read(ReadError::Memory)
     }
 }
 
@@ -214,7 +214,7 @@ fn asked_trie<'a>(
     alloc: Global,
     file: &'a toml::Table,
     name: Option<&str>,
-) -> Result<&'a toml::Table, PropertyFault>
+) -> Result<&'a toml::Table, PropertyError>
     ensures ok { IfOk result (λ trie. chosen_trie (option_map (λ name. name.now) name.entry)
         (table_view file.now) ≡ Some (table_view trie.now)) }
     ensures err { IfErr result (IsWhyNoneAsked (option_map (λ name. name.now) name.entry)
@@ -226,9 +226,9 @@ fn asked_trie<'a>(
         ([], None) => Ok(file),
         ([], Some(_)) => {
             let all = properties_of(alloc, file, None)?;
-            Err(PropertyFault::Missing(listed(alloc, &all)?))
+            Err(PropertyError::Missing(listed(alloc, &all)?))
         }
-        (several, _) => Err(PropertyFault::Several(listed(alloc, several)?)),
+        (several, _) => Err(PropertyError::Several(listed(alloc, several)?)),
     }
 }
 
@@ -241,7 +241,7 @@ pub fn property_names<'a>(
     alloc: Global,
     file: &'a ParsedFile<'_>,
     name: Option<&str>,
-) -> Result<ValueNames<'a>, NamesFault>
+) -> Result<ValueNames<'a>, NamesError>
     ensures toml { IsTakenForToml file.now → (toml : Members)
         × (parse_document file.now ≡ Some toml)
         × MatchResult result (λ names. chosen_names (option_map (λ name. name.now) name.entry) toml
@@ -265,20 +265,20 @@ pub fn property_names<'a>(
 /// A name is the key of a property in the file, or its `long_name` or `short_name`.
 ///
 /// # Errors
-/// Returns [`PropertyFault::Several`] if several properties have a trie, and the name, if one is
-/// asked, and [`PropertyFault::Missing`] if none has that name. Returns [`PropertyFault::NotToml`]
+/// Returns [`PropertyError::Several`] if several properties have a trie, and the name, if one is
+/// asked, and [`PropertyError::Missing`] if none has that name. Returns [`PropertyError::NotToml`]
 /// if a name is asked of a file in another form. Other errors are those of [`read_table`].
 pub fn read_property(
     alloc: Global,
     file: &ParsedFile<'_>,
     name: Option<&str>,
-) -> Result<Table, PropertyFault>
+) -> Result<Table, PropertyError>
     ensures toml { IsTakenForToml file.now → MatchResult result
         (IsAskedTable file.now (option_map (λ name. name.now) name.entry))
         (IsWhyNotAsked file.now (option_map (λ name. name.now) name.entry)) }
     ensures named { is_some name.entry ≡ true → ¬ IsTakenForToml file.now → result ≡ Err NotToml }
     ensures other { is_some name.entry ≡ false → ¬ IsTakenForToml file.now
-        → (read : Result Table ReadFault)
+        → (read : Result Table ReadError)
         × (IsReadOf file.now read × (result ≡ of_property read)) }
 {
     if let Some(toml) = file.toml() {
@@ -286,7 +286,7 @@ pub fn read_property(
         return Ok(table_of_members(alloc, trie)?);
     }
     if name.is_some() {
-        return Err(PropertyFault::NotToml);
+        return Err(PropertyError::NotToml);
     }
     Ok(read_table(alloc, file.bytes())?)
 }

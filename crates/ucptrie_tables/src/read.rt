@@ -7,9 +7,9 @@ ghost use Rattle.icu_trie_core.specs.ValueNumbers.{fitting};
 ghost use Rattle.ucptrie_tables.specs.Files.{HasNoForm, HasSignature, HasSwappedSignature, IsBinaryOf, IsJsonOf, IsSwappedOf, IsTakenForJson, IsTakenForToml, IsTomlOf, IsTomlTrieOf, IsWhyNoBinary, IsWhyNoJson, IsWhyNoSwapped, IsWhyNoToml, IsWhyNoTomlTrie, IsWhyNotToml, starts_object};
 ghost use Rattle.ucptrie_tables.specs.Inside.Numbers.{HasNumbersOf};
 ghost use Rattle.ucptrie_tables.specs.TomlFiles.{first_property, trie_of_property, trie_of_table, trie_table, width_of};
-ghost use Rattle.ucptrie_tables.specs.declared.fault.ReadFault.TheVariants.{Memory, Text};
+ghost use Rattle.ucptrie_tables.specs.declared.error.ReadError.TheVariants.{Memory, Text};
 
-use crate::fault::{ReadFault, TomlFault};
+use crate::error::{ReadError, TomlFileError};
 use crate::table::Table;
 use crate::values::with_values_of;
 use crate::width::ValueWidth;
@@ -30,7 +30,7 @@ fn widened<T: TrieValue>(
     alloc: Global,
     trie: &CodePointTrie<'_, T>,
     width: ValueWidth,
-) -> Result<Table, ReadFault>
+) -> Result<Table, ReadError>
     ensures trie { IfOk result (λ t. HasNumbersOf T.number T.of_number (λ n. n) (fitting (2 ^ 32))
         trie.now t.trie) }
     ensures width { IfOk result (λ t. t.width ≡ width) }
@@ -40,12 +40,12 @@ fn widened<T: TrieValue>(
         Ok(trie) => Ok(Table { trie, width }),
         // The number of each value has at most 32 bits.
         Err(MapError::Closure(_)) => unreachable!(),
-        Err(MapError::Memory) => Err(ReadFault::Memory),
+        Err(MapError::Memory) => Err(ReadError::Memory),
     }
 }
 
 /// Reads a table in ICU's binary form.
-fn table_of_binary(alloc: Global, file: &[u8]) -> Result<Table, ReadFault>
+fn table_of_binary(alloc: Global, file: &[u8]) -> Result<Table, ReadError>
     ensures ok { IfOk result (IsBinaryOf file.now) }
     ensures err { IfErr result (IsWhyNoBinary file.now) }
 {
@@ -59,19 +59,19 @@ fn table_of_binary(alloc: Global, file: &[u8]) -> Result<Table, ReadFault>
 
 /// Reads a table in ICU's binary form as a machine with the other byte order writes it. Tries each
 /// width in turn.
-fn table_of_swapped(alloc: Global, file: &[u8]) -> Result<Table, ReadFault>
+fn table_of_swapped(alloc: Global, file: &[u8]) -> Result<Table, ReadError>
     ensures ok { IfOk result (IsSwappedOf file.now) }
     ensures err { IfErr result (IsWhyNoSwapped file.now) }
 {
     match from_binary_swapped::<u8>(alloc, file) {
         Ok((trie, _)) => return widened(alloc, &trie, ValueWidth::Bits8),
         Err(SwappedError::Binary(BinaryError::OtherWidth)) => {}
-        Err(error) => return Err(ReadFault::from(error)),
+        Err(error) => return Err(ReadError::from(error)),
     }
     match from_binary_swapped::<u16>(alloc, file) {
         Ok((trie, _)) => return widened(alloc, &trie, ValueWidth::Bits16),
         Err(SwappedError::Binary(BinaryError::OtherWidth)) => {}
-        Err(error) => return Err(ReadFault::from(error)),
+        Err(error) => return Err(ReadError::from(error)),
     }
     let (trie, _) = from_binary_swapped::<u32>(alloc, file)?;
     Ok(Table {
@@ -81,7 +81,7 @@ fn table_of_swapped(alloc: Global, file: &[u8]) -> Result<Table, ReadFault>
 }
 
 /// Reads a table in JSON, which has no width: its numbers have 32 bits.
-fn table_of_json(alloc: Global, text: &str) -> Result<Table, ReadFault>
+fn table_of_json(alloc: Global, text: &str) -> Result<Table, ReadError>
     ensures ok { IfOk result (IsJsonOf text.now) }
     ensures err { IfErr result (IsWhyNoJson text.now) }
 {
@@ -153,19 +153,19 @@ fn width_of(read: &CodePointTrieToml) -> ValueWidth
 }
 
 /// Reads a TOML file.
-pub(crate) fn file_of_toml(alloc: Global, text: &str) -> Result<toml::Table, ReadFault>
+pub(crate) fn file_of_toml(alloc: Global, text: &str) -> Result<toml::Table, ReadError>
     ensures ok { IfOk result (λ file. parse_document text.now ≡ Some (table_view file)) }
     ensures err { IfErr result (IsWhyNotToml text.now) }
 {
     match toml::table_from_str(alloc, text) {
         Ok(file) => Ok(file),
-        Err(error) if error.is_memory() => Err(ReadFault::Memory),
-        Err(error) => Err(ReadFault::Toml(TomlFault::new(text, error))),
+        Err(error) if error.is_memory() => Err(ReadError::Memory),
+        Err(error) => Err(ReadError::Toml(TomlFileError::new(text, error))),
     }
 }
 
 /// Returns the table of a trie in TOML.
-pub(crate) fn table_of_members(alloc: Global, table: &toml::Table) -> Result<Table, ReadFault>
+pub(crate) fn table_of_members(alloc: Global, table: &toml::Table) -> Result<Table, ReadError>
     ensures ok { IfOk result (IsTomlTrieOf (table_view table.now)) }
     ensures err { IfErr result (IsWhyNoTomlTrie (table_view table.now)) }
 {
@@ -176,7 +176,7 @@ pub(crate) fn table_of_members(alloc: Global, table: &toml::Table) -> Result<Tab
 }
 
 /// Reads a table in TOML.
-fn table_of_toml(alloc: Global, text: &str) -> Result<Table, ReadFault>
+fn table_of_toml(alloc: Global, text: &str) -> Result<Table, ReadError>
     ensures ok { IfOk result (IsTomlOf text.now) }
     ensures err { IfErr result (IsWhyNoToml text.now) }
 {
@@ -192,7 +192,7 @@ fn is_object(text: &str) -> bool
 }
 
 /// Reads a table in JSON or in TOML.
-fn table_of_text(alloc: Global, text: &str) -> Result<Table, ReadFault>
+fn table_of_text(alloc: Global, text: &str) -> Result<Table, ReadError>
     ensures json { starts_object text.now ≡ true
         → MatchResult result (IsJsonOf text.now) (IsWhyNoJson text.now) }
     ensures toml { starts_object text.now ≡ false
@@ -225,13 +225,13 @@ pub(crate) fn toml_text(file: &[u8]) -> Option<&str>
 /// the binary form, what follows the trie is not read.
 ///
 /// # Errors
-/// Returns [`ReadFault::Binary`] for the first fault of a file with a signature. Returns
-/// [`ReadFault::Text`] if the file has no signature and is not a text in UTF-8. Returns
-/// [`ReadFault::Json`] if a text that starts with `{` is not JSON, and [`ReadFault::TrieJson`] for
-/// the first fault of its JSON as a trie. Returns [`ReadFault::Toml`] if any other text is not
-/// TOML, and [`ReadFault::TrieToml`] for the first fault of its TOML as a trie. Returns
-/// [`ReadFault::Memory`] if an allocation fails.
-pub fn read_table(alloc: Global, file: &[u8]) -> Result<Table, ReadFault>
+/// Returns [`ReadError::Binary`] for the first fault of a file with a signature. Returns
+/// [`ReadError::Text`] if the file has no signature and is not a text in UTF-8. Returns
+/// [`ReadError::Json`] if a text that starts with `{` is not JSON, and [`ReadError::TrieJson`] for
+/// the first fault of its JSON as a trie. Returns [`ReadError::Toml`] if any other text is not
+/// TOML, and [`ReadError::TrieToml`] for the first fault of its TOML as a trie. Returns
+/// [`ReadError::Memory`] if an allocation fails.
+pub fn read_table(alloc: Global, file: &[u8]) -> Result<Table, ReadError>
     ensures binary { HasSignature file.now
         → MatchResult result (IsBinaryOf file.now) (IsWhyNoBinary file.now) }
     ensures swapped { HasSwappedSignature file.now
@@ -248,7 +248,7 @@ pub fn read_table(alloc: Global, file: &[u8]) -> Result<Table, ReadFault>
         _ => {}
     }
     let Ok(text) = str::from_utf8(file) else {
-        return Err(ReadFault::Text);
+        return Err(ReadError::Text);
     };
     table_of_text(alloc, text)
 }

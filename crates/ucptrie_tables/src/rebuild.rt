@@ -3,7 +3,7 @@ ghost use Rattle.std.specs.Prelude.{◌≡◌, ◌<◌, ℕ, IfOk, IfErr, OnOk};
 ghost use Rattle.icu_trie_builder.specs.CodePointMap.{map_value};
 ghost use Rattle.ucptrie_tables.specs.Rebuilt.{AreValues, IsRebuilt, IsWhyNotRebuilt};
 
-use crate::fault::BuildFault;
+use crate::error::TableBuildError;
 use crate::table::{Table, first_wider};
 use crate::width::ValueWidth;
 use icu_trie::cptrie::CodePointTrie;
@@ -56,8 +56,8 @@ fn copied(
 /// block, or the value of U+10FFFF if there is none.
 ///
 /// # Errors
-/// Returns [`BuildFault::Width`] for a value of a code point, or the error value, that has more
-/// bits than the width: the first one in the new trie's data. Returns [`BuildFault::Table`] if the
+/// Returns [`TableBuildError::Width`] for a value of a code point, or the error value, that has more
+/// bits than the width: the first one in the new trie's data. Returns [`TableBuildError::Table`] if the
 /// values are too many for a trie, and if an allocation fails.
 pub fn rebuilt(
     alloc: Global,
@@ -65,14 +65,14 @@ pub fn rebuilt(
     trie_type: TrieType,
     width: ValueWidth,
     error: u32,
-) -> Result<Table, BuildFault>
+) -> Result<Table, TableBuildError>
     ensures ok { IfOk result (IsRebuilt table.now.trie trie_type width error) }
     ensures err { IfErr result (IsWhyNotRebuilt table.now.trie trie_type width error) }
 {
     let builder = copied(alloc, &table.trie, trie_type, error)?;
     let trie = builder.build()?;
     match first_wider(&trie, width) {
-        Some(value) => Err(BuildFault::Width(value, width)),
+        Some(value) => Err(TableBuildError::Width(value, width)),
         None => Ok(Table { trie, width }),
     }
 }

@@ -1,13 +1,13 @@
 //! A trie with the width of its values, and the table of some rows.
 ghost use Rattle.std.specs.Prelude.{◌≡◌, ◌^◌, ◌<◌, ℕ, All, Err, IfOk, IfErr, IfNone};
 ghost use Rattle.ucptab_table.specs.TableText.{IsFirstFault, IsTooLargeInput};
-ghost use Rattle.ucptab_table.specs.declared.fault.RowFault.{RowFault};
-ghost use Rattle.ucptab_table.specs.declared.fault.TableError.TheVariants.{Row, TooLarge};
+ghost use Rattle.ucptab_table.specs.declared.error.RowError.{RowError};
+ghost use Rattle.ucptab_table.specs.declared.error.TableError.TheVariants.{Row, TooLarge};
 ghost use Rattle.ucptrie_tables.specs.Tables.{IsTableOf, IsTableOfWrites, IsWhyNoTable, IsWhyNoTableOfWrites};
 ghost use Rattle.ucptrie_tables.specs.ValueWidth.{bits_of, first_wider};
-ghost use Rattle.ucptrie_tables.specs.declared.fault.BuildFault.TheVariants.{Table as TableFault};
+ghost use Rattle.ucptrie_tables.specs.declared.error.TableBuildError.TheVariants.{Table as TableFailed};
 
-use crate::fault::BuildFault;
+use crate::error::TableBuildError;
 use crate::width::ValueWidth;
 use icu_trie::cptrie::CodePointTrie;
 use icu_trie::header::TrieType;
@@ -48,14 +48,14 @@ pub(crate) fn first_wider(trie: &CodePointTrie<'_, u32>, width: ValueWidth) -> O
 /// Builds the table of writes, which apply in order.
 ///
 /// # Errors
-/// Returns [`BuildFault::Table`] for a map that is too large for a trie, and if an allocation
-/// fails. Returns [`BuildFault::Width`] for a value of a code point, or the error value, that has
+/// Returns [`TableBuildError::Table`] for a map that is too large for a trie, and if an allocation
+/// fails. Returns [`TableBuildError::Width`] for a value of a code point, or the error value, that has
 /// more bits than the asked width: the first one in the trie's data.
 pub fn table_of_writes(
     alloc: Global,
     writes: &[Write<u32>],
     options: TableOptions,
-) -> Result<Table, BuildFault>
+) -> Result<Table, TableBuildError>
     ensures ok { IfOk result (IsTableOfWrites writes.now options) }
     ensures err { IfErr result (IsWhyNoTableOfWrites writes.now options) }
 {
@@ -67,7 +67,7 @@ pub fn table_of_writes(
         writes,
     )?;
     match first_wider(&trie, options.width) {
-        Some(value) => Err(BuildFault::Width(value, options.width)),
+        Some(value) => Err(TableBuildError::Width(value, options.width)),
         None => Ok(Table {
             trie,
             width: options.width,
@@ -78,16 +78,20 @@ pub fn table_of_writes(
 /// Builds the table of the rows that the bytes have, in `ucptab`'s form.
 ///
 /// # Errors
-/// Returns [`BuildFault::Table`] for the first line that is not a row, for a map that is too large
-/// for a trie, and if an allocation fails. Returns [`BuildFault::Width`] for a value of a code
+/// Returns [`TableBuildError::Table`] for the first line that is not a row, for a map that is too large
+/// for a trie, and if an allocation fails. Returns [`TableBuildError::Width`] for a value of a code
 /// point, or the error value, that has more bits than the asked width: the first one in the trie's
 /// data.
-pub fn table_of_rows(alloc: Global, rows: &[u8], options: TableOptions) -> Result<Table, BuildFault>
+pub fn table_of_rows(
+    alloc: Global,
+    rows: &[u8],
+    options: TableOptions,
+) -> Result<Table, TableBuildError>
     ensures ok { IfOk result (IsTableOf rows.now options) }
     ensures err { IfErr result (IsWhyNoTable rows.now options) }
-    ensures row { (k : ℕ) (f : RowFault) → result ≡ Err (TableFault (Row k f))
+    ensures row { (k : ℕ) (f : RowError) → result ≡ Err (TableFailed (Row k f))
         → IsFirstFault rows.now k f }
-    ensures too_large { result ≡ Err (TableFault TooLarge)
+    ensures too_large { result ≡ Err (TableFailed TooLarge)
         → IsTooLargeInput options.default rows.now }
 {
     let writes = read_rows(alloc, rows)?;

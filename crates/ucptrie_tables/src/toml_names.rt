@@ -58,7 +58,7 @@ impl fmt::Display for NameArray {
 
 /// Why the names of a property's values can't be read.
 #[derive(Clone, Copy, Debug, PartialEq, Eq, Error)]
-pub enum NamesFault {
+pub enum NamesError {
     /// This item of the array, counted from 0, has no number of at most 32 bits, or a name that is
     /// no text.
     #[error("{0}[{1}] is no table with a number up to 4294967295 and texts as names")]
@@ -68,13 +68,13 @@ pub enum NamesFault {
     Memory,
 }
 
-impl From<AllocError> for NamesFault {
-    ghost use Rattle.ucptrie_tables.specs.declared.toml_names.NamesFault.TheVariants.{Memory};
+impl From<AllocError> for NamesError {
+    ghost use Rattle.ucptrie_tables.specs.declared.toml_names.NamesError.TheVariants.{Memory};
 
     ghost from_gives = { λ _ e. e ≡ Memory };
 
-    fn from(_error: AllocError) -> NamesFault {
-        NamesFault::Memory
+    fn from(_error: AllocError) -> NamesError {
+        NamesError::Memory
     }
 }
 
@@ -247,7 +247,7 @@ fn names_in<'a>(
     alloc: Global,
     array: NameArray,
     items: &'a [Value],
-) -> Result<ValueNames<'a>, NamesFault>
+) -> Result<ValueNames<'a>, NamesError>
     ensures ok { IfOk result (λ names.
         with_items array 0 [] (map view items.now) ≡ Ok (pairs_of names)) }
     ensures err { IfErr result
@@ -258,7 +258,7 @@ fn names_in<'a>(
     let mut rest = items;
     while let [item, after @ ..] = rest {
         if !push_item(&mut names, array, item)? {
-            return Err(NamesFault::Item(array, i));
+            return Err(NamesError::Item(array, i));
         }
         i += 1;
         rest = after;
@@ -285,9 +285,9 @@ pub(crate) fn items_at<'a>(table: &'a Table, key: &str) -> Option<&'a [Value]>
 /// once for its number.
 ///
 /// # Errors
-/// Returns [`NamesFault::Item`] for the first item that is no table, that has no number of at most
-/// 32 bits, or of which a name is no text. Returns [`NamesFault::Memory`] if an allocation fails.
-pub fn names_of<'a>(alloc: Global, property: &'a Table) -> Result<ValueNames<'a>, NamesFault>
+/// Returns [`NamesError::Item`] for the first item that is no table, that has no number of at most
+/// 32 bits, or of which a name is no text. Returns [`NamesError::Memory`] if an allocation fails.
+pub fn names_of<'a>(alloc: Global, property: &'a Table) -> Result<ValueNames<'a>, NamesError>
     ensures ok { IfOk result (λ names. names_of (table_view property.now) ≡ Ok (pairs_of names)) }
     ensures err { IfErr result (IsWhyNoNames (names_of (table_view property.now))) }
 {

@@ -2,7 +2,7 @@
 ghost use Rattle.std.specs.Prelude.{IfErr, IfOk};
 ghost use Rattle.ucptrie_tables.specs.UnicodeFiles.{IsTableOfFile, IsWhyNoTableOfFile};
 
-use crate::fault::UnicodeFileFault;
+use crate::error::UnicodeFileError;
 use crate::table::{Table, TableOptions, table_of_writes};
 use std::alloc::Global;
 use ucd_files::names::Numbering;
@@ -14,8 +14,8 @@ use ucd_files::statement::Columns;
 /// covers it, or else the default.
 ///
 /// # Errors
-/// Returns [`UnicodeFileFault::File`] for the first line that has a fault, and if the file ends in
-/// the middle of a range. Returns [`UnicodeFileFault::Build`] for a map that is too large for a
+/// Returns [`UnicodeFileError::File`] for the first line that has a fault, and if the file ends in
+/// the middle of a range. Returns [`UnicodeFileError::Build`] for a map that is too large for a
 /// trie, for a value of a code point, or the error value, that has more bits than the asked width,
 /// and if an allocation fails.
 pub fn table_of_file(
@@ -24,7 +24,7 @@ pub fn table_of_file(
     columns: Columns<'_>,
     numbering: Numbering<'_>,
     options: TableOptions,
-) -> Result<Table, UnicodeFileFault>
+) -> Result<Table, UnicodeFileError>
     ensures ok { IfOk result (IsTableOfFile columns.entry numbering.entry file.now options) }
     ensures err { IfErr result (IsWhyNoTableOfFile columns.entry numbering.entry file.now options) }
 {

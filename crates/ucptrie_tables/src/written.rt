@@ -17,7 +17,7 @@ ghost use Rattle.ucptrie_tables.specs.TableSource.{c_text, rust_text, toml_text}
 ghost use Rattle.ucptrie_tables.specs.Tables.{binary_bytes, HasBinaryForm, IsWhyNotWritten};
 
 use crate::c_source::c_text;
-use crate::fault::BuildFault;
+use crate::error::TableBuildError;
 use crate::rust_source::rust_text;
 use crate::stated::rows_text;
 use crate::table::Table;
@@ -31,7 +31,7 @@ use icu_trie_binary::binary::to_binary;
 use icu_trie_formats::json::to_json;
 use icu_zerovec::MemoryError;
 use std::alloc::Global;
-use ucptab_table::fault::TableError;
+use ucptab_table::error::TableError;
 
 /// The forms in which a table is written.
 #[derive(Clone, Copy, Debug, PartialEq, Eq)]
@@ -52,7 +52,7 @@ pub enum Form<'a> {
 }
 
 /// Returns the table in ICU's binary form with values of another type.
-fn binary_over<P: TrieValue>(alloc: Global, table: &Table) -> Result<Vec<u8>, BuildFault>
+fn binary_over<P: TrieValue>(alloc: Global, table: &Table) -> Result<Vec<u8>, TableBuildError>
     ensures ok { IfOk result (λ bytes. (t : Parts _)
         × HasNumbersOf (λ n. n) (fitting (2 ^ 32)) P.number P.of_number table.now.trie t
         × (why_not_written P.WIDTH P.number t ≡ None)
@@ -62,14 +62,14 @@ fn binary_over<P: TrieValue>(alloc: Global, table: &Table) -> Result<Vec<u8>, Bu
 {
     let narrowed: CodePointTrie<'static, P> = match with_values_of(alloc, &table.trie) {
         Ok(narrowed) => narrowed,
-        Err(MapError::Closure(value)) => return Err(BuildFault::Width(value, table.width)),
-        Err(MapError::Memory) => return Err(BuildFault::Table(TableError::Memory)),
+        Err(MapError::Closure(value)) => return Err(TableBuildError::Width(value, table.width)),
+        Err(MapError::Memory) => return Err(TableBuildError::Table(TableError::Memory)),
     };
     Ok(to_binary(alloc, &narrowed)?)
 }
 
 /// Returns the table in ICU's binary form with values of its width.
-fn binary(alloc: Global, table: &Table) -> Result<Vec<u8>, BuildFault>
+fn binary(alloc: Global, table: &Table) -> Result<Vec<u8>, TableBuildError>
     ensures ok { IfOk result (λ bytes. bytes.items ≡ binary_bytes table.now) }
     ensures room { OnOk result (HasBinaryForm table.now) }
     ensures err { IfErr result (IsWhyNotWritten Form.Icu table.now) }
@@ -94,11 +94,11 @@ fn json_text(alloc: Global, table: &Table) -> Result<String, MemoryError>
 /// Returns the table in a form, as the bytes of a file.
 ///
 /// # Errors
-/// Returns [`BuildFault::Width`] in ICU's binary form for the first value that has more bits than
+/// Returns [`TableBuildError::Width`] in ICU's binary form for the first value that has more bits than
 /// the table's width: the error value, the null value, or a cell of the data, in this order.
-/// Returns [`BuildFault::Binary`] if ICU's binary form has no room for the trie. Returns
-/// [`BuildFault::Table`] if an allocation fails.
-pub fn written(alloc: Global, table: &Table, form: Form<'_>) -> Result<Vec<u8>, BuildFault>
+/// Returns [`TableBuildError::Binary`] if ICU's binary form has no room for the trie. Returns
+/// [`TableBuildError::Table`] if an allocation fails.
+pub fn written(alloc: Global, table: &Table, form: Form<'_>) -> Result<Vec<u8>, TableBuildError>
     ensures icu { form.entry ≡ Form.Icu
         → IfOk result (λ bytes. bytes.items ≡ binary_bytes table.now) }
     ensures json { form.entry ≡ Form.Json → IfOk result (λ bytes. bytes.items

@@ -8,8 +8,8 @@ use Rattle.std.proofs.lemmas.List.Elements.{All-cons}
 use Rattle.icu_char16trie.specs.LossyText.{key_text}
 use Rattle.icu_char16trie.specs.UnitMap.{UnitMap}
 use Rattle.ucptrie_words.specs.Rows.{AreRowsOf, HasRow, can_be_key, first_without_row, line_of}
-use Rattle.ucptrie_words.specs.declared.fault.RowsFault.{RowsFault}
-use Rattle.ucptrie_words.specs.declared.fault.RowsFault.TheVariants.{Key, Memory}
+use Rattle.ucptrie_words.specs.declared.error.RowsError.{RowsError}
+use Rattle.ucptrie_words.specs.declared.error.RowsError.TheVariants.{Key, Memory}
 
 -- The line of an entry, before those of the entries after it.
 pub rows_cons : (key : List ℕ) (value : ℤ) (rest m : UnitMap) (shown more : List ℕ) → m ≡ (key, value) ∷ rest → shown ≡ key_text key
@@ -52,7 +52,7 @@ first_later key value rest m text is shown can =
     ap first_without_row is ∙ later
 
 -- The key that an error has is that one.
-pub key_of_error : {T : Type 0} (r : Result T RowsFault) (x : RowsFault) (m : UnitMap) (text : List ℕ) (key : String Global)
+pub key_of_error : {T : Type 0} (r : Result T RowsError) (x : RowsError) (m : UnitMap) (text : List ℕ) (key : String Global)
     → IsErrAnd r (λ e. e ≡ x) → (can_be_key text ≡ false → first_without_row m ≡ Some text)
     → (x ≡ Memory) ⊎ ((given : String Global) × (x ≡ Key given) × (string_bytes given ≡ text) × (can_be_key text ≡ false))
     → IfErr r (λ e. e ≡ Key key → first_without_row m ≡ Some (string_bytes key))

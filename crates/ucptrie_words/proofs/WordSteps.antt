@@ -12,10 +12,10 @@ use Rattle.icu_char16trie_builder.specs.Entries.{with_entry}
 use Rattle.icu_char16trie_builder.proofs.CallerLemmas.{IsAscendingKeys-with_entry, value_of-with_entry}
 use Rattle.ucptab_table.proofs.CallerLemmas.{slice_get_left, left_after, front}
 use Rattle.ucptrie_words.specs.Words.{AreSound, AreWords, HasFault, HasWordFault, IsAdded, IsFaultless, IsFirstFault, entries_in, entry_in}
-use Rattle.ucptrie_words.specs.declared.fault.LineFault.{LineFault}
-use Rattle.ucptrie_words.specs.declared.fault.LineFault.TheVariants.{LongKey, Repeated, NoSeparator, NoKey, NotUtf8, NoValue, NotNumber}
-use Rattle.ucptrie_words.specs.declared.fault.WordsFault.{WordsFault}
-use Rattle.ucptrie_words.specs.declared.fault.WordsFault.TheVariants.{Line, Memory}
+use Rattle.ucptrie_words.specs.declared.error.LineError.{LineError}
+use Rattle.ucptrie_words.specs.declared.error.LineError.TheVariants.{LongKey, Repeated, NoSeparator, NoKey, NotUtf8, NoValue, NotNumber}
+use Rattle.ucptrie_words.specs.declared.error.WordsError.{WordsError}
+use Rattle.ucptrie_words.specs.declared.error.WordsError.TheVariants.{Line, Memory}
 
 -- ---- one entry more
 
@@ -113,7 +113,7 @@ all_words all n m left words =
 -- ---- the first fault
 
 -- A fault after other entries with the same values.
-fault_after : (before m : UnitMap) (line : List ℕ) (f : LineFault) → ((key : List ℕ) → value_of m key ≡ value_of before key)
+fault_after : (before m : UnitMap) (line : List ℕ) (f : LineError) → ((key : List ℕ) → value_of m key ≡ value_of before key)
     → HasFault m line f → HasFault before line f
 fault_after before m line f same (inl own) = inl own
 fault_after before m line f same (inr fault) = inr (word_fault f fault) where
@@ -121,7 +121,7 @@ fault_after before m line f same (inr fault) = inr (word_fault f fault) where
   by None h = h
   by (Some e) h = subst (λ z. IsSome z) (same e.0) h
 
-  word_fault : (g : LineFault) → HasWordFault m line g → HasWordFault before line g
+  word_fault : (g : LineError) → HasWordFault m line g → HasWordFault before line g
   word_fault LongKey h = h
   word_fault Repeated h = by (entry_in line) h
   word_fault NoSeparator h = h
@@ -131,7 +131,7 @@ fault_after before m line f same (inr fault) = inr (word_fault f fault) where
   word_fault NotNumber h = h
 
 -- A line with a fault, after lines without one.
-first_fault : (input : List ℕ) (n : ℕ) (line : List ℕ) (more : List (List ℕ)) (m : UnitMap) (f : LineFault)
+first_fault : (input : List ℕ) (n : ℕ) (line : List ℕ) (more : List (List ℕ)) (m : UnitMap) (f : LineError)
     → drop n (lines input) ≡ line ∷ more → AreWords (take n (lines input)) m → HasFault m line f → IsFirstFault input (n + 1) f
 first_fault input n line more m f left words fault =
     let back : n + 1 - 1 ≡ n = omega arith in
@@ -140,8 +140,8 @@ first_fault input n line more m f left words fault =
     record { counted = omega arith; faulty = rw (back, here) found; sound_before = rw back words.sound }
 
 -- The same, as an answer names it.
-pub first_fault_named : (input : List ℕ) (n : ℕ) (line : List ℕ) (more : List (List ℕ)) (m : UnitMap) (f : LineFault)
-    (k : ℕ) (g : LineFault)
+pub first_fault_named : (input : List ℕ) (n : ℕ) (line : List ℕ) (more : List (List ℕ)) (m : UnitMap) (f : LineError)
+    (k : ℕ) (g : LineError)
     → Line (n + 1) f ≡ Line k g → drop n (lines input) ≡ line ∷ more → AreWords (take n (lines input)) m → HasFault m line f
     → IsFirstFault input k g
 first_fault_named input n line more m f k g same left words fault =
@@ -151,9 +151,9 @@ first_fault_named input n line more m f k g same left words fault =
     (subst (λ x. IsFirstFault input x f) same_line (first_fault input n line more m f left words fault))
 
 -- The same of an error that a line gives, unless memory is short.
-pub first_fault_of : (input : List ℕ) (n : ℕ) (line : List ℕ) (more : List (List ℕ)) (m : UnitMap) (k : ℕ) (g : LineFault)
-    → drop n (lines input) ≡ line ∷ more → AreWords (take n (lines input)) m → (e : WordsFault)
-    → (e ≡ Memory) ⊎ ((f : LineFault) × (e ≡ Line (n + 1) f) × HasFault m line f) → e ≡ Line k g → IsFirstFault input k g
+pub first_fault_of : (input : List ℕ) (n : ℕ) (line : List ℕ) (more : List (List ℕ)) (m : UnitMap) (k : ℕ) (g : LineError)
+    → drop n (lines input) ≡ line ∷ more → AreWords (take n (lines input)) m → (e : WordsError)
+    → (e ≡ Memory) ⊎ ((f : LineError) × (e ≡ Line (n + 1) f) × HasFault m line f) → e ≡ Line k g → IsFirstFault input k g
 first_fault_of input n line more m k g left words e (inl memory) is = absurd (cc)
 first_fault_of input n line more m k g left words e (inr why) is =
     first_fault_named input n line more m why.0 k g (sym why.1 ∙ is) left words why.2

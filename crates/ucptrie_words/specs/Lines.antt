@@ -4,8 +4,8 @@ use Rattle.std.specs.List.{before_last, after_last, suffix_len}
 use Rattle.std.specs.Option.{option_and_then}
 use Rattle.std.specs.Str.{is_utf8}
 use Rattle.ucptab_table.specs.TableText.{decimal_number, trimmed}
-use Rattle.ucptrie_words.specs.declared.fault.LineFault.{LineFault}
-use Rattle.ucptrie_words.specs.declared.fault.LineFault.TheVariants.{NoSeparator, NoKey, NotUtf8, NoValue, NotNumber}
+use Rattle.ucptrie_words.specs.declared.error.LineError.{LineError}
+use Rattle.ucptrie_words.specs.declared.error.LineError.TheVariants.{NoSeparator, NoKey, NotUtf8, NoValue, NotNumber}
 use Rattle.ucptrie_words.specs.declared.line.Word.{Word}
 
 -- The number n or -n, if it is from -2^31 to 2^31 - 1.
@@ -30,12 +30,12 @@ is_silent [] = true
 is_silent (b ∷ bytes) = b == 35
 
 -- The word of a key and a number.
-abbrev pub word_with : List ℕ → Option ℤ → Result (List ℕ × ℤ) LineFault
+abbrev pub word_with : List ℕ → Option ℤ → Result (List ℕ × ℤ) LineError
 word_with key (Some value) = Ok (key, value)
 word_with key None = Err NotNumber
 
 -- The word of a key and a value, given as text: the key and its number.
-unfoldable pub word_in : List ℕ → List ℕ → Result (List ℕ × ℤ) LineFault
+unfoldable pub word_in : List ℕ → List ℕ → Result (List ℕ × ℤ) LineError
 word_in key value =
     if length key == 0 then Err NoKey
     else (if not (is_utf8 key) then Err NotUtf8
@@ -43,18 +43,18 @@ word_in key value =
     else word_with key (signed_number value)))
 
 -- The one word, or the fault.
-abbrev pub some_word : Result (List ℕ × ℤ) LineFault → Result (Option (List ℕ × ℤ)) LineFault
+abbrev pub some_word : Result (List ℕ × ℤ) LineError → Result (Option (List ℕ × ℤ)) LineError
 some_word (Ok word) = Ok (Some word)
 some_word (Err fault) = Err fault
 
 -- The word of the fields around the last `;`.
-abbrev pub word_of_fields : Option (List ℕ × List ℕ) → Result (Option (List ℕ × ℤ)) LineFault
+abbrev pub word_of_fields : Option (List ℕ × List ℕ) → Result (Option (List ℕ × ℤ)) LineError
 word_of_fields None = Err NoSeparator
 word_of_fields (Some fields) = some_word (word_in (trimmed fields.0) (trimmed fields.1))
 
 -- What a line says: nothing if it is blank or a comment, and otherwise the word `KEY ; VALUE`, or
 -- its fault. The key ends before the last `;`. Blanks around the key and the value do not count.
-unfoldable pub word_of : List ℕ → Result (Option (List ℕ × ℤ)) LineFault
+unfoldable pub word_of : List ℕ → Result (Option (List ℕ × ℤ)) LineError
 word_of line = let content = trimmed line in
     if is_silent content then Ok None else word_of_fields (cut_at_last 59 content)
 
@@ -63,11 +63,11 @@ abbrev pub fields_of : Word → List ℕ × ℤ
 fields_of word = (word.key.now, word.value)
 
 -- The same of what a function returns.
-abbrev pub shown_word : Result Word LineFault → Result (List ℕ × ℤ) LineFault
+abbrev pub shown_word : Result Word LineError → Result (List ℕ × ℤ) LineError
 shown_word (Ok word) = Ok (fields_of word)
 shown_word (Err fault) = Err fault
 
-abbrev pub shown : Result (Option Word) LineFault → Result (Option (List ℕ × ℤ)) LineFault
+abbrev pub shown : Result (Option Word) LineError → Result (Option (List ℕ × ℤ)) LineError
 shown (Ok None) = Ok None
 shown (Ok (Some word)) = Ok (Some (fields_of word))
 shown (Err fault) = Err fault

@@ -8,8 +8,8 @@ use Rattle.icu_char16trie.specs.Matches.{text_units}
 use Rattle.icu_char16trie.specs.UnitMap.{UnitMap, IsAscendingKeys, value_of}
 use Rattle.icu_char16trie_builder.specs.Entries.{with_entry}
 use Rattle.ucptrie_words.specs.Lines.{word_of}
-use Rattle.ucptrie_words.specs.declared.fault.LineFault.{LineFault}
-use Rattle.ucptrie_words.specs.declared.fault.LineFault.TheVariants.{LongKey, Repeated}
+use Rattle.ucptrie_words.specs.declared.error.LineError.{LineError}
+use Rattle.ucptrie_words.specs.declared.error.LineError.TheVariants.{LongKey, Repeated}
 
 -- The entry of a word: its key in units of UTF-16, and its value.
 abbrev pub entry_of : List ℕ × ℤ → List ℕ × ℤ
@@ -43,18 +43,18 @@ pub record AreWords (ls : List (List ℕ)) (m : UnitMap) : Type 0 where
 
 -- The word of the line has this fault after lines with these entries: its key is too long, or is
 -- one of theirs.
-abbrev pub HasWordFault : UnitMap → List ℕ → LineFault → Type 0
+abbrev pub HasWordFault : UnitMap → List ℕ → LineError → Type 0
 HasWordFault before line LongKey = IsSomeAnd (entry_in line) (λ e. 65535 < length e.0)
 HasWordFault before line Repeated =
     IsSomeAnd (entry_in line) (λ e. IsSome (value_of before e.0))
 HasWordFault before line fault = ⊥
 
 -- The line has this fault of its own, or its word has it.
-abbrev pub HasFault : UnitMap → List ℕ → LineFault → Type 0
+abbrev pub HasFault : UnitMap → List ℕ → LineError → Type 0
 HasFault before line fault = (word_of line ≡ Err fault) ⊎ HasWordFault before line fault
 
 -- Line k of the input, counted from 1, has the fault f, and the lines before it have none.
-pub record IsFirstFault (input : List ℕ) (k : ℕ) (f : LineFault) : Type 0 where
+pub record IsFirstFault (input : List ℕ) (k : ℕ) (f : LineError) : Type 0 where
   pub counted : 0 < k
   pub faulty : IsSomeAnd (slice_get (lines input) (k - 1))
       (λ line. HasFault (entries_in (take (k - 1) (lines input))) line f)

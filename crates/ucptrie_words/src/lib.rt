@@ -7,11 +7,11 @@
 //! - `written`: a trie in one of the forms, as the bytes of a file
 //! - `rows`: the entries of a trie, in lines
 //! - `source`: the units as source in C and in Rust
-//! - `fault`: what is wrong with a line, and why there is no trie or no text
+//! - `error`: what is wrong with a line, and why there is no trie or no text
 #![tactic(auto)]
 
 pub mod built;
-pub mod fault;
+pub mod error;
 pub mod line;
 pub mod read;
 mod rows;

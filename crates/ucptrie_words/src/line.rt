@@ -4,7 +4,7 @@ ghost use Rattle.std.specs.Option.{option_map};
 ghost use Rattle.std.specs.Str.{is_utf8};
 ghost use Rattle.ucptrie_words.specs.Lines.{cut_at_last, is_silent, shown, shown_word, signed, signed_number, word_in, word_of};
 
-use crate::fault::LineFault;
+use crate::error::LineError;
 use std::str;
 use ucptab_table::digits::decimal_number;
 use ucptab_table::rows::trimmed;
@@ -87,21 +87,21 @@ pub(crate) fn is_silent(content: &[u8]) -> bool
 
 /// Returns the word of this key and this value.
 #[tactic(auto, unfolding(crate::specs::Lines::word_in))]
-fn word_in<'a>(key: &'a [u8], value: &[u8]) -> Result<Word<'a>, LineFault>
+fn word_in<'a>(key: &'a [u8], value: &[u8]) -> Result<Word<'a>, LineError>
     ensures { shown_word result ≡ word_in key.now value.now }
 {
     if key.is_empty() {
-        return Err(LineFault::NoKey);
+        return Err(LineError::NoKey);
     }
     let Some(key) = text_of(key) else {
-        return Err(LineFault::NotUtf8);
+        return Err(LineError::NotUtf8);
     };
     if value.is_empty() {
-        return Err(LineFault::NoValue);
+        return Err(LineError::NoValue);
     }
     match signed_number(value) {
         Some(value) => Ok(Word { key, value }),
-        None => Err(LineFault::NotNumber),
+        None => Err(LineError::NotNumber),
     }
 }
 
@@ -111,10 +111,10 @@ fn word_in<'a>(key: &'a [u8], value: &[u8]) -> Result<Word<'a>, LineFault>
 /// around them. A comment starts with `#`, after blanks or none.
 ///
 /// # Errors
-/// Returns what is wrong with the line, by the first of the tests in [`LineFault`]. Never returns
-/// [`LineFault::LongKey`] or [`LineFault::Repeated`].
+/// Returns what is wrong with the line, by the first of the tests in [`LineError`]. Never returns
+/// [`LineError::LongKey`] or [`LineError::Repeated`].
 #[tactic(auto, unfolding(crate::specs::Lines::word_of))]
-pub fn word_of(line: &[u8]) -> Result<Option<Word<'_>>, LineFault>
+pub fn word_of(line: &[u8]) -> Result<Option<Word<'_>>, LineError>
     ensures { shown result ≡ word_of line.now }
 {
     let content = trimmed(line);
@@ -122,7 +122,7 @@ pub fn word_of(line: &[u8]) -> Result<Option<Word<'_>>, LineFault>
         return Ok(None);
     }
     let Some((key, value)) = cut_at_last(b';', content) else {
-        return Err(LineFault::NoSeparator);
+        return Err(LineError::NoSeparator);
     };
     let word = word_in(trimmed(key), trimmed(value))?;
     Ok(Some(word))

@@ -6,9 +6,9 @@ ghost use Rattle.std.specs.Str.{chars};
 ghost use Rattle.icu_char16trie.specs.Grammar.{IsTrieOf};
 ghost use Rattle.icu_char16trie.specs.UnitMap.{UnitMap};
 ghost use Rattle.ucptrie_words.specs.Rows.{AreRowsOf, can_be_key, first_without_row, line_of};
-ghost use Rattle.ucptrie_words.specs.declared.fault.RowsFault.TheVariants.{Key, Memory};
+ghost use Rattle.ucptrie_words.specs.declared.error.RowsError.TheVariants.{Key, Memory};
 
-use crate::fault::RowsFault;
+use crate::error::RowsError;
 use crate::line::is_silent;
 use icu_char16trie::char16trie::Char16Trie;
 use std::alloc::{AllocError, Global};
@@ -48,7 +48,7 @@ fn push_line(text: &mut String, key: &str, value: i32) -> Result<(), AllocError>
 }
 
 /// Appends the line of a key and a value, if a line can have the key.
-fn push_row(alloc: Global, text: &mut String, key: &str, value: i32) -> Result<(), RowsFault>
+fn push_row(alloc: Global, text: &mut String, key: &str, value: i32) -> Result<(), RowsError>
     ensures row { OnOk result (string_bytes text.new
         ≡ string_bytes text.old ++ line_of key.now value) }
     ensures can_be { OnOk result (can_be_key key.now ≡ true) }
@@ -56,13 +56,13 @@ fn push_row(alloc: Global, text: &mut String, key: &str, value: i32) -> Result<(
         × (e ≡ Key given) × (string_bytes given ≡ key.now) × (can_be_key key.now ≡ false))) }
 {
     if !can_be_key(key) {
-        return Err(RowsFault::Key(String::from_str(alloc, key)?));
+        return Err(RowsError::Key(String::from_str(alloc, key)?));
     }
     Ok(push_line(text, key, value)?)
 }
 
 /// Returns the lines of the entries of a trie, in its order.
-pub(crate) fn rows_text(alloc: Global, trie: &Char16Trie<'_>) -> Result<String, RowsFault>
+pub(crate) fn rows_text(alloc: Global, trie: &Char16Trie<'_>) -> Result<String, RowsError>
     ensures rows { (m : UnitMap) → IsTrieOf trie.now m
         → IfOk result (λ text. AreRowsOf m (string_bytes text)) }
     ensures key { (m : UnitMap) (key : String Global) → IsTrieOf trie.now m

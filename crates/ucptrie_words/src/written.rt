@@ -6,9 +6,9 @@ ghost use Rattle.icu_zerovec.specs.PackedBytes.{low_bytes};
 ghost use Rattle.icu_char16trie.specs.Grammar.{IsTrieOf};
 ghost use Rattle.icu_char16trie.specs.UnitMap.{UnitMap};
 ghost use Rattle.ucptrie_words.specs.Rows.{AreRowsOf, first_without_row};
-ghost use Rattle.ucptrie_words.specs.declared.fault.RowsFault.TheVariants.{Key};
+ghost use Rattle.ucptrie_words.specs.declared.error.RowsError.TheVariants.{Key};
 
-use crate::fault::RowsFault;
+use crate::error::RowsError;
 use crate::rows::rows_text;
 use crate::source::{c_text, rust_text};
 use icu_char16trie::char16trie::Char16Trie;
@@ -37,9 +37,9 @@ fn units_bytes(alloc: Global, trie: &Char16Trie<'_>) -> Result<Vec<u8>, AllocErr
 /// Returns a trie in a form, as the bytes of a file.
 ///
 /// # Errors
-/// Returns [`RowsFault::Key`] in the form [`Form::Rows`] for the first key that no line can have.
-/// Returns [`RowsFault::Memory`] if an allocation fails.
-pub fn written(alloc: Global, trie: &Char16Trie<'_>, form: Form<'_>) -> Result<Vec<u8>, RowsFault>
+/// Returns [`RowsError::Key`] in the form [`Form::Rows`] for the first key that no line can have.
+/// Returns [`RowsError::Memory`] if an allocation fails.
+pub fn written(alloc: Global, trie: &Char16Trie<'_>, form: Form<'_>) -> Result<Vec<u8>, RowsError>
     ensures icu { form.entry ≡ Form.Icu
         → IfOk result (λ bytes. bytes.items ≡ flat_map (low_bytes 2) trie.now) }
     ensures rows { form.entry ≡ Form.Rows → (m : UnitMap) → IsTrieOf trie.now m

@@ -3,7 +3,7 @@
 
 use crate::runtime::*;
 use crate::support::prelude::*;
-use crate::ucptab_table::fault::RowFault;
+use crate::ucptab_table::error::RowError;
 use crate::ucptab_table::run_words;
 use crate::ucptab_table::streams::{Failed, Sink, Source};
 use std::format;
@@ -27,7 +27,7 @@ impl Source for Input<'_> {
         Ok(count)
     }
 
-    fn note_fault(&mut self, _number: u64, _line: &[u8], _fault: RowFault) {}
+    fn note_fault(&mut self, _number: u64, _line: &[u8], _fault: RowError) {}
 }
 
 /// What was written. A write fails if it is full.

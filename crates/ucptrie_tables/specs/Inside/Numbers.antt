@@ -7,9 +7,9 @@ use Rattle.icu_trie.specs.Conversion.{with_null_value}
 use Rattle.icu_trie.specs.declared.map_value.MapError.{MapError}
 use Rattle.icu_trie.specs.declared.map_value.MapError.TheVariants.{Closure, Memory as MapMemory}
 use Rattle.icu_trie_binary.specs.WrittenTrie.{why_not_written}
-use Rattle.ucptab_table.specs.declared.fault.TableError.TheVariants.{Memory}
-use Rattle.ucptrie_tables.specs.declared.fault.BuildFault.{BuildFault}
-use Rattle.ucptrie_tables.specs.declared.fault.BuildFault.TheVariants.{Table as TableFault, Width, Binary}
+use Rattle.ucptab_table.specs.declared.error.TableError.TheVariants.{Memory}
+use Rattle.ucptrie_tables.specs.declared.error.TableBuildError.{TableBuildError}
+use Rattle.ucptrie_tables.specs.declared.error.TableBuildError.TheVariants.{Table as TableFailed, Width, Binary}
 use Rattle.ucptrie_tables.specs.declared.table.Table.{Table}
 
 -- The values of t are those of the numbers of p's values, cell by cell, and so is its null value;
@@ -51,10 +51,10 @@ IsWhyNoNumbers number old_of_number of_number p MapMemory = ⊤
 
 -- Why a table is not written in the binary form over values of another type, which take so many
 -- bytes.
-abbrev pub IsWhyNotNarrowed : {P : Type 0} → ℕ → (P → ℕ) → (ℕ → Option P) → Table → BuildFault
+abbrev pub IsWhyNotNarrowed : {P : Type 0} → ℕ → (P → ℕ) → (ℕ → Option P) → Table → TableBuildError
     → Type 0
-IsWhyNotNarrowed bytes number of_number t (TableFault Memory) = ⊤
-IsWhyNotNarrowed bytes number of_number t (TableFault _) = ⊥
+IsWhyNotNarrowed bytes number of_number t (TableFailed Memory) = ⊤
+IsWhyNotNarrowed bytes number of_number t (TableFailed _) = ⊥
 IsWhyNotNarrowed bytes number of_number t (Width value width) =
     (width ≡ t.width) × IsFirstWithout (λ n. n) (fitting (2 ^ 32)) of_number t.trie value
 IsWhyNotNarrowed {P} bytes number of_number t (Binary why) = (narrowed : Parts P)

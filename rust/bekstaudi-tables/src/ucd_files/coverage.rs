@@ -2,7 +2,7 @@
 
 use crate::host::*;
 use crate::support::prelude::*;
-use crate::ucd_files::fault::FileFault;
+use crate::ucd_files::error::FileError;
 use crate::ucd_files::names::Numbering;
 use crate::ucd_files::read::read_writes;
 use crate::ucd_files::statement::Columns;
@@ -53,7 +53,7 @@ pub(crate) fn lines_cover_all(
     input: &[u8],
     columns: Columns<'_>,
     numbering: Numbering<'_>,
-) -> Result<bool, FileFault> {
+) -> Result<bool, FileError> {
     let writes = read_writes(input, columns, numbering)?;
     let all = cover_all(&writes)?;
     Ok(all)

@@ -5,7 +5,7 @@ use crate::support::AllocError;
 use crate::support::prelude::*;
 use crate::ucd_files::aliases::missing_alias;
 use crate::ucd_files::coverage::lines_cover_all;
-use crate::ucd_files::fault::FileFault;
+use crate::ucd_files::error::FileError;
 use crate::ucd_files::fields::missing_of;
 use crate::ucd_files::kind::are_digits;
 use crate::ucd_files::names::{Matching, Name, Numbering, number_of};
@@ -134,7 +134,7 @@ pub fn missing_value(
     numbering: Numbering<'_>,
     aliases: &[u8],
     property: &[u8],
-) -> Result<MissingValue, FileFault> {
+) -> Result<MissingValue, FileError> {
     if !is_by_names(numbering) {
         return Ok(MissingValue::Numbers);
     }

@@ -13,7 +13,7 @@
 //! - `missing_values`: the values of code points without a line
 //! - `title`: what a file says of itself
 //! - `compression`: how a file is compressed
-//! - `fault`: what is wrong with a line or a file
+//! - `error`: what is wrong with a line or a file
 
 use crate::host::*;
 use crate::support::prelude::*;
@@ -21,7 +21,7 @@ pub mod aliases;
 pub mod choice;
 pub mod compression;
 mod coverage;
-pub mod fault;
+pub mod error;
 pub mod fields;
 pub mod kind;
 pub mod missing_values;

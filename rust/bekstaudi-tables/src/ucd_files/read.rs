@@ -3,7 +3,7 @@
 use crate::host::*;
 use crate::support::AllocError;
 use crate::support::prelude::*;
-use crate::ucd_files::fault::FileFault;
+use crate::ucd_files::error::FileError;
 use crate::ucd_files::fields::ends_in_first;
 use crate::ucd_files::names::Numbering;
 use crate::ucd_files::statement::{Columns, Statement, statement_of};
@@ -21,14 +21,14 @@ fn is_open(columns: Columns<'_>, line: &[u8]) -> bool {
 /// Returns what the lines of a file say, in order.
 ///
 /// # Errors
-/// Returns [`FileFault::Line`] for the first line with a fault, counted from 1,
-/// [`FileFault::Unfinished`] if the file ends in the middle of a range of `UnicodeData.txt`, and
-/// [`FileFault::Memory`] if an allocation fails.
+/// Returns [`FileError::Line`] for the first line with a fault, counted from 1,
+/// [`FileError::Unfinished`] if the file ends in the middle of a range of `UnicodeData.txt`, and
+/// [`FileError::Memory`] if an allocation fails.
 pub fn read_statements(
     input: &[u8],
     columns: Columns<'_>,
     numbering: Numbering<'_>,
-) -> Result<Vec<Statement>, FileFault> {
+) -> Result<Vec<Statement>, FileError> {
     let mut said = Vec::new();
     let mut number = 0u64;
     let mut rest = input;
@@ -40,15 +40,15 @@ pub fn read_statements(
             Ok(None) => {}
             Ok(Some(statement)) => {
                 if said.try_push(statement).is_err() {
-                    return Err(FileFault::Memory);
+                    return Err(FileError::Memory);
                 }
             }
-            Err(fault) => return Err(FileFault::Line(number, fault)),
+            Err(fault) => return Err(FileError::Line(number, fault)),
         }
         previous = line;
     }
     if is_open(columns, previous) {
-        return Err(FileFault::Unfinished);
+        return Err(FileError::Unfinished);
     }
     Ok(said)
 }
@@ -92,14 +92,14 @@ pub fn writes_of(statements: Vec<Statement>) -> Result<Vec<Write<u32>>, AllocErr
 /// in order. The last write that covers a code point gives its value.
 ///
 /// # Errors
-/// Returns [`FileFault::Line`] for the first line with a fault, counted from 1,
-/// [`FileFault::Unfinished`] if the file ends in the middle of a range of `UnicodeData.txt`, and
-/// [`FileFault::Memory`] if an allocation fails.
+/// Returns [`FileError::Line`] for the first line with a fault, counted from 1,
+/// [`FileError::Unfinished`] if the file ends in the middle of a range of `UnicodeData.txt`, and
+/// [`FileError::Memory`] if an allocation fails.
 pub fn read_writes(
     input: &[u8],
     columns: Columns<'_>,
     numbering: Numbering<'_>,
-) -> Result<Vec<Write<u32>>, FileFault> {
+) -> Result<Vec<Write<u32>>, FileError> {
     let said = read_statements(input, columns, numbering)?;
     let writes = writes_of(said)?;
     Ok(writes)

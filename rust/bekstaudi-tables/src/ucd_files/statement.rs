@@ -2,7 +2,7 @@
 
 use crate::host::*;
 use crate::support::prelude::*;
-use crate::ucd_files::fault::LineFault;
+use crate::ucd_files::error::LineError;
 use crate::ucd_files::fields::{
     after_mark, column, ends_in_first, ends_in_last, field, has_field, marks_range, missing_of,
 };
@@ -143,19 +143,19 @@ pub(crate) fn missing_text<'t>(columns: Columns<'_>, content: &'t [u8]) -> Optio
 }
 
 /// Returns the code points if they are code points and in order.
-fn checked_points(points: Option<CodePoints>) -> Result<CodePoints, LineFault> {
+fn checked_points(points: Option<CodePoints>) -> Result<CodePoints, LineError> {
     let Some(points) = points else {
-        return Err(LineFault::NotCodePoints);
+        return Err(LineError::NotCodePoints);
     };
     let (start, end) = match points {
         CodePoints::Single(code_point) => (code_point, code_point),
         CodePoints::Span(start, end) => (start, end),
     };
     if start >= CODE_POINT_LIMIT || end >= CODE_POINT_LIMIT {
-        return Err(LineFault::CodePoint);
+        return Err(LineError::CodePoint);
     }
     if start > end {
-        return Err(LineFault::Reversed);
+        return Err(LineError::Reversed);
     }
     Ok(points)
 }
@@ -217,7 +217,7 @@ fn points_of(
     columns: Columns<'_>,
     previous: &[u8],
     content: &[u8],
-) -> Result<CodePoints, LineFault> {
+) -> Result<CodePoints, LineError> {
     let own = code_points_of(field(0, content));
     match columns {
         Columns::UnicodeData(_) if ends_in_last(content) => {
@@ -241,13 +241,13 @@ fn write_of(
     numbering: Numbering<'_>,
     points: CodePoints,
     text: &[u8],
-) -> Result<Write<u32>, LineFault> {
+) -> Result<Write<u32>, LineError> {
     if text.is_empty() {
-        return Err(LineFault::NoValue);
+        return Err(LineError::NoValue);
     }
     match number_of(numbering, text) {
         Some(number) => Ok(write_at(points, number)),
-        None => Err(LineFault::UnknownValue),
+        None => Err(LineError::UnknownValue),
     }
 }
 
@@ -257,7 +257,7 @@ fn explicit_statement(
     numbering: Numbering<'_>,
     previous: &[u8],
     content: &[u8],
-) -> Result<Option<Statement>, LineFault> {
+) -> Result<Option<Statement>, LineError> {
     let points = points_of(columns, previous, content)?;
     let Some(text) = value_text(columns, content) else {
         return Ok(None);
@@ -284,7 +284,7 @@ fn missing_statement(
     columns: Columns<'_>,
     numbering: Numbering<'_>,
     content: &[u8],
-) -> Result<Option<Statement>, LineFault> {
+) -> Result<Option<Statement>, LineError> {
     let points = checked_points(code_points_of(field(0, content)))?;
     let Some(text) = text_of_missing(columns, numbering, content) else {
         return Ok(None);
@@ -297,16 +297,16 @@ fn missing_statement(
 /// another property.
 ///
 /// # Errors
-/// Returns what is wrong with the line, by the first of the tests in [`LineFault`].
+/// Returns what is wrong with the line, by the first of the tests in [`LineError`].
 pub fn statement_of(
     columns: Columns<'_>,
     numbering: Numbering<'_>,
     previous: &[u8],
     line: &[u8],
-) -> Result<Option<Statement>, LineFault> {
+) -> Result<Option<Statement>, LineError> {
     let content = content_in(columns, line);
     if !is_paired(columns, previous, content) {
-        return Err(LineFault::Unpaired);
+        return Err(LineError::Unpaired);
     }
     if let Some(missing) = missing_of(line) {
         return missing_statement(columns, numbering, missing);
@@ -315,7 +315,7 @@ pub fn statement_of(
         return Ok(None);
     }
     if is_split(columns, line) {
-        return Err(LineFault::SplitRange);
+        return Err(LineError::SplitRange);
     }
     explicit_statement(columns, numbering, previous, content)
 }

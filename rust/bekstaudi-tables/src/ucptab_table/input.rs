@@ -2,7 +2,7 @@
 
 use crate::host::*;
 use crate::support::prelude::*;
-use crate::ucptab_table::fault::TableError;
+use crate::ucptab_table::error::TableError;
 use crate::ucptab_table::rows::{position_or_len, row_of};
 use crate::ucptab_table::streams::{Failed, Source};
 use bekstaudi::codepointtrie::Write;

@@ -3,7 +3,7 @@
 use crate::host::*;
 use crate::support::AllocError;
 use crate::support::prelude::*;
-use crate::ucptab_table::fault::RowFault;
+use crate::ucptab_table::error::RowError;
 use crate::ucptab_table::hint::hint;
 use crate::ucptab_table::input::line_at;
 
@@ -77,11 +77,11 @@ pub fn line_message(
 pub fn row_line_message(
     input: &str,
     number: u64,
-    fault: RowFault,
+    fault: RowError,
     line: &[u8],
 ) -> Result<String, AllocError> {
     let mut text = line_message(input, number, fault.expected(), line)?;
-    if matches!(fault, RowFault::NotARow) {
+    if matches!(fault, RowError::NotARow) {
         text.try_push_str(": ")?;
         text.try_push_str(hint(line))?;
     }
@@ -96,7 +96,7 @@ pub fn row_message(
     input: &str,
     bytes: &[u8],
     number: u64,
-    fault: RowFault,
+    fault: RowError,
 ) -> Result<String, AllocError> {
     let line = line_at(bytes, number).unwrap_or(&[]);
     row_line_message(input, number, fault, line)

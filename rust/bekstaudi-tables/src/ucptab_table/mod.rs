@@ -4,7 +4,7 @@
 use crate::host::*;
 use crate::support::prelude::*;
 pub mod digits;
-pub mod fault;
+pub mod error;
 pub mod hint;
 pub mod input;
 pub mod message;
@@ -14,7 +14,7 @@ pub mod streams;
 pub mod text;
 pub mod words;
 
-use crate::ucptab_table::fault::TableError;
+use crate::ucptab_table::error::TableError;
 use crate::ucptab_table::input::{read_all, read_shown_rows};
 use crate::ucptab_table::streams::{Failed, Sink, Source};
 use crate::ucptab_table::text::{answers_text, ranges_text, write_fault};

@@ -3,7 +3,7 @@
 use crate::host::*;
 use crate::support::prelude::*;
 use crate::ucptab_table::digits::{decimal_number, hexadecimal};
-use crate::ucptab_table::fault::RowFault;
+use crate::ucptab_table::error::RowError;
 use bekstaudi::codepointtrie::Write;
 use bekstaudi::zerovec::CODE_POINT_LIMIT;
 
@@ -74,19 +74,19 @@ pub fn code_points_of(field: &[u8]) -> Option<CodePoints> {
 }
 
 /// Returns the write of a row, or the first fault of its numbers.
-fn row_of_numbers(points: CodePoints, value: u64) -> Result<Write<u32>, RowFault> {
+fn row_of_numbers(points: CodePoints, value: u64) -> Result<Write<u32>, RowError> {
     let (start, end) = match points {
         CodePoints::Single(code_point) => (code_point, code_point),
         CodePoints::Span(start, end) => (start, end),
     };
     if start >= CODE_POINT_LIMIT || end >= CODE_POINT_LIMIT {
-        return Err(RowFault::CodePoint);
+        return Err(RowError::CodePoint);
     }
     if start > end {
-        return Err(RowFault::Reversed);
+        return Err(RowError::Reversed);
     }
     let Ok(value) = u32::try_from(value) else {
-        return Err(RowFault::Value);
+        return Err(RowError::Value);
     };
     match points {
         CodePoints::Single(code_point) => Ok(Write::One(code_point, value)),
@@ -103,17 +103,17 @@ pub fn content_of(line: &[u8]) -> &[u8] {
 /// Returns the write of a line, or `None` if the line is blank or a comment.
 ///
 /// # Errors
-/// Returns what is wrong with the line, by the first of the tests in [`RowFault`].
-pub fn row_of(line: &[u8]) -> Result<Option<Write<u32>>, RowFault> {
+/// Returns what is wrong with the line, by the first of the tests in [`RowError`].
+pub fn row_of(line: &[u8]) -> Result<Option<Write<u32>>, RowError> {
     let content = content_of(line);
     if content.is_empty() {
         return Ok(None);
     }
     let Some(points) = code_points_of(trimmed(before(b';', content))) else {
-        return Err(RowFault::NotARow);
+        return Err(RowError::NotARow);
     };
     let Some(value) = decimal_number(trimmed(after(b';', content))) else {
-        return Err(RowFault::NotARow);
+        return Err(RowError::NotARow);
     };
     let write = row_of_numbers(points, value)?;
     Ok(Some(write))

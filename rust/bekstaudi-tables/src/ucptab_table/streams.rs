@@ -2,7 +2,7 @@
 
 use crate::host::*;
 use crate::support::prelude::*;
-use crate::ucptab_table::fault::RowFault;
+use crate::ucptab_table::error::RowError;
 
 /// A read or a write failed.
 #[derive(Clone, Copy, Debug, PartialEq, Eq)]
@@ -19,7 +19,7 @@ pub trait Source {
 
     /// Is called with the first line that is not a row, its number, counted from 1, and its fault.
     /// What is left to read stays the same.
-    fn note_fault(&mut self, number: u64, line: &[u8], fault: RowFault);
+    fn note_fault(&mut self, number: u64, line: &[u8], fault: RowError);
 }
 
 /// A stream to write to.

@@ -3,7 +3,7 @@
 use crate::host::*;
 use crate::support::AllocError;
 use crate::support::prelude::*;
-use crate::ucptab_table::fault::TableError;
+use crate::ucptab_table::error::TableError;
 use crate::ucptab_table::streams::{Failed, Sink};
 use bekstaudi::codepointtrie::CodePointMapRange;
 use bekstaudi::codepointtrie::CodePointTrie;

@@ -3,7 +3,7 @@
 use crate::host::*;
 use crate::support::AllocError;
 use crate::support::prelude::*;
-use crate::ucptrie_sets::fault::SetWriteFault;
+use crate::ucptrie_sets::error::SetWriteError;
 use bekstaudi::codepointinvlist::CodePointInversionList;
 use bekstaudi::codepointinvlist::serialized::{SerializedSetError, from_serialized, to_serialized};
 
@@ -26,9 +26,9 @@ fn bytes_of_units(units: &[u16]) -> Result<Vec<u8>, AllocError> {
 /// Returns the set in ICU's serialized form, as bytes.
 ///
 /// # Errors
-/// - `SetWriteFault::TooLong` if and only if the boundaries take more than 0x7FFF units.
-/// - `SetWriteFault::Memory` if an allocation fails.
-pub(crate) fn serialized_bytes(set: &CodePointInversionList<'_>) -> Result<Vec<u8>, SetWriteFault> {
+/// - `SetWriteError::TooLong` if and only if the boundaries take more than 0x7FFF units.
+/// - `SetWriteError::Memory` if an allocation fails.
+pub(crate) fn serialized_bytes(set: &CodePointInversionList<'_>) -> Result<Vec<u8>, SetWriteError> {
     let units = to_serialized(set)?;
     let bytes = bytes_of_units(&units)?;
     Ok(bytes)

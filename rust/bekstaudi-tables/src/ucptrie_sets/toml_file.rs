@@ -6,7 +6,7 @@ use crate::host::*;
 use crate::support::AllocError;
 use crate::support::prelude::*;
 use crate::toml::{Table, Value};
-use crate::ucptrie_sets::fault::SetFileFault;
+use crate::ucptrie_sets::error::SetFileError;
 use bekstaudi::codepointinvlist::{CodePointInversionList, CodePointInversionListBuilder};
 use bekstaudi::zerovec::{CODE_POINT_LIMIT, MemoryError};
 
@@ -45,12 +45,12 @@ fn pair_of(value: &Value) -> Option<(u32, u32)> {
 }
 
 /// Returns the inclusive bounds of item `i` of `ranges`.
-fn range_of(value: &Value, i: usize) -> Result<(u32, u32), SetFileFault> {
+fn range_of(value: &Value, i: usize) -> Result<(u32, u32), SetFileError> {
     let Some((start, end)) = pair_of(value) else {
-        return Err(SetFileFault::NotAPair(i));
+        return Err(SetFileError::NotAPair(i));
     };
     if end < start {
-        return Err(SetFileFault::Reversed(i));
+        return Err(SetFileError::Reversed(i));
     }
     Ok((start, end))
 }
@@ -65,7 +65,7 @@ fn add_range(
 }
 
 /// Returns the set of the ranges, which may overlap and come in any order.
-fn set_of_items(items: &[Value]) -> Result<CodePointInversionList<'static>, SetFileFault> {
+fn set_of_items(items: &[Value]) -> Result<CodePointInversionList<'static>, SetFileError> {
     let mut builder = CodePointInversionListBuilder::new();
     for (i, item) in items.iter().enumerate() {
         let range = range_of(item, i)?;
@@ -118,12 +118,12 @@ fn first_asked<'a>(
 }
 
 /// Returns the only one of the properties that is asked for.
-fn asked_among<'a>(properties: &'a [Value], name: Option<&str>) -> Result<&'a Value, SetFileFault> {
+fn asked_among<'a>(properties: &'a [Value], name: Option<&str>) -> Result<&'a Value, SetFileError> {
     let Some((property, others)) = first_asked(properties, name) else {
-        return Err(SetFileFault::Missing);
+        return Err(SetFileError::Missing);
     };
     match first_asked(others, name) {
-        Some(_) => Err(SetFileFault::Several),
+        Some(_) => Err(SetFileError::Several),
         None => Ok(property),
     }
 }
@@ -148,13 +148,13 @@ fn ranges_of(property: &Value) -> Option<&[Value]> {
 fn set_of_table(
     file: &Table,
     name: Option<&str>,
-) -> Result<CodePointInversionList<'static>, SetFileFault> {
+) -> Result<CodePointInversionList<'static>, SetFileError> {
     let Some(properties) = items_at(file, "binary_property") else {
-        return Err(SetFileFault::NoSets);
+        return Err(SetFileError::NoSets);
     };
     let property = asked_among(properties, name)?;
     let Some(items) = ranges_of(property) else {
-        return Err(SetFileFault::NoRanges);
+        return Err(SetFileError::NoRanges);
     };
     set_of_items(items)
 }
@@ -166,16 +166,16 @@ fn set_of_table(
 /// read.
 ///
 /// # Errors
-/// Returns the first variant of [`SetFileFault`] that applies. The items of `ranges` are tested in
+/// Returns the first variant of [`SetFileError`] that applies. The items of `ranges` are tested in
 /// order. `Memory` is returned if an allocation fails.
 pub fn set_of_file(
     text: &str,
     name: Option<&str>,
-) -> Result<CodePointInversionList<'static>, SetFileFault> {
+) -> Result<CodePointInversionList<'static>, SetFileError> {
     match crate::toml::table_from_str(text) {
         Ok(file) => set_of_table(&file, name),
-        Err(error) if error.is_memory() => Err(SetFileFault::Memory),
-        Err(_) => Err(SetFileFault::NotToml),
+        Err(error) if error.is_memory() => Err(SetFileError::Memory),
+        Err(_) => Err(SetFileError::NotToml),
     }
 }
 

@@ -3,7 +3,7 @@
 use crate::host::*;
 use crate::support::prelude::*;
 use crate::ucptrie_sets::c_source::{c_text, frozen_c_text};
-use crate::ucptrie_sets::fault::SetWriteFault;
+use crate::ucptrie_sets::error::SetWriteError;
 use crate::ucptrie_sets::rows::rows_text;
 use crate::ucptrie_sets::rust_source::{frozen_rust_text, rust_text};
 use crate::ucptrie_sets::serialized::serialized_bytes;
@@ -43,13 +43,13 @@ fn json_text(set: &CodePointInversionList<'_>) -> Result<String, MemoryError> {
 /// Returns the set in a form, as the bytes of a file.
 ///
 /// # Errors
-/// - `SetWriteFault::TooLong` in ICU's serialized form, if and only if the boundaries take more
+/// - `SetWriteError::TooLong` in ICU's serialized form, if and only if the boundaries take more
 ///   than 0x7FFF units.
-/// - `SetWriteFault::Memory` if an allocation fails.
+/// - `SetWriteError::Memory` if an allocation fails.
 pub fn written(
     set: &CodePointInversionList<'_>,
     form: SetForm<'_>,
-) -> Result<Vec<u8>, SetWriteFault> {
+) -> Result<Vec<u8>, SetWriteError> {
     let text = match form {
         SetForm::Icu => return serialized_bytes(set),
         SetForm::Rows => rows_text(set)?,

@@ -23,7 +23,7 @@
 //! - `toml_text`: a table in TOML
 //! - `value_names`: names of values in C and in Rust; `static_source`: a static trie in Rust
 //! - `names_list`: names of values as lines `NUMBER;NAME`
-//! - `fault`: why a table can't be made, written or read
+//! - `error`: why a table can't be made, written or read
 
 use crate::host::*;
 use crate::support::prelude::*;
@@ -32,8 +32,8 @@ mod c_source;
 mod cells;
 pub mod compare;
 pub mod diff;
+pub mod error;
 pub mod explain;
-pub mod fault;
 pub mod names_list;
 pub mod other_toml;
 pub mod parsed;
@@ -55,7 +55,7 @@ mod values;
 pub mod width;
 pub mod written;
 
-use crate::ucptrie_tables::fault::BuildFault;
+use crate::ucptrie_tables::error::TableBuildError;
 use crate::ucptrie_tables::table::{TableOptions, table_of_rows};
 use crate::ucptrie_tables::written::{Form, written};
 
@@ -65,12 +65,16 @@ use crate::ucptrie_tables::written::{Form, written};
 /// that state the null value and the error value.
 ///
 /// # Errors
-/// Returns [`BuildFault::Table`] for the first line that is not a row, for a map that is too large
-/// for a trie, and if an allocation fails. Returns [`BuildFault::Width`] for a value of a code
+/// Returns [`TableBuildError::Table`] for the first line that is not a row, for a map that is too large
+/// for a trie, and if an allocation fails. Returns [`TableBuildError::Width`] for a value of a code
 /// point, or the error value, that has more bits than the asked width; in ICU's binary form also
-/// for the null value. Returns [`BuildFault::Binary`] if ICU's binary form has no room for the
+/// for the null value. Returns [`TableBuildError::Binary`] if ICU's binary form has no room for the
 /// trie.
-pub fn built(rows: &[u8], options: TableOptions, form: Form<'_>) -> Result<Vec<u8>, BuildFault> {
+pub fn built(
+    rows: &[u8],
+    options: TableOptions,
+    form: Form<'_>,
+) -> Result<Vec<u8>, TableBuildError> {
     let table = table_of_rows(rows, options)?;
     written(&table, form)
 }

@@ -2,7 +2,7 @@
 
 use crate::host::*;
 use crate::support::prelude::*;
-use crate::ucptrie_tables::fault::ReadFault;
+use crate::ucptrie_tables::error::ReadError;
 use crate::ucptrie_tables::read::{file_of_toml, toml_text};
 
 /// A file, and its TOML if it is taken for TOML.
@@ -15,9 +15,9 @@ impl<'f> ParsedFile<'f> {
     /// Parses a file if it is taken for TOML.
     ///
     /// # Errors
-    /// Returns [`ReadFault::Toml`] if the text is not TOML, and [`ReadFault::Memory`] if an
+    /// Returns [`ReadError::Toml`] if the text is not TOML, and [`ReadError::Memory`] if an
     /// allocation fails.
-    pub fn new(bytes: &'f [u8]) -> Result<ParsedFile<'f>, ReadFault> {
+    pub fn new(bytes: &'f [u8]) -> Result<ParsedFile<'f>, ReadError> {
         let toml = match toml_text(bytes) {
             Some(text) => Some(file_of_toml(text)?),
             None => None,

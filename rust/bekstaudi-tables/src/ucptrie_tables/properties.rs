@@ -4,11 +4,11 @@ use crate::host::*;
 use crate::support::AllocError;
 use crate::support::prelude::*;
 use crate::ucd_files::value_names::ValueNames;
-use crate::ucptrie_tables::fault::ReadFault;
+use crate::ucptrie_tables::error::ReadError;
 use crate::ucptrie_tables::parsed::ParsedFile;
 use crate::ucptrie_tables::read::{read_table, table_of_members, trie_of_table, value_at};
 use crate::ucptrie_tables::table::Table;
-use crate::ucptrie_tables::toml_names::{NamesFault, items_in, names_of};
+use crate::ucptrie_tables::toml_names::{NamesError, items_in, names_of};
 
 /// A property that has a trie.
 #[derive(Clone, Copy)]
@@ -23,9 +23,9 @@ struct Property<'a> {
 
 /// Why a file has no table of a property.
 #[derive(Debug)]
-pub enum PropertyFault {
+pub enum PropertyError {
     /// The file has no table, or that of the property is not one.
-    Read(ReadFault),
+    Read(ReadError),
     /// The file is not TOML, so its table is that of no property.
     NotToml,
     /// No property has this name and a trie. These have a trie.
@@ -34,15 +34,15 @@ pub enum PropertyFault {
     Several(String),
 }
 
-impl From<ReadFault> for PropertyFault {
-    fn from(fault: ReadFault) -> PropertyFault {
-        PropertyFault::Read(fault)
+impl From<ReadError> for PropertyError {
+    fn from(fault: ReadError) -> PropertyError {
+        PropertyError::Read(fault)
     }
 }
 
-impl From<AllocError> for PropertyFault {
-    fn from(_error: AllocError) -> PropertyFault {
-        PropertyFault::Read(ReadFault::Memory)
+impl From<AllocError> for PropertyError {
+    fn from(_error: AllocError) -> PropertyError {
+        PropertyError::Read(ReadError::Memory)
     }
 }
 
@@ -163,16 +163,16 @@ fn listed(properties: &[Property<'_>]) -> Result<String, AllocError> {
 fn asked_trie<'a>(
     file: &'a crate::toml::Table,
     name: Option<&str>,
-) -> Result<&'a crate::toml::Table, PropertyFault> {
+) -> Result<&'a crate::toml::Table, PropertyError> {
     let found = properties_of(file, name)?;
     match (found.as_slice(), name) {
         ([property], _) => Ok(property.trie),
         ([], None) => Ok(file),
         ([], Some(_)) => {
             let all = properties_of(file, None)?;
-            Err(PropertyFault::Missing(listed(&all)?))
+            Err(PropertyError::Missing(listed(&all)?))
         }
-        (several, _) => Err(PropertyFault::Several(listed(several)?)),
+        (several, _) => Err(PropertyError::Several(listed(several)?)),
     }
 }
 
@@ -184,7 +184,7 @@ fn asked_trie<'a>(
 pub fn property_names<'a>(
     file: &'a ParsedFile<'_>,
     name: Option<&str>,
-) -> Result<ValueNames<'a>, NamesFault> {
+) -> Result<ValueNames<'a>, NamesError> {
     let Some(toml) = file.toml() else {
         return Ok(ValueNames::new());
     };
@@ -201,16 +201,16 @@ pub fn property_names<'a>(
 /// A name is the key of a property in the file, or its `long_name` or `short_name`.
 ///
 /// # Errors
-/// Returns [`PropertyFault::Several`] if several properties have a trie, and the name, if one is
-/// asked, and [`PropertyFault::Missing`] if none has that name. Returns [`PropertyFault::NotToml`]
+/// Returns [`PropertyError::Several`] if several properties have a trie, and the name, if one is
+/// asked, and [`PropertyError::Missing`] if none has that name. Returns [`PropertyError::NotToml`]
 /// if a name is asked of a file in another form. Other errors are those of [`read_table`].
-pub fn read_property(file: &ParsedFile<'_>, name: Option<&str>) -> Result<Table, PropertyFault> {
+pub fn read_property(file: &ParsedFile<'_>, name: Option<&str>) -> Result<Table, PropertyError> {
     if let Some(toml) = file.toml() {
         let trie = asked_trie(toml, name)?;
         return Ok(table_of_members(trie)?);
     }
     if name.is_some() {
-        return Err(PropertyFault::NotToml);
+        return Err(PropertyError::NotToml);
     }
     Ok(read_table(file.bytes())?)
 }

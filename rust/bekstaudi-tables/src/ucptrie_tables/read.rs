@@ -3,7 +3,7 @@
 use crate::host::*;
 use crate::serde_json::Value;
 use crate::support::prelude::*;
-use crate::ucptrie_tables::fault::{ReadFault, TomlFault};
+use crate::ucptrie_tables::error::{ReadError, TomlFileError};
 use crate::ucptrie_tables::table::Table;
 use crate::ucptrie_tables::values::with_values_of;
 use crate::ucptrie_tables::width::ValueWidth;
@@ -20,17 +20,17 @@ use bekstaudi::codepointtrie::trie_toml::{CodePointDataSlice, CodePointTrieToml}
 fn widened<T: TrieValue>(
     trie: &CodePointTrie<'_, T>,
     width: ValueWidth,
-) -> Result<Table, ReadFault> {
+) -> Result<Table, ReadError> {
     match with_values_of(trie) {
         Ok(trie) => Ok(Table { trie, width }),
         // The number of each value has at most 32 bits.
         Err(MapError::Closure(_)) => unreachable!(),
-        Err(_) => Err(ReadFault::Memory),
+        Err(_) => Err(ReadError::Memory),
     }
 }
 
 /// Reads a table in ICU's binary form.
-fn table_of_binary(file: &[u8]) -> Result<Table, ReadFault> {
+fn table_of_binary(file: &[u8]) -> Result<Table, ReadError> {
     let (read, _) = from_binary_any(file)?;
     match read {
         AnyWidthTrie::Bits8(trie) => widened(&trie, ValueWidth::Bits8),
@@ -41,16 +41,16 @@ fn table_of_binary(file: &[u8]) -> Result<Table, ReadFault> {
 
 /// Reads a table in ICU's binary form as a machine with the other byte order writes it. Tries each
 /// width in turn.
-fn table_of_swapped(file: &[u8]) -> Result<Table, ReadFault> {
+fn table_of_swapped(file: &[u8]) -> Result<Table, ReadError> {
     match from_binary_swapped::<u8>(file) {
         Ok((trie, _)) => return widened(&trie, ValueWidth::Bits8),
         Err(SwappedError::Binary(BinaryError::OtherWidth)) => {}
-        Err(error) => return Err(ReadFault::from(error)),
+        Err(error) => return Err(ReadError::from(error)),
     }
     match from_binary_swapped::<u16>(file) {
         Ok((trie, _)) => return widened(&trie, ValueWidth::Bits16),
         Err(SwappedError::Binary(BinaryError::OtherWidth)) => {}
-        Err(error) => return Err(ReadFault::from(error)),
+        Err(error) => return Err(ReadError::from(error)),
     }
     let (trie, _) = from_binary_swapped::<u32>(file)?;
     Ok(Table {
@@ -60,7 +60,7 @@ fn table_of_swapped(file: &[u8]) -> Result<Table, ReadFault> {
 }
 
 /// Reads a table in JSON, which has no width: its numbers have 32 bits.
-fn table_of_json(text: &str) -> Result<Table, ReadFault> {
+fn table_of_json(text: &str) -> Result<Table, ReadError> {
     let value = crate::serde_json::from_str::<Value>(text)?;
     Ok(Table {
         trie: from_json(&value)?,
@@ -120,16 +120,16 @@ fn width_of(read: &CodePointTrieToml) -> ValueWidth {
 }
 
 /// Reads a TOML file.
-pub(crate) fn file_of_toml(text: &str) -> Result<crate::toml::Table, ReadFault> {
+pub(crate) fn file_of_toml(text: &str) -> Result<crate::toml::Table, ReadError> {
     match crate::toml::table_from_str(text) {
         Ok(file) => Ok(file),
-        Err(error) if error.is_memory() => Err(ReadFault::Memory),
-        Err(error) => Err(ReadFault::Toml(TomlFault::new(text, error))),
+        Err(error) if error.is_memory() => Err(ReadError::Memory),
+        Err(error) => Err(ReadError::Toml(TomlFileError::new(text, error))),
     }
 }
 
 /// Returns the table of a trie in TOML.
-pub(crate) fn table_of_members(table: &crate::toml::Table) -> Result<Table, ReadFault> {
+pub(crate) fn table_of_members(table: &crate::toml::Table) -> Result<Table, ReadError> {
     let read = CodePointTrieToml::from_table(table)?;
     let trie = CodePointTrie::try_from(&read)?;
     let width = width_of(&read);
@@ -137,7 +137,7 @@ pub(crate) fn table_of_members(table: &crate::toml::Table) -> Result<Table, Read
 }
 
 /// Reads a table in TOML.
-fn table_of_toml(text: &str) -> Result<Table, ReadFault> {
+fn table_of_toml(text: &str) -> Result<Table, ReadError> {
     let file = file_of_toml(text)?;
     table_of_members(trie_table(&file))
 }
@@ -148,7 +148,7 @@ fn is_object(text: &str) -> bool {
 }
 
 /// Reads a table in JSON or in TOML.
-fn table_of_text(text: &str) -> Result<Table, ReadFault> {
+fn table_of_text(text: &str) -> Result<Table, ReadError> {
     if is_object(text) {
         table_of_json(text)
     } else {
@@ -173,20 +173,20 @@ pub(crate) fn toml_text(file: &[u8]) -> Option<&str> {
 /// the binary form, what follows the trie is not read.
 ///
 /// # Errors
-/// Returns [`ReadFault::Binary`] for the first fault of a file with a signature. Returns
-/// [`ReadFault::Text`] if the file has no signature and is not a text in UTF-8. Returns
-/// [`ReadFault::Json`] if a text that starts with `{` is not JSON, and [`ReadFault::TrieJson`] for
-/// the first fault of its JSON as a trie. Returns [`ReadFault::Toml`] if any other text is not
-/// TOML, and [`ReadFault::TrieToml`] for the first fault of its TOML as a trie. Returns
-/// [`ReadFault::Memory`] if an allocation fails.
-pub fn read_table(file: &[u8]) -> Result<Table, ReadFault> {
+/// Returns [`ReadError::Binary`] for the first fault of a file with a signature. Returns
+/// [`ReadError::Text`] if the file has no signature and is not a text in UTF-8. Returns
+/// [`ReadError::Json`] if a text that starts with `{` is not JSON, and [`ReadError::TrieJson`] for
+/// the first fault of its JSON as a trie. Returns [`ReadError::Toml`] if any other text is not
+/// TOML, and [`ReadError::TrieToml`] for the first fault of its TOML as a trie. Returns
+/// [`ReadError::Memory`] if an allocation fails.
+pub fn read_table(file: &[u8]) -> Result<Table, ReadError> {
     match file {
         [b'3', b'i', b'r', b'T', ..] => return table_of_binary(file),
         [b'T', b'r', b'i', b'3', ..] => return table_of_swapped(file),
         _ => {}
     }
     let Ok(text) = str::from_utf8(file) else {
-        return Err(ReadFault::Text);
+        return Err(ReadError::Text);
     };
     table_of_text(text)
 }

@@ -2,7 +2,7 @@
 
 use crate::host::*;
 use crate::support::prelude::*;
-use crate::ucptrie_tables::fault::BuildFault;
+use crate::ucptrie_tables::error::TableBuildError;
 use crate::ucptrie_tables::table::{Table, first_wider};
 use crate::ucptrie_tables::width::ValueWidth;
 use bekstaudi::codepointtrie::CodePointTrie;
@@ -42,19 +42,19 @@ fn copied(
 /// block, or the value of U+10FFFF if there is none.
 ///
 /// # Errors
-/// Returns [`BuildFault::Width`] for a value of a code point, or the error value, that has more
-/// bits than the width: the first one in the new trie's data. Returns [`BuildFault::Table`] if the
+/// Returns [`TableBuildError::Width`] for a value of a code point, or the error value, that has more
+/// bits than the width: the first one in the new trie's data. Returns [`TableBuildError::Table`] if the
 /// values are too many for a trie, and if an allocation fails.
 pub fn rebuilt(
     table: &Table,
     trie_type: TrieType,
     width: ValueWidth,
     error: u32,
-) -> Result<Table, BuildFault> {
+) -> Result<Table, TableBuildError> {
     let builder = copied(&table.trie, trie_type, error)?;
     let trie = builder.try_build()?;
     match first_wider(&trie, width) {
-        Some(value) => Err(BuildFault::Width(value, width)),
+        Some(value) => Err(TableBuildError::Width(value, width)),
         None => Ok(Table { trie, width }),
     }
 }

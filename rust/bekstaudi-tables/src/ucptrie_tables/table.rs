@@ -3,7 +3,7 @@
 use crate::host::*;
 use crate::support::prelude::*;
 use crate::ucptab_table::input::read_rows;
-use crate::ucptrie_tables::fault::BuildFault;
+use crate::ucptrie_tables::error::TableBuildError;
 use crate::ucptrie_tables::width::ValueWidth;
 use bekstaudi::codepointtrie::CodePointTrie;
 use bekstaudi::codepointtrie::TrieType;
@@ -39,13 +39,16 @@ pub(crate) fn first_wider(trie: &CodePointTrie<'_, u32>, width: ValueWidth) -> O
 /// Builds the table of writes, which apply in order.
 ///
 /// # Errors
-/// Returns [`BuildFault::Table`] for a map that is too large for a trie, and if an allocation
-/// fails. Returns [`BuildFault::Width`] for a value of a code point, or the error value, that has
+/// Returns [`TableBuildError::Table`] for a map that is too large for a trie, and if an allocation
+/// fails. Returns [`TableBuildError::Width`] for a value of a code point, or the error value, that has
 /// more bits than the asked width: the first one in the trie's data.
-pub fn table_of_writes(writes: &[Write<u32>], options: TableOptions) -> Result<Table, BuildFault> {
+pub fn table_of_writes(
+    writes: &[Write<u32>],
+    options: TableOptions,
+) -> Result<Table, TableBuildError> {
     let trie = try_build_from_writes(options.default, options.error, options.trie_type, writes)?;
     match first_wider(&trie, options.width) {
-        Some(value) => Err(BuildFault::Width(value, options.width)),
+        Some(value) => Err(TableBuildError::Width(value, options.width)),
         None => Ok(Table {
             trie,
             width: options.width,
@@ -56,11 +59,11 @@ pub fn table_of_writes(writes: &[Write<u32>], options: TableOptions) -> Result<T
 /// Builds the table of the rows that the bytes have, in `ucptab`'s form.
 ///
 /// # Errors
-/// Returns [`BuildFault::Table`] for the first line that is not a row, for a map that is too large
-/// for a trie, and if an allocation fails. Returns [`BuildFault::Width`] for a value of a code
+/// Returns [`TableBuildError::Table`] for the first line that is not a row, for a map that is too large
+/// for a trie, and if an allocation fails. Returns [`TableBuildError::Width`] for a value of a code
 /// point, or the error value, that has more bits than the asked width: the first one in the trie's
 /// data.
-pub fn table_of_rows(rows: &[u8], options: TableOptions) -> Result<Table, BuildFault> {
+pub fn table_of_rows(rows: &[u8], options: TableOptions) -> Result<Table, TableBuildError> {
     let writes = read_rows(rows)?;
     table_of_writes(&writes, options)
 }

@@ -47,7 +47,7 @@ impl fmt::Display for NameArray {
 
 /// Why the names of a property's values can't be read.
 #[derive(Clone, Copy, Debug, PartialEq, Eq)]
-pub enum NamesFault {
+pub enum NamesError {
     /// This item of the array, counted from 0, has no number of at most 32 bits, or a name that is
     /// no text.
     Item(NameArray, usize),
@@ -55,9 +55,9 @@ pub enum NamesFault {
     Memory,
 }
 
-impl From<AllocError> for NamesFault {
-    fn from(_error: AllocError) -> NamesFault {
-        NamesFault::Memory
+impl From<AllocError> for NamesError {
+    fn from(_error: AllocError) -> NamesError {
+        NamesError::Memory
     }
 }
 
@@ -193,13 +193,13 @@ fn push_item<'a>(
 }
 
 /// Returns the names in the items of an array.
-fn names_in<'a>(array: NameArray, items: &'a [Value]) -> Result<ValueNames<'a>, NamesFault> {
+fn names_in<'a>(array: NameArray, items: &'a [Value]) -> Result<ValueNames<'a>, NamesError> {
     let mut names = ValueNames::new();
     let mut i = 0usize;
     let mut rest = items;
     while let [item, after @ ..] = rest {
         if !push_item(&mut names, array, item)? {
-            return Err(NamesFault::Item(array, i));
+            return Err(NamesError::Item(array, i));
         }
         i += 1;
         rest = after;
@@ -223,9 +223,9 @@ pub(crate) fn items_at<'a>(table: &'a Table, key: &str) -> Option<&'a [Value]> {
 /// once for its number.
 ///
 /// # Errors
-/// Returns [`NamesFault::Item`] for the first item that is no table, that has no number of at most
-/// 32 bits, or of which a name is no text. Returns [`NamesFault::Memory`] if an allocation fails.
-pub fn names_of<'a>(property: &'a Table) -> Result<ValueNames<'a>, NamesFault> {
+/// Returns [`NamesError::Item`] for the first item that is no table, that has no number of at most
+/// 32 bits, or of which a name is no text. Returns [`NamesError::Memory`] if an allocation fails.
+pub fn names_of<'a>(property: &'a Table) -> Result<ValueNames<'a>, NamesError> {
     if let Some(items) = items_at(property, NameArray::Values.key()) {
         return names_in(NameArray::Values, items);
     }
@@ -235,16 +235,16 @@ pub fn names_of<'a>(property: &'a Table) -> Result<ValueNames<'a>, NamesFault> {
     }
 }
 
-impl core::fmt::Display for NamesFault {
+impl core::fmt::Display for NamesError {
     fn fmt(&self, f: &mut core::fmt::Formatter<'_>) -> core::fmt::Result {
         match self {
-            NamesFault::Item(first, second) => write!(
+            NamesError::Item(first, second) => write!(
                 f,
                 "{first}[{second}] is no table with a number up to 4294967295 and texts as names"
             ),
-            NamesFault::Memory => f.write_str("no memory"),
+            NamesError::Memory => f.write_str("no memory"),
         }
     }
 }
 
-impl core::error::Error for NamesFault {}
+impl core::error::Error for NamesError {}

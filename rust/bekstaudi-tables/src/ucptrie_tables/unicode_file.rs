@@ -5,7 +5,7 @@ use crate::support::prelude::*;
 use crate::ucd_files::names::Numbering;
 use crate::ucd_files::read::read_writes;
 use crate::ucd_files::statement::Columns;
-use crate::ucptrie_tables::fault::UnicodeFileFault;
+use crate::ucptrie_tables::error::UnicodeFileError;
 use crate::ucptrie_tables::table::{Table, TableOptions, table_of_writes};
 
 /// Builds the table of a file of the Unicode Character Database. Each code point has the value of
@@ -13,8 +13,8 @@ use crate::ucptrie_tables::table::{Table, TableOptions, table_of_writes};
 /// covers it, or else the default.
 ///
 /// # Errors
-/// Returns [`UnicodeFileFault::File`] for the first line that has a fault, and if the file ends in
-/// the middle of a range. Returns [`UnicodeFileFault::Build`] for a map that is too large for a
+/// Returns [`UnicodeFileError::File`] for the first line that has a fault, and if the file ends in
+/// the middle of a range. Returns [`UnicodeFileError::Build`] for a map that is too large for a
 /// trie, for a value of a code point, or the error value, that has more bits than the asked width,
 /// and if an allocation fails.
 pub fn table_of_file(
@@ -22,7 +22,7 @@ pub fn table_of_file(
     columns: Columns<'_>,
     numbering: Numbering<'_>,
     options: TableOptions,
-) -> Result<Table, UnicodeFileFault> {
+) -> Result<Table, UnicodeFileError> {
     let writes = read_writes(file, columns, numbering)?;
     let table = table_of_writes(&writes, options)?;
     Ok(table)

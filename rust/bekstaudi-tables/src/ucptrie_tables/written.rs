@@ -2,9 +2,9 @@
 
 use crate::host::*;
 use crate::support::prelude::*;
-use crate::ucptab_table::fault::TableError;
+use crate::ucptab_table::error::TableError;
 use crate::ucptrie_tables::c_source::c_text;
-use crate::ucptrie_tables::fault::BuildFault;
+use crate::ucptrie_tables::error::TableBuildError;
 use crate::ucptrie_tables::rust_source::rust_text;
 use crate::ucptrie_tables::stated::rows_text;
 use crate::ucptrie_tables::table::Table;
@@ -37,17 +37,17 @@ pub enum Form<'a> {
 }
 
 /// Returns the table in ICU's binary form with values of another type.
-fn binary_over<P: TrieValue>(table: &Table) -> Result<Vec<u8>, BuildFault> {
+fn binary_over<P: TrieValue>(table: &Table) -> Result<Vec<u8>, TableBuildError> {
     let narrowed: CodePointTrie<'static, P> = match with_values_of(&table.trie) {
         Ok(narrowed) => narrowed,
-        Err(MapError::Closure(value)) => return Err(BuildFault::Width(value, table.width)),
-        Err(_) => return Err(BuildFault::Table(TableError::Memory)),
+        Err(MapError::Closure(value)) => return Err(TableBuildError::Width(value, table.width)),
+        Err(_) => return Err(TableBuildError::Table(TableError::Memory)),
     };
     Ok(to_binary(&narrowed)?)
 }
 
 /// Returns the table in ICU's binary form with values of its width.
-fn binary(table: &Table) -> Result<Vec<u8>, BuildFault> {
+fn binary(table: &Table) -> Result<Vec<u8>, TableBuildError> {
     match table.width {
         ValueWidth::Bits8 => binary_over::<u8>(table),
         ValueWidth::Bits16 => binary_over::<u16>(table),
@@ -65,11 +65,11 @@ fn json_text(table: &Table) -> Result<String, MemoryError> {
 /// Returns the table in a form, as the bytes of a file.
 ///
 /// # Errors
-/// Returns [`BuildFault::Width`] in ICU's binary form for the first value that has more bits than
+/// Returns [`TableBuildError::Width`] in ICU's binary form for the first value that has more bits than
 /// the table's width: the error value, the null value, or a cell of the data, in this order.
-/// Returns [`BuildFault::Binary`] if ICU's binary form has no room for the trie. Returns
-/// [`BuildFault::Table`] if an allocation fails.
-pub fn written(table: &Table, form: Form<'_>) -> Result<Vec<u8>, BuildFault> {
+/// Returns [`TableBuildError::Binary`] if ICU's binary form has no room for the trie. Returns
+/// [`TableBuildError::Table`] if an allocation fails.
+pub fn written(table: &Table, form: Form<'_>) -> Result<Vec<u8>, TableBuildError> {
     let text = match form {
         Form::Icu => return binary(table),
         Form::Toml => toml_text(table)?,

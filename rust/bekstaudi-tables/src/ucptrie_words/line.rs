@@ -4,7 +4,7 @@ use crate::host::*;
 use crate::support::prelude::*;
 use crate::ucptab_table::digits::decimal_number;
 use crate::ucptab_table::rows::trimmed;
-use crate::ucptrie_words::fault::LineFault;
+use crate::ucptrie_words::error::LineError;
 
 /// A word of a list.
 #[derive(Clone, Copy, Debug)]
@@ -70,19 +70,19 @@ pub(crate) fn is_silent(content: &[u8]) -> bool {
 }
 
 /// Returns the word of this key and this value.
-fn word_in<'a>(key: &'a [u8], value: &[u8]) -> Result<Word<'a>, LineFault> {
+fn word_in<'a>(key: &'a [u8], value: &[u8]) -> Result<Word<'a>, LineError> {
     if key.is_empty() {
-        return Err(LineFault::NoKey);
+        return Err(LineError::NoKey);
     }
     let Some(key) = text_of(key) else {
-        return Err(LineFault::NotUtf8);
+        return Err(LineError::NotUtf8);
     };
     if value.is_empty() {
-        return Err(LineFault::NoValue);
+        return Err(LineError::NoValue);
     }
     match signed_number(value) {
         Some(value) => Ok(Word { key, value }),
-        None => Err(LineFault::NotNumber),
+        None => Err(LineError::NotNumber),
     }
 }
 
@@ -92,15 +92,15 @@ fn word_in<'a>(key: &'a [u8], value: &[u8]) -> Result<Word<'a>, LineFault> {
 /// around them. A comment starts with `#`, after blanks or none.
 ///
 /// # Errors
-/// Returns what is wrong with the line, by the first of the tests in [`LineFault`]. Never returns
-/// [`LineFault::LongKey`] or [`LineFault::Repeated`].
-pub fn word_of(line: &[u8]) -> Result<Option<Word<'_>>, LineFault> {
+/// Returns what is wrong with the line, by the first of the tests in [`LineError`]. Never returns
+/// [`LineError::LongKey`] or [`LineError::Repeated`].
+pub fn word_of(line: &[u8]) -> Result<Option<Word<'_>>, LineError> {
     let content = trimmed(line);
     if is_silent(content) {
         return Ok(None);
     }
     let Some((key, value)) = cut_at_last(b';', content) else {
-        return Err(LineFault::NoSeparator);
+        return Err(LineError::NoSeparator);
     };
     let word = word_in(trimmed(key), trimmed(value))?;
     Ok(Some(word))

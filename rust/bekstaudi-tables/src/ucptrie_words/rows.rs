@@ -4,7 +4,7 @@ use crate::host::*;
 use crate::support::AllocError;
 use crate::support::prelude::*;
 use crate::ucptab_table::rows::trimmed;
-use crate::ucptrie_words::fault::RowsFault;
+use crate::ucptrie_words::error::RowsError;
 use crate::ucptrie_words::line::is_silent;
 use bekstaudi::char16trie::Char16Trie;
 
@@ -33,15 +33,15 @@ fn push_line(text: &mut String, key: &str, value: i32) -> Result<(), AllocError>
 }
 
 /// Appends the line of a key and a value, if a line can have the key.
-fn push_row(text: &mut String, key: &str, value: i32) -> Result<(), RowsFault> {
+fn push_row(text: &mut String, key: &str, value: i32) -> Result<(), RowsError> {
     if !can_be_key(key) {
-        return Err(RowsFault::Key(String::from_str(key)?));
+        return Err(RowsError::Key(String::from_str(key)?));
     }
     Ok(push_line(text, key, value)?)
 }
 
 /// Returns the lines of the entries of a trie, in its order.
-pub(crate) fn rows_text(trie: &Char16Trie<'_>) -> Result<String, RowsFault> {
+pub(crate) fn rows_text(trie: &Char16Trie<'_>) -> Result<String, RowsError> {
     let mut text = String::new();
     let mut entries = trie.entries();
     while entries.try_advance()? {

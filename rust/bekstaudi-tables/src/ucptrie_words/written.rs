@@ -3,7 +3,7 @@
 use crate::host::*;
 use crate::support::AllocError;
 use crate::support::prelude::*;
-use crate::ucptrie_words::fault::RowsFault;
+use crate::ucptrie_words::error::RowsError;
 use crate::ucptrie_words::rows::rows_text;
 use crate::ucptrie_words::source::{c_text, rust_text};
 use bekstaudi::char16trie::Char16Trie;
@@ -29,9 +29,9 @@ fn units_bytes(trie: &Char16Trie<'_>) -> Result<Vec<u8>, AllocError> {
 /// Returns a trie in a form, as the bytes of a file.
 ///
 /// # Errors
-/// Returns [`RowsFault::Key`] in the form [`Form::Rows`] for the first key that no line can have.
-/// Returns [`RowsFault::Memory`] if an allocation fails.
-pub fn written(trie: &Char16Trie<'_>, form: Form<'_>) -> Result<Vec<u8>, RowsFault> {
+/// Returns [`RowsError::Key`] in the form [`Form::Rows`] for the first key that no line can have.
+/// Returns [`RowsError::Memory`] if an allocation fails.
+pub fn written(trie: &Char16Trie<'_>, form: Form<'_>) -> Result<Vec<u8>, RowsError> {
     let text = match form {
         Form::Icu => return Ok(units_bytes(trie)?),
         Form::C(name) => c_text(trie.data.as_slice(), name)?,

@@ -8,7 +8,7 @@ use crate::ledger::Brand;
 use crate::ledger::Steps;
 use crate::ledger::{Blank, Ledger};
 use crate::support::prelude::*;
-use crate::ucptab_table::fault::{RowFault, TableError};
+use crate::ucptab_table::error::{RowError, TableError};
 use crate::ucptab_table::message::row_line_message;
 use crate::ucptab_table::streams::{Failed, Sink, Source};
 use crate::ucptab_table::text::write_fault;
@@ -23,7 +23,7 @@ struct Input<R: Read, L: Ledger> {
     failures: Steps<L>,
     error: Option<io::Error>,
     /// The line's number, counted from 1, and its fault.
-    fault: Option<(u64, RowFault)>,
+    fault: Option<(u64, RowError)>,
     line: Vec<u8>,
 }
 
@@ -39,7 +39,7 @@ impl<R: Read, L: Ledger> Source for Input<R, L> {
         }
     }
 
-    fn note_fault(&mut self, number: u64, line: &[u8], fault: RowFault) {
+    fn note_fault(&mut self, number: u64, line: &[u8], fault: RowError) {
         if self.line.try_extend_from_slice(line).is_ok() {
             self.fault = Some((number, fault));
         }
@@ -88,7 +88,7 @@ fn say(rt: &HostRuntime, stream: &str, failure: &Option<io::Error>) {
 }
 
 /// Says on standard error which line is not a row, what was expected of it, and a hint.
-fn say_fault(rt: &HostRuntime, number: u64, fault: RowFault, line: &[u8]) {
+fn say_fault(rt: &HostRuntime, number: u64, fault: RowError, line: &[u8]) {
     if let Ok(message) = row_line_message(INPUT, number, fault, line) {
         let _ = writeln!(io::stderr(), "ucptab: {message}");
     }

@@ -9,7 +9,7 @@ use crate::ucd_files::title::title_of;
 use crate::ucd_files::value_names::ValueNames;
 use crate::ucptab_table::input::first_line;
 use crate::ucptab_table::rows::content_of;
-use crate::ucptrie::fault::{Fault, said};
+use crate::ucptrie::error::{Error, said};
 use crate::ucptrie::properties::{push_listed, push_new};
 use crate::ucptrie::streams::{text_at, without_mark};
 use crate::ucptrie::unicode_files::are_names_of_one;
@@ -47,7 +47,7 @@ fn push_file(aliases: &mut Aliases, text: &[u8]) -> Result<(), AllocError> {
 }
 
 /// Reads the files of aliases that the arguments name.
-pub fn named_aliases(rt: &HostRuntime, matches: &ArgMatches<'_>) -> Result<Aliases, Fault> {
+pub fn named_aliases(rt: &HostRuntime, matches: &ArgMatches<'_>) -> Result<Aliases, Error> {
     let mut aliases = Aliases {
         values: Vec::new(),
         properties: Vec::new(),
@@ -136,6 +136,6 @@ fn unknown_line(aliases: &Aliases, property: &str) -> Result<String, AllocError>
 }
 
 /// Returns the fault of a property of which no file of aliases has values.
-pub fn unknown_property(aliases: &Aliases, property: &str) -> Fault {
+pub fn unknown_property(aliases: &Aliases, property: &str) -> Error {
     said(unknown_line(aliases, property))
 }

@@ -4,32 +4,32 @@ use crate::host::*;
 use crate::support::prelude::*;
 use crate::ucptab_table::input::line_at;
 use crate::ucptab_table::message::line_message;
-use crate::ucptrie::fault::{Fault, about, about_arguments, said};
+use crate::ucptrie::error::{Error, about, about_arguments, said};
 use crate::ucptrie::streams::{input_name, text_at, without_mark};
-use crate::ucptrie_tables::asked::{AskedFault, push_asked, push_asked_lines};
+use crate::ucptrie_tables::asked::{AskedError, push_asked, push_asked_lines};
 
 /// What a word or a line has to be.
 const FORM: &str = "HEX, or HEX..HEX up to 10FFFF";
 
 /// Returns the fault of a line that asks for no number.
-fn unasked(name: &str, text: &[u8], number: u64) -> Fault {
+fn unasked(name: &str, text: &[u8], number: u64) -> Error {
     let line = line_at(text, number).unwrap_or(&[]);
     said(line_message(name, number, FORM, line))
 }
 
 /// Appends the numbers that the lines of a file ask for.
-fn push_file(rt: &HostRuntime, asked: &mut Vec<u32>, path: &str) -> Result<(), Fault> {
+fn push_file(rt: &HostRuntime, asked: &mut Vec<u32>, path: &str) -> Result<(), Error> {
     let bytes = text_at(rt, path, "--from ")?;
     let text = without_mark(&bytes);
     match push_asked_lines(asked, text) {
         Ok(()) => Ok(()),
-        Err(AskedFault::Memory) => Err(Fault::Memory),
-        Err(AskedFault::Line(number)) => Err(unasked(input_name(path), text, number)),
+        Err(AskedError::Memory) => Err(Error::Memory),
+        Err(AskedError::Line(number)) => Err(unasked(input_name(path), text, number)),
     }
 }
 
 /// Appends the numbers that a word asks for.
-fn push_word(rt: &HostRuntime, asked: &mut Vec<u32>, word: &str) -> Result<(), Fault> {
+fn push_word(rt: &HostRuntime, asked: &mut Vec<u32>, word: &str) -> Result<(), Error> {
     if push_asked(asked, word.as_bytes())? {
         return Ok(());
     }
@@ -38,7 +38,7 @@ fn push_word(rt: &HostRuntime, asked: &mut Vec<u32>, word: &str) -> Result<(), F
 }
 
 /// Appends the numbers that words ask for.
-fn push_words(rt: &HostRuntime, asked: &mut Vec<u32>, words: &[&str]) -> Result<(), Fault> {
+fn push_words(rt: &HostRuntime, asked: &mut Vec<u32>, words: &[&str]) -> Result<(), Error> {
     for word in words {
         push_word(rt, asked, word)?;
     }
@@ -46,7 +46,7 @@ fn push_words(rt: &HostRuntime, asked: &mut Vec<u32>, words: &[&str]) -> Result<
 }
 
 /// Appends the numbers that the arguments ask for: those of the words, then those of the file.
-fn push_all(rt: &HostRuntime, asked: &mut Vec<u32>, matches: &ArgMatches<'_>) -> Result<(), Fault> {
+fn push_all(rt: &HostRuntime, asked: &mut Vec<u32>, matches: &ArgMatches<'_>) -> Result<(), Error> {
     push_words(rt, asked, matches.get_strs("asked").unwrap_or(&[]))?;
     match matches.get_str("from") {
         Some(path) => push_file(rt, asked, path),
@@ -59,7 +59,7 @@ fn push_all(rt: &HostRuntime, asked: &mut Vec<u32>, matches: &ArgMatches<'_>) ->
 }
 
 /// Returns the numbers that the arguments ask for.
-pub fn asked(rt: &HostRuntime, matches: &ArgMatches<'_>) -> Result<Vec<u32>, Fault> {
+pub fn asked(rt: &HostRuntime, matches: &ArgMatches<'_>) -> Result<Vec<u32>, Error> {
     let mut asked = Vec::new();
     push_all(rt, &mut asked, matches)?;
     Ok(asked)

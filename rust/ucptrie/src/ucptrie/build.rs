@@ -4,12 +4,12 @@ use crate::host::*;
 use crate::support::AllocError;
 use crate::support::prelude::*;
 use crate::ucd_files::kind::{FileKind, kind_of};
-use crate::ucptab_table::fault::{RowFault, TableError};
+use crate::ucptab_table::error::{RowError, TableError};
 use crate::ucptab_table::input::line_at;
 use crate::ucptab_table::message::row_message;
 use crate::ucptab_table::rows::{after, before, code_points_of, content_of, trimmed};
 use crate::ucptrie::compressed::expect_lines;
-use crate::ucptrie::fault::{Fault, about, said};
+use crate::ucptrie::error::{Error, about, said};
 use crate::ucptrie::forms::is_made;
 use crate::ucptrie::names::expect_names;
 use crate::ucptrie::tables::{form, number, trie_type, width};
@@ -18,7 +18,7 @@ use crate::ucptrie::unicode_files::{
 };
 use crate::ucptrie::wide::{row_with, too_wide};
 use crate::ucptrie_tables::built;
-use crate::ucptrie_tables::fault::BuildFault;
+use crate::ucptrie_tables::error::TableBuildError;
 use crate::ucptrie_tables::stated::stated_values;
 use crate::ucptrie_tables::table::TableOptions;
 use crate::ucptrie_tables::width::ValueWidth;
@@ -57,9 +57,9 @@ fn has_name(line: &[u8]) -> bool {
 }
 
 /// Returns the line about the fault of a row.
-fn row_line(name: &str, rows: &[u8], number: u64, fault: RowFault) -> Result<String, AllocError> {
+fn row_line(name: &str, rows: &[u8], number: u64, fault: RowError) -> Result<String, AllocError> {
     let mut line = row_message(name, rows, number, fault)?;
-    if matches!(fault, RowFault::NotARow) && has_name(line_at(rows, number).unwrap_or(&[])) {
+    if matches!(fault, RowError::NotARow) && has_name(line_at(rows, number).unwrap_or(&[])) {
         line.try_push_str("; for names give --format properties")?;
     }
     Ok(line)
@@ -67,14 +67,14 @@ fn row_line(name: &str, rows: &[u8], number: u64, fault: RowFault) -> Result<Str
 
 /// Returns the fault of rows that make no table, or of a table that is not written. `name` is what
 /// they were read from.
-pub fn unbuilt(name: &str, rows: &[u8], fault: BuildFault) -> Fault {
+pub fn unbuilt(name: &str, rows: &[u8], fault: TableBuildError) -> Error {
     match fault {
-        BuildFault::Table(TableError::Memory) => Fault::Memory,
-        BuildFault::Table(TableError::TooLarge) => {
+        TableBuildError::Table(TableError::Memory) => Error::Memory,
+        TableBuildError::Table(TableError::TooLarge) => {
             let why = "too large: more different blocks of values than fit into a trie";
             about(name, why)
         }
-        BuildFault::Table(TableError::Row(number, fault)) => {
+        TableBuildError::Table(TableError::Row(number, fault)) => {
             said(row_line(name, rows, number, fault))
         }
         _ => about(name, fault),
@@ -82,12 +82,12 @@ pub fn unbuilt(name: &str, rows: &[u8], fault: BuildFault) -> Fault {
 }
 
 /// Builds a table of rows, in the form that the arguments name. `name` is what they were read from.
-fn build_rows(matches: &ArgMatches<'_>, name: &str, rows: &[u8]) -> Result<Vec<u8>, Fault> {
+fn build_rows(matches: &ArgMatches<'_>, name: &str, rows: &[u8]) -> Result<Vec<u8>, Error> {
     let options = options_of_rows(matches, rows);
     let form = form(matches);
     match built(rows, options, form) {
         Ok(bytes) => Ok(with_names(matches, bytes, form, options.width, &[])?),
-        Err(BuildFault::Width(value, width)) => {
+        Err(TableBuildError::Width(value, width)) => {
             let place = row_with(rows, value);
             Err(too_wide(matches, name, place, value, width))
         }
@@ -109,7 +109,7 @@ fn build_lines(
     matches: &ArgMatches<'_>,
     name: &str,
     file: &[u8],
-) -> Result<Vec<u8>, Fault> {
+) -> Result<Vec<u8>, Error> {
     let option = option_of_files(matches);
     let kind = match named_kind(matches) {
         Some(kind) => kind,
@@ -129,10 +129,10 @@ pub fn build(
     matches: &ArgMatches<'_>,
     name: &str,
     file: &[u8],
-) -> Result<Vec<u8>, Fault> {
+) -> Result<Vec<u8>, Error> {
     expect_lines(name, file)?;
     match build_lines(rt, matches, name, file) {
-        Err(Fault::Said(_)) if named_kind(matches).is_none() && is_made(file) => {
+        Err(Error::Said(_)) if named_kind(matches).is_none() && is_made(file) => {
             let why = "expected lines: ucptrie convert reads tables, and ucptrie set reads sets";
             Err(about(name, why))
         }

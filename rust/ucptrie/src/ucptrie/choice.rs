@@ -6,7 +6,7 @@ use crate::ucd_files::choice::{Choice, NumberingKind, alias_choice, numbering_of
 use crate::ucd_files::names::Numbering;
 use crate::ucd_files::statement::Columns;
 use crate::ucptrie::aliases::{Aliases, name_in_values, unknown_property};
-use crate::ucptrie::fault::{Fault, about};
+use crate::ucptrie::error::{Error, about};
 
 /// A file of the Unicode Character Database.
 pub struct UnicodeFile<'f> {
@@ -24,7 +24,7 @@ pub struct UnicodeFile<'f> {
 fn choice_of_aliases<'f>(
     matches: &ArgMatches<'_>,
     file: &'f UnicodeFile<'f>,
-) -> Result<Choice<'f>, Fault> {
+) -> Result<Choice<'f>, Error> {
     let Some(property) = matches.get_str("property") else {
         let why = "--aliases needs --property, the property whose values are named";
         return Err(about("arguments", why));
@@ -43,7 +43,7 @@ fn choice_of_aliases<'f>(
 pub fn choice_of<'f>(
     matches: &ArgMatches<'_>,
     file: &'f UnicodeFile<'f>,
-) -> Result<Choice<'f>, Fault> {
+) -> Result<Choice<'f>, Error> {
     if file.aliases.values.is_empty() {
         return Ok(own_choice(file.bytes, file.columns)?);
     }

@@ -3,7 +3,7 @@ use crate::host::*;
 use crate::support::AllocError;
 use crate::support::prelude::*;
 use crate::ucd_files::compression::{Compression, compression_of};
-use crate::ucptrie::fault::{CompressedInput, Fault, about, said};
+use crate::ucptrie::error::{CompressedInput, Error, about, said};
 use crate::ucptrie::heading::push_word;
 use crate::ucptrie::streams::INPUT;
 
@@ -42,16 +42,16 @@ fn compressed_input(
 
 /// Returns a fault if bytes are compressed. `name` is what they were read from, and `option` is the
 /// option before that name and a space, or nothing.
-pub fn expect_decompressed(name: &str, option: &'static str, bytes: &[u8]) -> Result<(), Fault> {
+pub fn expect_decompressed(name: &str, option: &'static str, bytes: &[u8]) -> Result<(), Error> {
     match compression_of(bytes) {
-        Some(how) => Err(Fault::Compressed(compressed_input(name, option, how)?)),
+        Some(how) => Err(Error::Compressed(compressed_input(name, option, how)?)),
         None => Ok(()),
     }
 }
 
 /// Returns a fault if bytes that are to be text are compressed or start as UTF-16. `name` is what
 /// they were read from.
-pub fn expect_text(name: &str, bytes: &[u8]) -> Result<(), Fault> {
+pub fn expect_text(name: &str, bytes: &[u8]) -> Result<(), Error> {
     expect_decompressed(name, "", bytes)?;
     if bytes.starts_with(b"\xfe\xff".as_slice()) || bytes.starts_with(b"\xff\xfe".as_slice()) {
         return Err(about(name, "found UTF-16: convert it to UTF-8"));
@@ -61,7 +61,7 @@ pub fn expect_text(name: &str, bytes: &[u8]) -> Result<(), Fault> {
 
 /// Returns a fault if the lines of a text end in CR alone: it has no LF, but CR before its end.
 /// `name` is what it was read from.
-pub fn expect_line_feeds(name: &str, text: &[u8]) -> Result<(), Fault> {
+pub fn expect_line_feeds(name: &str, text: &[u8]) -> Result<(), Error> {
     let body = text.strip_suffix(b"\r".as_slice()).unwrap_or(text);
     if body.contains(&b'\r') && !text.contains(&b'\n') {
         let why = "a CR has no LF after it: lines end with LF or CR LF";
@@ -99,7 +99,7 @@ fn cr_line(name: &str, number: u64) -> Result<String, AllocError> {
 
 /// Returns a fault if bytes that are to be lines start as in another format, or if a CR has no LF
 /// after it. `name` is what they were read from.
-pub fn expect_lines(name: &str, bytes: &[u8]) -> Result<(), Fault> {
+pub fn expect_lines(name: &str, bytes: &[u8]) -> Result<(), Error> {
     expect_text(name, bytes)?;
     match line_with_cr(bytes) {
         Some(number) => Err(said(cr_line(name, number))),

@@ -3,24 +3,24 @@ use crate::clap::ArgMatches;
 use crate::host::*;
 use crate::support::prelude::*;
 use crate::ucptrie::build::unbuilt;
-use crate::ucptrie::fault::{Fault, about};
+use crate::ucptrie::error::{Error, about};
 use crate::ucptrie::names::{expect_names, is_list, say_many};
 use crate::ucptrie::offsets::start_of;
 use crate::ucptrie::tables::{file_in, form, number, table_of_property, trie_type, width};
 use crate::ucptrie::unicode_files::with_names;
 use crate::ucptrie::wide::too_wide_in;
-use crate::ucptrie_tables::fault::BuildFault;
+use crate::ucptrie_tables::error::TableBuildError;
 use crate::ucptrie_tables::parsed::ParsedFile;
 use crate::ucptrie_tables::properties::property_names;
 use crate::ucptrie_tables::rebuild::rebuilt;
 use crate::ucptrie_tables::table::Table;
-use crate::ucptrie_tables::toml_names::NamesFault;
+use crate::ucptrie_tables::toml_names::NamesError;
 use crate::ucptrie_tables::width::ValueWidth;
 use crate::ucptrie_tables::written::{Form, written};
 
 /// Returns the table as the arguments want it: as it is, or built again of its values. `name` is
 /// what it was read from.
-fn changed(matches: &ArgMatches<'_>, name: &str, table: Table) -> Result<Table, Fault> {
+fn changed(matches: &ArgMatches<'_>, name: &str, table: Table) -> Result<Table, Error> {
     let (kind, bits) = (trie_type(matches), width(matches));
     let error = number(matches, "error");
     if kind.is_none() && bits.is_none() && error.is_none() {
@@ -32,7 +32,7 @@ fn changed(matches: &ArgMatches<'_>, name: &str, table: Table) -> Result<Table, 
     let error = error.unwrap_or(table.trie.error_value());
     match rebuilt(&table, kind, bits, error) {
         Ok(table) => Ok(table),
-        Err(BuildFault::Width(value, width)) => {
+        Err(TableBuildError::Width(value, width)) => {
             Err(too_wide_in(matches, name, &table, value, width))
         }
         Err(fault) => Err(unbuilt(name, &[], fault)),
@@ -43,7 +43,7 @@ fn changed(matches: &ArgMatches<'_>, name: &str, table: Table) -> Result<Table, 
 ///
 /// Rows are ranges. The ranges of a table that is not coherent may differ from its values, so its
 /// rows would make another table and are not written.
-fn converted(name: &str, table: &Table, form: Form<'_>) -> Result<Vec<u8>, Fault> {
+fn converted(name: &str, table: &Table, form: Form<'_>) -> Result<Vec<u8>, Error> {
     if matches!(form, Form::Rows) && !table.trie.is_coherent() {
         let why = "not coherent, so its ranges may differ from its look-ups: no rows are written";
         return Err(about(name, why));
@@ -63,14 +63,14 @@ fn with_names_of_file(
     file: &ParsedFile<'_>,
     bytes: Vec<u8>,
     width: ValueWidth,
-) -> Result<Vec<u8>, Fault> {
+) -> Result<Vec<u8>, Error> {
     let form = form(matches);
     if !matches!(form, Form::C(_) | Form::Rust(_)) && !is_list(matches) {
         return Ok(with_names(matches, bytes, form, width, &[])?);
     }
     let names = match property_names(file, matches.get_str("property")) {
         Ok(names) => names,
-        Err(NamesFault::Memory) => return Err(Fault::Memory),
+        Err(NamesError::Memory) => return Err(Error::Memory),
         Err(fault) => return Err(about(name, fault)),
     };
     say_many(rt, matches, name, names.as_slice())?;
@@ -84,7 +84,7 @@ pub fn convert(
     matches: &ArgMatches<'_>,
     name: &str,
     bytes: &[u8],
-) -> Result<Vec<u8>, Fault> {
+) -> Result<Vec<u8>, Error> {
     let file = file_in(name, bytes, start_of(matches))?;
     let table = table_of_property(matches, name, &file)?;
     let table = changed(matches, name, table)?;

@@ -15,11 +15,11 @@ use crate::ucptab_table::input::first_line;
 use crate::ucptab_table::rows::{after, code_points_of, content_of, trimmed};
 use crate::ucptrie::aliases::name_in_values;
 use crate::ucptrie::choice::UnicodeFile;
-use crate::ucptrie::fault::{Fault, about, said};
+use crate::ucptrie::error::{Error, about, said};
 use crate::ucptrie::properties::push_text;
 use crate::ucptrie::streams::say;
 use crate::ucptrie::unicode_files::unread;
-use crate::ucptrie_tables::fault::UnicodeFileFault;
+use crate::ucptrie_tables::error::UnicodeFileError;
 
 /// Returns the line about a value that only an `@missing` line has.
 fn only_missing_line(name: &str, value: &[u8]) -> Result<String, AllocError> {
@@ -34,7 +34,7 @@ fn only_missing_line(name: &str, value: &[u8]) -> Result<String, AllocError> {
 /// Tests whether `@missing` lines and other lines use the same names of values, as far as can be
 /// seen: with two names in `@missing` lines, each is the value of another line too. Files in which
 /// it is not, as DerivedBidiClass.txt, have long names there and short ones elsewhere.
-pub fn test_own_names(file: &UnicodeFile<'_>, choice: &Choice<'_>) -> Result<(), Fault> {
+pub fn test_own_names(file: &UnicodeFile<'_>, choice: &Choice<'_>) -> Result<(), Error> {
     if !matches!(choice.kind, ValueKind::Own) {
         return Ok(());
     }
@@ -46,7 +46,7 @@ pub fn test_own_names(file: &UnicodeFile<'_>, choice: &Choice<'_>) -> Result<(),
 
 /// Tests whether an `@missing` line has a number if all other values are numbers: a name has none
 /// without the file of aliases.
-pub fn test_numbers(file: &UnicodeFile<'_>, choice: &Choice<'_>) -> Result<(), Fault> {
+pub fn test_numbers(file: &UnicodeFile<'_>, choice: &Choice<'_>) -> Result<(), Error> {
     if !matches!(choice.kind, ValueKind::Own) {
         return Ok(());
     }
@@ -66,7 +66,7 @@ pub fn default_of(
     numbering: Numbering<'_>,
     other: u32,
     how: &str,
-) -> Result<u32, Fault> {
+) -> Result<u32, Error> {
     let aliases = &file.aliases;
     let property = matches.get_str("property").unwrap_or("").as_bytes();
     match missing_value(
@@ -83,7 +83,7 @@ pub fn default_of(
             file.name,
             file.bytes,
             numbering,
-            UnicodeFileFault::File(fault),
+            UnicodeFileError::File(fault),
         )),
     }
 }

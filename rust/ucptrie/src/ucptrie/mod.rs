@@ -9,12 +9,12 @@ mod build;
 mod choice;
 mod compressed;
 mod convert;
-mod fault;
+mod error;
 mod forms;
 mod fractions;
 mod groups;
 mod heading;
-mod line_faults;
+mod line_errors;
 mod missing;
 mod names;
 mod offsets;
@@ -40,7 +40,7 @@ use crate::ucptrie::asked::asked;
 use crate::ucptrie::build::build;
 use crate::ucptrie::compressed::compressed_line;
 use crate::ucptrie::convert::convert;
-use crate::ucptrie::fault::{Fault, about, about_arguments, said};
+use crate::ucptrie::error::{Error, about, about_arguments, said};
 use crate::ucptrie::heading::with_heading;
 use crate::ucptrie::names::test_name;
 use crate::ucptrie::offsets::{Start, start_of};
@@ -62,12 +62,12 @@ fn is_input(path: &str) -> bool {
 }
 
 /// Returns the fault of two inputs that are standard input.
-fn read_twice() -> Fault {
+fn read_twice() -> Error {
     about_arguments(INPUT, "can be read once, and two inputs are -")
 }
 
 /// Tests that not both of two inputs are standard input, all of which the first one reads.
-fn test_once(first: &str, second: Option<&str>) -> Result<(), Fault> {
+fn test_once(first: &str, second: Option<&str>) -> Result<(), Error> {
     match second {
         Some(second) if is_input(first) && is_input(second) => Err(read_twice()),
         _ => Ok(()),
@@ -75,7 +75,7 @@ fn test_once(first: &str, second: Option<&str>) -> Result<(), Fault> {
 }
 
 /// Tests that not two of an input and the files of aliases are standard input.
-fn test_inputs(matches: &ArgMatches<'_>, path: &str) -> Result<(), Fault> {
+fn test_inputs(matches: &ArgMatches<'_>, path: &str) -> Result<(), Error> {
     let mut is_read = is_input(path);
     for name in matches.get_strs("aliases").unwrap_or(&[]) {
         if is_read && is_input(name) {
@@ -94,7 +94,7 @@ fn made(
     matches: &ArgMatches<'_>,
     name: &str,
     file: &[u8],
-) -> Result<Vec<u8>, Fault> {
+) -> Result<Vec<u8>, Error> {
     match command {
         "build" | "set" | "words" if file.is_empty() => Err(about(name, "the input is empty")),
         "build" => build(rt, matches, name, file),
@@ -124,7 +124,7 @@ fn input_of<'f>(command: &str, matches: &ArgMatches<'_>, file: &'f [u8]) -> &'f 
 }
 
 /// Sends what a command makes of a file, or of standard input, to its target.
-fn make(rt: &HostRuntime, command: &str, matches: &ArgMatches<'_>) -> Result<(), Fault> {
+fn make(rt: &HostRuntime, command: &str, matches: &ArgMatches<'_>) -> Result<(), Error> {
     let start = started(rt);
     let target = target_of(matches)?;
     test_name(matches)?;
@@ -141,13 +141,13 @@ fn make(rt: &HostRuntime, command: &str, matches: &ArgMatches<'_>) -> Result<(),
 }
 
 /// Prints a text.
-fn put_text(rt: &HostRuntime, text: Result<String, AllocError>) -> Result<(), Fault> {
+fn put_text(rt: &HostRuntime, text: Result<String, AllocError>) -> Result<(), Error> {
     let text = text?;
     put(rt, text.as_bytes())
 }
 
 /// Prints what a table is, in lines.
-fn show(rt: &HostRuntime, matches: &ArgMatches<'_>) -> Result<(), Fault> {
+fn show(rt: &HostRuntime, matches: &ArgMatches<'_>) -> Result<(), Error> {
     let table = table_at(rt, matches, "file", start_of(matches))?;
     put_text(rt, shown(&table))
 }
@@ -159,7 +159,7 @@ fn print_values(
     command: &str,
     table: &Table,
     asked: &[u32],
-) -> Result<(), Fault> {
+) -> Result<(), Error> {
     match command {
         "get" => put_text(rt, answered(table, asked)),
         _ => put_text(rt, explained(table, asked)),
@@ -167,7 +167,7 @@ fn print_values(
 }
 
 /// Prints by `get` or `explain` what the arguments ask for.
-fn get(rt: &HostRuntime, command: &str, matches: &ArgMatches<'_>) -> Result<(), Fault> {
+fn get(rt: &HostRuntime, command: &str, matches: &ArgMatches<'_>) -> Result<(), Error> {
     let path = matches.get_str("file").unwrap_or("-");
     test_once(path, matches.get_str("from"))?;
     let asked = asked(rt, matches)?;
@@ -177,20 +177,20 @@ fn get(rt: &HostRuntime, command: &str, matches: &ArgMatches<'_>) -> Result<(), 
 
 /// Prints the ranges in which two tables differ, in lines. Returns 1 if there is a line, and 0 if
 /// there is none.
-fn print_differences(rt: &HostRuntime, first: &Table, second: &Table) -> Result<u8, Fault> {
+fn print_differences(rt: &HostRuntime, first: &Table, second: &Table) -> Result<u8, Error> {
     let text = differences_text(&first.trie, &second.trie)?;
     put(rt, text.as_bytes())?;
     Ok(if text.is_empty() { 0 } else { 1 })
 }
 
 /// Prints the ranges in which a table and that of the second file differ, and returns the status.
-fn diff_from(rt: &HostRuntime, matches: &ArgMatches<'_>, first: &Table) -> Result<u8, Fault> {
+fn diff_from(rt: &HostRuntime, matches: &ArgMatches<'_>, first: &Table) -> Result<u8, Error> {
     let second = table_at(rt, matches, "second", Start::Only)?;
     print_differences(rt, first, &second)
 }
 
 /// Prints the ranges in which the tables of two files differ, and returns the status.
-fn diff(rt: &HostRuntime, matches: &ArgMatches<'_>) -> Result<u8, Fault> {
+fn diff(rt: &HostRuntime, matches: &ArgMatches<'_>) -> Result<u8, Error> {
     test_once(
         matches.get_str("first").unwrap_or("-"),
         matches.get_str("second"),
@@ -200,7 +200,7 @@ fn diff(rt: &HostRuntime, matches: &ArgMatches<'_>) -> Result<u8, Fault> {
 }
 
 /// Does what a command asks for, and returns the status.
-fn run(rt: &HostRuntime, name: &str, matches: &ArgMatches<'_>) -> Result<u8, Fault> {
+fn run(rt: &HostRuntime, name: &str, matches: &ArgMatches<'_>) -> Result<u8, Error> {
     match name {
         "build" | "convert" | "set" | "words" => make(rt, name, matches)?,
         "show" => show(rt, matches)?,
@@ -211,7 +211,7 @@ fn run(rt: &HostRuntime, name: &str, matches: &ArgMatches<'_>) -> Result<u8, Fau
 }
 
 /// Prints a fault, and returns its status.
-fn failed(rt: &HostRuntime, fault: &Fault, is_diff: bool) -> u8 {
+fn failed(rt: &HostRuntime, fault: &Error, is_diff: bool) -> u8 {
     if let Some(line) = fault.line() {
         say(rt, line);
     }
@@ -222,7 +222,7 @@ fn failed(rt: &HostRuntime, fault: &Fault, is_diff: bool) -> u8 {
 /// allocation is not a fault of the arguments.
 fn not_taken(rt: &HostRuntime, error: &crate::clap::Error) -> u8 {
     if matches!(error.kind(), ErrorKind::OutOfMemory) {
-        return failed(rt, &Fault::Memory, false);
+        return failed(rt, &Error::Memory, false);
     }
     match error.print(rt) {
         Ok(()) => error.exit_code() as u8,
@@ -231,10 +231,10 @@ fn not_taken(rt: &HostRuntime, error: &crate::clap::Error) -> u8 {
 }
 
 /// Returns the words of the command line.
-fn given_words(rt: &HostRuntime) -> Result<Vec<String>, Fault> {
+fn given_words(rt: &HostRuntime) -> Result<Vec<String>, Error> {
     match env::args(rt) {
         Ok(words) => Ok(words.collect()?),
-        Err(error) if matches!(error.kind(), io::ErrorKind::OutOfMemory) => Err(Fault::Memory),
+        Err(error) if matches!(error.kind(), io::ErrorKind::OutOfMemory) => Err(Error::Memory),
         Err(_) => Err(about_arguments("arguments", "expected UTF-8")),
     }
 }
@@ -246,7 +246,7 @@ fn status_of(rt: &HostRuntime, matches: &ArgMatches<'_>) -> u8 {
     };
     match run(rt, name, matches) {
         Ok(status) => status,
-        Err(Fault::Compressed(input)) => {
+        Err(Error::Compressed(input)) => {
             let fault = said(compressed_line(name, &input));
             failed(rt, &fault, name == "diff")
         }
@@ -257,7 +257,7 @@ fn status_of(rt: &HostRuntime, matches: &ArgMatches<'_>) -> u8 {
 /// Does what the words ask for, and returns the status.
 fn status(rt: &HostRuntime, words: &[String]) -> u8 {
     let Ok(command) = program_words() else {
-        return failed(rt, &Fault::Memory, false);
+        return failed(rt, &Error::Memory, false);
     };
     match command.try_get_matches_from(words) {
         Ok(matches) => status_of(rt, &matches),

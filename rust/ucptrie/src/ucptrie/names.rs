@@ -6,7 +6,7 @@ use crate::support::prelude::*;
 use crate::ucd_files::choice::{Choice, ValueKind};
 use crate::ucd_files::names::{Name, Numbering};
 use crate::ucptrie::choice::{UnicodeFile, numbering};
-use crate::ucptrie::fault::{Fault, about};
+use crate::ucptrie::error::{Error, about};
 use crate::ucptrie::streams::say;
 use crate::ucptrie_tables::source::is_name;
 use crate::ucptrie_tables::value_names::MOST;
@@ -42,7 +42,7 @@ pub fn name_in<'a>(matches: &ArgMatches<'a>) -> &'a str {
 
 /// Tests whether each name in source can start with that of the arguments, and whether in Rust it
 /// can be that of a module.
-pub fn test_name(matches: &ArgMatches<'_>) -> Result<(), Fault> {
+pub fn test_name(matches: &ArgMatches<'_>) -> Result<(), Error> {
     let name = name_in(matches);
     if !is_name(name) {
         let why = "expected letters, digits and _, not starting with a digit";
@@ -67,7 +67,7 @@ pub fn is_list(matches: &ArgMatches<'_>) -> bool {
 
 /// Tests whether a list of names has any, if the arguments ask for one. `name` is what the values
 /// were read from.
-pub fn expect_names(matches: &ArgMatches<'_>, name: &str, bytes: &[u8]) -> Result<(), Fault> {
+pub fn expect_names(matches: &ArgMatches<'_>, name: &str, bytes: &[u8]) -> Result<(), Error> {
     if is_list(matches) && bytes.is_empty() {
         let why = "expected values with names for --as names, found only numbers";
         return Err(about(name, why));

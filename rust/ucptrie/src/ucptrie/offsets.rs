@@ -3,7 +3,7 @@ use crate::clap::ArgMatches;
 use crate::host::*;
 use crate::support::AllocError;
 use crate::support::prelude::*;
-use crate::ucptrie::fault::{Fault, about, said};
+use crate::ucptrie::error::{Error, about, said};
 use crate::ucptrie::tables::number;
 
 /// How many offsets a message lists at most.
@@ -84,7 +84,7 @@ fn several_line(name: &str, offsets: &[usize], start: Start) -> Result<String, A
 /// Returns the part of a file that starts with a trie: from the given offset on, or else the file
 /// itself if it is text or starts with a trie, or else from its only trie on. `name` is what the
 /// file is called.
-pub fn from_trie<'b>(name: &str, bytes: &'b [u8], start: Start) -> Result<&'b [u8], Fault> {
+pub fn from_trie<'b>(name: &str, bytes: &'b [u8], start: Start) -> Result<&'b [u8], Error> {
     if let Start::At(offset) = start {
         return match bytes.get(offset as usize..) {
             Some(part) => Ok(part),

@@ -7,7 +7,7 @@ use crate::host::*;
 use crate::host::{fs, io};
 use crate::support::AllocError;
 use crate::support::prelude::*;
-use crate::ucptrie::fault::{Fault, about, about_arguments, said};
+use crate::ucptrie::error::{Error, about, about_arguments, said};
 use crate::ucptrie::streams::put;
 use crate::ucptrie_tables::compare::{Difference, first_difference};
 
@@ -23,7 +23,7 @@ pub enum Target<'a> {
 }
 
 /// Returns where the arguments send the bytes.
-pub fn target_of<'a>(matches: &ArgMatches<'a>) -> Result<Target<'a>, Fault> {
+pub fn target_of<'a>(matches: &ArgMatches<'a>) -> Result<Target<'a>, Error> {
     match (matches.get_str("output"), matches.get_str("check")) {
         (None | Some("-"), None) => Ok(Target::Output),
         (Some(path), None) => Ok(Target::File(path)),
@@ -110,7 +110,7 @@ fn other_line(path: &str, place: Difference, is_binary: bool) -> Result<String, 
 }
 
 /// Compares the file of this name with the bytes.
-fn check(rt: &HostRuntime, path: &str, bytes: &[u8], is_binary: bool) -> Result<(), Fault> {
+fn check(rt: &HostRuntime, path: &str, bytes: &[u8], is_binary: bool) -> Result<(), Error> {
     let found = match fs::read(rt, path) {
         Ok(found) => found,
         Err(error) => return Err(about(path, error)),
@@ -127,7 +127,7 @@ pub fn deliver(
     target: Target<'_>,
     bytes: &[u8],
     is_binary: bool,
-) -> Result<(), Fault> {
+) -> Result<(), Error> {
     match target {
         Target::Output => put(rt, bytes),
         Target::Check(path) => check(rt, path, bytes, is_binary),

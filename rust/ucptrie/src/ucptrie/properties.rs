@@ -9,7 +9,7 @@ use crate::ucd_files::statement::Columns;
 use crate::ucd_files::value_names::ValueNames;
 use crate::ucptab_table::input::first_line;
 use crate::ucptab_table::rows::content_of;
-use crate::ucptrie::fault::{Fault, said};
+use crate::ucptrie::error::{Error, said};
 use crate::ucptrie::tables::number;
 
 /// How many properties a message lists at most.
@@ -95,7 +95,7 @@ fn missing_line(
 
 /// Returns the fault of a file in which no line has a property. `name` is what it was read from,
 /// and `columns` are where its lines have their property.
-pub fn missing_property(columns: Columns<'_>, property: &str, name: &str, file: &[u8]) -> Fault {
+pub fn missing_property(columns: Columns<'_>, property: &str, name: &str, file: &[u8]) -> Error {
     said(missing_line(columns, property, name, file))
 }
 
@@ -142,7 +142,7 @@ pub fn expect_field(
     columns: Columns<'_>,
     name: &str,
     file: &[u8],
-) -> Result<(), Fault> {
+) -> Result<(), Error> {
     match asked_field(matches, columns) {
         Some(n) if !is_field_of(n, file) => Err(said(no_field_line(name, n))),
         _ => Ok(()),

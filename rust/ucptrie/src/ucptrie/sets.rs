@@ -12,7 +12,7 @@ use crate::ucd_files::value_names::ValueNames;
 use crate::ucptrie::build::unbuilt;
 use crate::ucptrie::choice::UnicodeFile;
 use crate::ucptrie::compressed::expect_lines;
-use crate::ucptrie::fault::{Fault, about, about_arguments};
+use crate::ucptrie::error::{Error, about, about_arguments};
 use crate::ucptrie::forms::{is_json, is_toml};
 use crate::ucptrie::groups::numbers_in_group;
 use crate::ucptrie::missing::{default_of, test_numbers, test_own_names};
@@ -24,7 +24,7 @@ use crate::ucptrie::unicode_files::{
     choice_of_file, column_option, is_named, named_kind, not_of_rows, test_conflicts, unicode_file,
     unread, why_no_default,
 };
-use crate::ucptrie_sets::fault::{SetFileFault, SetWriteFault, ValueSetFault};
+use crate::ucptrie_sets::error::{SetFileError, SetWriteError, ValueSetError};
 use crate::ucptrie_sets::of_value::set_of_value;
 use crate::ucptrie_sets::serialized::set_of_bytes;
 use crate::ucptrie_sets::toml_file::{count_strings, set_of_file};
@@ -87,10 +87,10 @@ fn set_in_table(
     name: &str,
     table: &Table,
     value: u32,
-) -> Result<CodePointInversionList<'static>, Fault> {
+) -> Result<CodePointInversionList<'static>, Error> {
     match set_of_value(&table.trie, value) {
         Ok(set) => Ok(set),
-        Err(ValueSetFault::Memory) => Err(Fault::Memory),
+        Err(ValueSetError::Memory) => Err(Error::Memory),
         Err(fault) => Err(about(name, fault)),
     }
 }
@@ -100,22 +100,22 @@ fn union_in_table(
     name: &str,
     table: &Table,
     values: &[u32],
-) -> Result<CodePointInversionList<'static>, Fault> {
+) -> Result<CodePointInversionList<'static>, Error> {
     let mut union = CodePointInversionListBuilder::new();
     for value in values {
         let set = set_in_table(name, table, *value)?;
         if union.try_add_set(&set).is_err() {
-            return Err(Fault::Memory);
+            return Err(Error::Memory);
         }
     }
     match union.try_build() {
         Ok(set) => Ok(set),
-        Err(_) => Err(Fault::Memory),
+        Err(_) => Err(Error::Memory),
     }
 }
 
 /// Returns the value that the arguments ask for as a number, which is 1 if they ask for none.
-fn asked_number(matches: &ArgMatches<'_>) -> Result<u32, Fault> {
+fn asked_number(matches: &ArgMatches<'_>) -> Result<u32, Error> {
     let Some(text) = matches.get_str("value") else {
         return Ok(1);
     };
@@ -157,7 +157,7 @@ fn numbers_named(
     file: &UnicodeFile<'_>,
     names: &ValueNames<'_>,
     text: &str,
-) -> Result<Vec<u32>, Fault> {
+) -> Result<Vec<u32>, Error> {
     let mut numbers = Vec::new();
     if let Some(number) = number_named(names, text) {
         numbers.try_push(number)?;
@@ -182,7 +182,7 @@ fn asked_values<'n>(
     matches: &ArgMatches<'_>,
     file: &UnicodeFile<'_>,
     choice: &'n Choice<'n>,
-) -> Result<(Numbering<'n>, Vec<u32>), Fault> {
+) -> Result<(Numbering<'n>, Vec<u32>), Error> {
     match (matches.get_str("value"), choice.kind) {
         (Some(text), _) => {
             let numbers = numbers_named(matches, file, &choice.names, text)?;
@@ -204,7 +204,7 @@ fn default_in_set(
     file: &UnicodeFile<'_>,
     choice: &Choice<'_>,
     numbering: Numbering<'_>,
-) -> Result<u32, Fault> {
+) -> Result<u32, Error> {
     match choice.kind {
         ValueKind::Binary => Ok(0),
         ValueKind::Aliases => {
@@ -220,7 +220,7 @@ fn set_of_lines(
     matches: &ArgMatches<'_>,
     file: &UnicodeFile<'_>,
     choice: &Choice<'_>,
-) -> Result<CodePointInversionList<'static>, Fault> {
+) -> Result<CodePointInversionList<'static>, Error> {
     let (numbering, values) = asked_values(matches, file, choice)?;
     test_conflicts(file, numbering)?;
     test_own_names(file, choice)?;
@@ -239,7 +239,7 @@ fn set_of_unicode_file(
     name: &str,
     bytes: &[u8],
     kind: FileKind,
-) -> Result<CodePointInversionList<'static>, Fault> {
+) -> Result<CodePointInversionList<'static>, Error> {
     let file = unicode_file(rt, matches, name, bytes, kind)?;
     let choice = choice_of_file(rt, matches, &file)?;
     set_of_lines(matches, &file, &choice)
@@ -250,7 +250,7 @@ fn set_of_rows(
     matches: &ArgMatches<'_>,
     name: &str,
     rows: &[u8],
-) -> Result<CodePointInversionList<'static>, Fault> {
+) -> Result<CodePointInversionList<'static>, Error> {
     if let Some(option) = column_option(matches) {
         return Err(not_of_rows(option));
     }
@@ -266,7 +266,7 @@ fn set_of_table(
     matches: &ArgMatches<'_>,
     name: &str,
     file: &[u8],
-) -> Result<CodePointInversionList<'static>, Fault> {
+) -> Result<CodePointInversionList<'static>, Error> {
     let value = asked_number(matches)?;
     let table = table_in(matches, name, file, start_of(matches))?;
     set_in_table(name, &table, value)
@@ -303,7 +303,7 @@ fn set_of_toml(
     matches: &ArgMatches<'_>,
     name: &str,
     file: &[u8],
-) -> Result<CodePointInversionList<'static>, Fault> {
+) -> Result<CodePointInversionList<'static>, Error> {
     let Ok(text) = str::from_utf8(file) else {
         return set_of_table(matches, name, file);
     };
@@ -317,8 +317,8 @@ fn set_of_toml(
             say_strings(rt, name, text, property)?;
             Ok(set)
         }
-        Err(SetFileFault::Memory) => Err(Fault::Memory),
-        Err(SetFileFault::NotToml | SetFileFault::NoSets) => set_of_table(matches, name, file),
+        Err(SetFileError::Memory) => Err(Error::Memory),
+        Err(SetFileError::NotToml | SetFileError::NoSets) => set_of_table(matches, name, file),
         Err(fault) => Err(about(name, fault)),
     }
 }
@@ -336,10 +336,10 @@ fn unused_option(matches: &ArgMatches<'_>, source: Source) -> Option<&'static st
 }
 
 /// Returns the set of a file in ICU's serialized form.
-fn set_of_serialized(name: &str, file: &[u8]) -> Result<CodePointInversionList<'static>, Fault> {
+fn set_of_serialized(name: &str, file: &[u8]) -> Result<CodePointInversionList<'static>, Error> {
     match set_of_bytes(file) {
         Ok(set) => Ok(set),
-        Err(SerializedSetError::Memory) => Err(Fault::Memory),
+        Err(SerializedSetError::Memory) => Err(Error::Memory),
         Err(fault) => Err(about(name, fault)),
     }
 }
@@ -350,7 +350,7 @@ fn asked_set(
     matches: &ArgMatches<'_>,
     name: &str,
     file: &[u8],
-) -> Result<CodePointInversionList<'static>, Fault> {
+) -> Result<CodePointInversionList<'static>, Error> {
     let source = source_of(matches, file);
     if let Some(option) = unused_option(matches, source) {
         return Err(about_arguments(option, "not for such a file: leave it out"));
@@ -400,14 +400,14 @@ pub fn set(
     matches: &ArgMatches<'_>,
     name: &str,
     file: &[u8],
-) -> Result<Vec<u8>, Fault> {
+) -> Result<Vec<u8>, Error> {
     let set = asked_set(rt, matches, name, file)?;
     if set.is_empty() {
         say_empty(rt, name)?;
     }
     match written(&set, set_form(matches)) {
         Ok(bytes) => Ok(bytes),
-        Err(SetWriteFault::Memory) => Err(Fault::Memory),
+        Err(SetWriteError::Memory) => Err(Error::Memory),
         Err(fault) => Err(about(name, fault)),
     }
 }

@@ -4,7 +4,7 @@ use crate::host::*;
 use crate::host::{fs, io};
 use crate::support::prelude::*;
 use crate::ucptrie::compressed::{expect_decompressed, expect_lines};
-use crate::ucptrie::fault::{Fault, about};
+use crate::ucptrie::error::{Error, about};
 
 /// The name of standard input in messages.
 pub const INPUT: &str = "standard input";
@@ -26,7 +26,7 @@ pub fn without_mark(text: &[u8]) -> &[u8] {
 }
 
 /// Reads all of standard input.
-fn input(rt: &HostRuntime) -> Result<Vec<u8>, Fault> {
+fn input(rt: &HostRuntime) -> Result<Vec<u8>, Error> {
     let mut bytes = Vec::new();
     match rt.stdin().read_to_end(&mut bytes) {
         Ok(_) => Ok(bytes),
@@ -35,7 +35,7 @@ fn input(rt: &HostRuntime) -> Result<Vec<u8>, Fault> {
 }
 
 /// Reads a file, or standard input if its name is `-`.
-pub fn bytes_at(rt: &HostRuntime, path: &str) -> Result<Vec<u8>, Fault> {
+pub fn bytes_at(rt: &HostRuntime, path: &str) -> Result<Vec<u8>, Error> {
     if path == "-" {
         return input(rt);
     }
@@ -47,7 +47,7 @@ pub fn bytes_at(rt: &HostRuntime, path: &str) -> Result<Vec<u8>, Fault> {
 
 /// Reads a text from a file, or from standard input if its name is `-`. `option` is the option that
 /// names it, with a space.
-pub fn text_at(rt: &HostRuntime, path: &str, option: &'static str) -> Result<Vec<u8>, Fault> {
+pub fn text_at(rt: &HostRuntime, path: &str, option: &'static str) -> Result<Vec<u8>, Error> {
     let bytes = bytes_at(rt, path)?;
     expect_decompressed(input_name(path), option, &bytes)?;
     expect_lines(input_name(path), &bytes)?;
@@ -56,15 +56,15 @@ pub fn text_at(rt: &HostRuntime, path: &str, option: &'static str) -> Result<Vec
 
 /// Returns the fault of a write to standard output. It says nothing if the reader has closed the
 /// pipe, as `head` does.
-fn unwritten(error: io::Error) -> Fault {
+fn unwritten(error: io::Error) -> Error {
     if matches!(error.kind(), io::ErrorKind::BrokenPipe) {
-        return Fault::ClosedPipe;
+        return Error::ClosedPipe;
     }
     about(OUTPUT, error)
 }
 
 /// Writes to standard output.
-pub fn put(rt: &HostRuntime, bytes: &[u8]) -> Result<(), Fault> {
+pub fn put(rt: &HostRuntime, bytes: &[u8]) -> Result<(), Error> {
     match rt.stdout().write_all(bytes) {
         Ok(()) => Ok(()),
         Err(error) => Err(unwritten(error)),

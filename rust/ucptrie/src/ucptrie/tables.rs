@@ -4,17 +4,17 @@ use crate::host::*;
 use crate::support::AllocError;
 use crate::support::prelude::*;
 use crate::ucptrie::compressed::expect_text;
-use crate::ucptrie::fault::{Fault, about, said};
+use crate::ucptrie::error::{Error, about, said};
 use crate::ucptrie::forms::is_toml;
 use crate::ucptrie::names::name_in;
 use crate::ucptrie::offsets::{Start, from_trie, starts_trie};
 use crate::ucptrie::streams::{bytes_at, input_name, without_mark};
-use crate::ucptrie_sets::fault::SetFileFault;
+use crate::ucptrie_sets::error::SetFileError;
 use crate::ucptrie_sets::toml_file::set_of_file;
-use crate::ucptrie_tables::fault::{ReadFault, TomlFault};
+use crate::ucptrie_tables::error::{ReadError, TomlFileError};
 use crate::ucptrie_tables::other_toml::{OtherToml, other_toml};
 use crate::ucptrie_tables::parsed::ParsedFile;
-use crate::ucptrie_tables::properties::{PropertyFault, read_property};
+use crate::ucptrie_tables::properties::{PropertyError, read_property};
 use crate::ucptrie_tables::table::Table;
 use crate::ucptrie_tables::width::ValueWidth;
 use crate::ucptrie_tables::written::Form;
@@ -58,7 +58,7 @@ pub fn form<'a>(matches: &ArgMatches<'a>) -> Form<'a> {
 }
 
 /// Returns the line about a text in no known form.
-fn toml_line(name: &str, fault: &TomlFault) -> Result<String, AllocError> {
+fn toml_line(name: &str, fault: &TomlFileError) -> Result<String, AllocError> {
     let (number, why) = (fault.line(), fault.message());
     let mut line = String::new();
     write!(
@@ -69,10 +69,10 @@ fn toml_line(name: &str, fault: &TomlFault) -> Result<String, AllocError> {
 }
 
 /// Returns the fault of a file that has no table. `name` is what it was read from.
-fn unread(name: &str, fault: ReadFault) -> Fault {
+fn unread(name: &str, fault: ReadError) -> Error {
     match fault {
-        ReadFault::Memory => Fault::Memory,
-        ReadFault::Toml(fault) => said(toml_line(name, &fault)),
+        ReadError::Memory => Error::Memory,
+        ReadError::Toml(fault) => said(toml_line(name, &fault)),
         _ => about(name, fault),
     }
 }
@@ -99,31 +99,31 @@ fn several_line(name: &str, found: &str) -> Result<String, AllocError> {
 }
 
 /// Returns the fault of a file that has no table of the property. `name` is what it was read from.
-fn unchosen(name: &str, property: &str, fault: PropertyFault) -> Fault {
+fn unchosen(name: &str, property: &str, fault: PropertyError) -> Error {
     match fault {
-        PropertyFault::Read(fault) => unread(name, fault),
-        PropertyFault::NotToml => about(name, "not TOML, so it has no properties"),
-        PropertyFault::Missing(found) => said(missing_line(name, property, &found)),
-        PropertyFault::Several(found) => said(several_line(name, &found)),
+        PropertyError::Read(fault) => unread(name, fault),
+        PropertyError::NotToml => about(name, "not TOML, so it has no properties"),
+        PropertyError::Missing(found) => said(missing_line(name, property, &found)),
+        PropertyError::Several(found) => said(several_line(name, &found)),
     }
 }
 
 /// Returns whether TOML is at fault in which a trie is missing.
-fn lacks_trie(fault: &PropertyFault) -> bool {
+fn lacks_trie(fault: &PropertyError) -> bool {
     matches!(
         fault,
-        PropertyFault::Read(ReadFault::TrieToml(_)) | PropertyFault::Missing(_)
+        PropertyError::Read(ReadError::TrieToml(_)) | PropertyError::Missing(_)
     )
 }
 
 /// Returns whether a file has sets of code points in TOML.
-fn has_sets(file: &[u8]) -> Result<bool, Fault> {
+fn has_sets(file: &[u8]) -> Result<bool, Error> {
     let Ok(text) = str::from_utf8(file) else {
         return Ok(false);
     };
     match set_of_file(text, None) {
-        Err(SetFileFault::Memory) => Err(Fault::Memory),
-        Err(SetFileFault::NotToml | SetFileFault::NoSets) => Ok(false),
+        Err(SetFileError::Memory) => Err(Error::Memory),
+        Err(SetFileError::NotToml | SetFileError::NoSets) => Ok(false),
         _ => Ok(true),
     }
 }
@@ -139,8 +139,8 @@ fn without_trie(
     name: &str,
     file: &ParsedFile<'_>,
     property: &str,
-    fault: PropertyFault,
-) -> Result<Fault, Fault> {
+    fault: PropertyError,
+) -> Result<Error, Error> {
     if has_sets(file.bytes())? {
         let why = "a set of code points, and no table: use ucptrie set";
         return Ok(about(name, why));
@@ -156,10 +156,10 @@ const NO_TABLE: &str =
     "expected a table in ICU's binary form, JSON or TOML; ucptrie build makes one of lines";
 
 /// Returns a file with its TOML. `name` is what it was read from.
-fn parsed<'f>(name: &str, bytes: &'f [u8]) -> Result<ParsedFile<'f>, Fault> {
+fn parsed<'f>(name: &str, bytes: &'f [u8]) -> Result<ParsedFile<'f>, Error> {
     match ParsedFile::new(bytes) {
         Ok(file) => Ok(file),
-        Err(ReadFault::Toml(_)) if !is_toml(bytes) => Err(about(name, NO_TABLE)),
+        Err(ReadError::Toml(_)) if !is_toml(bytes) => Err(about(name, NO_TABLE)),
         Err(fault) => Err(unread(name, fault)),
     }
 }
@@ -170,7 +170,7 @@ pub fn table_of_property(
     matches: &ArgMatches<'_>,
     name: &str,
     file: &ParsedFile<'_>,
-) -> Result<Table, Fault> {
+) -> Result<Table, Error> {
     let property = matches.get_str("property");
     match read_property(file, property) {
         Ok(table) => Ok(table),
@@ -186,7 +186,7 @@ pub fn table_of_property(
 
 /// Returns the file with these bytes, from the start of its trie on, with its TOML. `name` is what
 /// the bytes were read from.
-pub fn file_in<'f>(name: &str, bytes: &'f [u8], start: Start) -> Result<ParsedFile<'f>, Fault> {
+pub fn file_in<'f>(name: &str, bytes: &'f [u8], start: Start) -> Result<ParsedFile<'f>, Error> {
     if bytes.is_empty() {
         return Err(about(name, "the file is empty"));
     }
@@ -203,7 +203,7 @@ pub fn table_in(
     name: &str,
     bytes: &[u8],
     start: Start,
-) -> Result<Table, Fault> {
+) -> Result<Table, Error> {
     let file = file_in(name, bytes, start)?;
     table_of_property(matches, name, &file)
 }
@@ -215,7 +215,7 @@ pub fn table_at(
     matches: &ArgMatches<'_>,
     id: &str,
     start: Start,
-) -> Result<Table, Fault> {
+) -> Result<Table, Error> {
     let path = matches.get_str(id).unwrap_or("-");
     let bytes = bytes_at(rt, path)?;
     let file = match start {

@@ -4,7 +4,7 @@ use crate::host::*;
 use crate::support::AllocError;
 use crate::support::prelude::*;
 use crate::ucd_files::choice::{Choice, ValueKind};
-use crate::ucd_files::fault::FileFault;
+use crate::ucd_files::error::FileError;
 use crate::ucd_files::fields::has_field;
 use crate::ucd_files::kind::{FileKind, has_missing_lines, has_property, has_values};
 use crate::ucd_files::names::{Name, Numbering, is_same_name};
@@ -16,9 +16,9 @@ use crate::ucptab_table::rows::content_of;
 use crate::ucptrie::aliases::{Aliases, name_in_lines, name_in_values, named_aliases};
 use crate::ucptrie::build::{options, unbuilt};
 use crate::ucptrie::choice::{UnicodeFile, choice_of, numbering};
-use crate::ucptrie::fault::{Fault, about, about_arguments, said};
+use crate::ucptrie::error::{Error, about, about_arguments, said};
 use crate::ucptrie::fractions::{say_fractions, say_reading};
-use crate::ucptrie::line_faults::fault_line;
+use crate::ucptrie::line_errors::fault_line;
 use crate::ucptrie::missing::{default_of, say_missing, test_numbers, test_own_names};
 use crate::ucptrie::names::{is_list, say_many_in};
 use crate::ucptrie::overlap::{Conflict, conflict_of_texts, find_conflict, has_values_of};
@@ -27,7 +27,7 @@ use crate::ucptrie::static_trie::{is_static, with_static};
 use crate::ucptrie::streams::say;
 use crate::ucptrie::tables::{form, number};
 use crate::ucptrie::wide::{line_with, too_wide};
-use crate::ucptrie_tables::fault::{BuildFault, UnicodeFileFault};
+use crate::ucptrie_tables::error::{TableBuildError, UnicodeFileError};
 use crate::ucptrie_tables::names_list::names_list;
 use crate::ucptrie_tables::table::TableOptions;
 use crate::ucptrie_tables::unicode_file::table_of_file;
@@ -63,7 +63,7 @@ pub fn column_option(matches: &ArgMatches<'_>) -> Option<&'static str> {
 
 /// Returns the fault of an option that only files of the Unicode Character Database need, and that
 /// is given for rows.
-pub fn not_of_rows(option: &str) -> Fault {
+pub fn not_of_rows(option: &str) -> Error {
     about_arguments(
         option,
         "not for rows: leave it out, or name another kind of file by --format",
@@ -103,7 +103,7 @@ pub fn are_names_of_one(property: &[u8], name: &[u8]) -> bool {
 }
 
 /// Returns the field of a property in `UnicodeData.txt`. `name` is what the file was read from.
-fn unicode_data_field(name: &str, property: Option<&str>) -> Result<usize, Fault> {
+fn unicode_data_field(name: &str, property: Option<&str>) -> Result<usize, Error> {
     let Some(property) = property else {
         let why = "the file has many properties: name one by --property or --field";
         return Err(about(name, why));
@@ -162,7 +162,7 @@ fn old_block(file: &[u8]) -> Option<u64> {
 
 /// Returns field 1, unless a code point has two values there. `name` is what the lines were read
 /// from.
-fn only_field(name: &str, file: &[u8]) -> Result<Columns<'static>, Fault> {
+fn only_field(name: &str, file: &[u8]) -> Result<Columns<'static>, Error> {
     if let Some(number) = old_block(file) {
         let line = line_at(file, number).unwrap_or(&[]);
         let form = "HEX..HEX before the first `;`";
@@ -178,7 +178,7 @@ fn only_field(name: &str, file: &[u8]) -> Result<Columns<'static>, Fault> {
 }
 
 /// Tests that no code point has two different values in the lines of a file.
-pub fn test_conflicts(file: &UnicodeFile<'_>, numbering: Numbering<'_>) -> Result<(), Fault> {
+pub fn test_conflicts(file: &UnicodeFile<'_>, numbering: Numbering<'_>) -> Result<(), Error> {
     match find_conflict(file.bytes, file.columns, numbering)? {
         Some(conflict) => Err(said(two_values(file.name, conflict, ""))),
         None => Ok(()),
@@ -231,7 +231,7 @@ fn columns_of_all(
     aliases: &Aliases,
     name: &str,
     file: &[u8],
-) -> Result<Columns<'static>, Fault> {
+) -> Result<Columns<'static>, Error> {
     let columns = Columns::Field(1);
     if let Some(conflict) = conflict_of_texts(file)? {
         let own_name = name_in_values(aliases, property.as_bytes());
@@ -254,7 +254,7 @@ fn columns_of_lines<'a>(
     aliases: &Aliases,
     name: &str,
     file: &'a [u8],
-) -> Result<Columns<'a>, Fault> {
+) -> Result<Columns<'a>, Error> {
     match property {
         Some(property) if has_property(file, property.as_bytes()) => {
             Ok(Columns::Property(property.as_bytes()))
@@ -269,7 +269,7 @@ fn columns_of_lines<'a>(
 }
 
 /// Returns where lines of Unihan have the values of a property. `name` is what they were read from.
-fn columns_of_unihan<'a>(property: &'a str, name: &str, file: &[u8]) -> Result<Columns<'a>, Fault> {
+fn columns_of_unihan<'a>(property: &'a str, name: &str, file: &[u8]) -> Result<Columns<'a>, Error> {
     let columns = Columns::Unihan(property.as_bytes());
     if has_unihan_property(file, property.as_bytes()) {
         return Ok(columns);
@@ -284,7 +284,7 @@ fn columns<'f, 'a: 'f>(
     kind: FileKind,
     name: &str,
     file: &'f [u8],
-) -> Result<Columns<'f>, Fault> {
+) -> Result<Columns<'f>, Error> {
     if !has_values(file) {
         return Err(about(
             name,
@@ -320,7 +320,7 @@ pub fn unicode_file<'f, 'a: 'f>(
     name: &'f str,
     bytes: &'f [u8],
     kind: FileKind,
-) -> Result<UnicodeFile<'f>, Fault> {
+) -> Result<UnicodeFile<'f>, Error> {
     let aliases = named_aliases(rt, matches)?;
     let columns = columns(matches, &aliases, kind, name, bytes)?;
     expect_field(matches, columns, name, bytes)?;
@@ -334,14 +334,14 @@ pub fn unicode_file<'f, 'a: 'f>(
 
 /// Returns the fault of a file that makes no table. `name` is what it was read from.
 /// `numbering` is how its values become numbers.
-pub fn unread(name: &str, file: &[u8], numbering: Numbering<'_>, fault: UnicodeFileFault) -> Fault {
+pub fn unread(name: &str, file: &[u8], numbering: Numbering<'_>, fault: UnicodeFileError) -> Error {
     match fault {
-        UnicodeFileFault::File(FileFault::Memory) => Fault::Memory,
-        UnicodeFileFault::File(FileFault::Unfinished) => about(name, FileFault::Unfinished),
-        UnicodeFileFault::File(FileFault::Line(number, fault)) => {
+        UnicodeFileError::File(FileError::Memory) => Error::Memory,
+        UnicodeFileError::File(FileError::Unfinished) => about(name, FileError::Unfinished),
+        UnicodeFileError::File(FileError::Line(number, fault)) => {
             said(fault_line(name, file, number, fault, numbering))
         }
-        UnicodeFileFault::Build(fault) => unbuilt(name, file, fault),
+        UnicodeFileError::Build(fault) => unbuilt(name, file, fault),
     }
 }
 
@@ -383,7 +383,7 @@ fn written_of_file(
     choice: &Choice<'_>,
     numbering: Numbering<'_>,
     options: TableOptions,
-) -> Result<Vec<u8>, UnicodeFileFault> {
+) -> Result<Vec<u8>, UnicodeFileError> {
     let form = form(matches);
     let table = table_of_file(file.bytes, file.columns, numbering, options)?;
     let bytes = written(&table, form)?;
@@ -401,7 +401,7 @@ fn options_of_file(
     file: &UnicodeFile<'_>,
     choice: &Choice<'_>,
     numbering: Numbering<'_>,
-) -> Result<TableOptions, Fault> {
+) -> Result<TableOptions, Error> {
     let given = options(matches);
     let needs_default = match choice.kind {
         ValueKind::Aliases => true,
@@ -422,7 +422,7 @@ fn built_of_file(
     matches: &ArgMatches<'_>,
     file: &UnicodeFile<'_>,
     choice: &Choice<'_>,
-) -> Result<Vec<u8>, Fault> {
+) -> Result<Vec<u8>, Error> {
     let numbering = numbering(matches, file, choice);
     test_conflicts(file, numbering)?;
     if matches!(numbering, Numbering::Names(_, _)) {
@@ -434,7 +434,7 @@ fn built_of_file(
     let options = options_of_file(matches, file, choice, numbering)?;
     match written_of_file(matches, file, choice, numbering, options) {
         Ok(bytes) => Ok(bytes),
-        Err(UnicodeFileFault::Build(BuildFault::Width(value, width))) => {
+        Err(UnicodeFileError::Build(TableBuildError::Width(value, width))) => {
             let place = line_with(file, numbering, value);
             Err(too_wide(matches, file.name, place, value, width))
         }
@@ -448,7 +448,7 @@ pub fn choice_of_file<'f>(
     rt: &HostRuntime,
     matches: &ArgMatches<'_>,
     file: &'f UnicodeFile<'f>,
-) -> Result<Choice<'f>, Fault> {
+) -> Result<Choice<'f>, Error> {
     say_whole_file(rt, file)?;
     say_missing(rt, matches, file)?;
     choice_of(matches, file)
@@ -462,7 +462,7 @@ pub fn build_file(
     name: &str,
     bytes: &[u8],
     kind: FileKind,
-) -> Result<Vec<u8>, Fault> {
+) -> Result<Vec<u8>, Error> {
     let file = unicode_file(rt, matches, name, bytes, kind)?;
     let choice = choice_of_file(rt, matches, &file)?;
     say_fractions(rt, matches, &file, &choice)?;

@@ -8,7 +8,7 @@ use crate::ucd_files::statement::{Statement, statement_of};
 use crate::ucptab_table::input::first_line;
 use crate::ucptab_table::rows::row_of;
 use crate::ucptrie::choice::UnicodeFile;
-use crate::ucptrie::fault::{Fault, said};
+use crate::ucptrie::error::{Error, said};
 use crate::ucptrie::tables::number;
 use crate::ucptrie_tables::table::Table;
 use crate::ucptrie_tables::width::ValueWidth;
@@ -116,7 +116,7 @@ pub fn too_wide(
     place: Option<u64>,
     value: u32,
     width: ValueWidth,
-) -> Fault {
+) -> Error {
     let giver = match place {
         Some(_) => name,
         None => giver(matches, name, value),
@@ -151,7 +151,7 @@ pub fn too_wide_in(
     table: &Table,
     value: u32,
     width: ValueWidth,
-) -> Fault {
+) -> Error {
     match point_with(table, value) {
         Some(c) => said(wide_point_line(name, c, value, width)),
         None => too_wide(matches, name, None, value, width),

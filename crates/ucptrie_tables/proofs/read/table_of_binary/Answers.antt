@@ -1,5 +1,5 @@
 use Rattle.std.proofs.Common.{rules, ◌≡◌, Err}
-use Rattle.ucptrie_tables.specs.declared.fault.ReadFault.TheVariants.{Binary}
+use Rattle.ucptrie_tables.specs.declared.error.ReadError.TheVariants.{Binary}
 use Rattle.ucptrie_tables.specs.declared.width.ValueWidth.TheVariants.{Bits8, Bits16, Bits32}
 use Rattle.ucptrie_tables.proofs.WidthLemmas.{IsBinaryOf-widened}
 use Rattle.ucptrie_tables.proofs.read.table_of_binary.Goals as goal

@@ -1,9 +1,9 @@
 use Rattle.std.proofs.Common.{◌≡◌, Err, inl, inr, rules}
 use Rattle.std.proofs.lemmas.Result.{IfErr-weaker, IfOk-weaker}
 use Rattle.ucptab_table.specs.TableText.{AreRows}
-use Rattle.ucptab_table.specs.declared.fault.TableError.TheVariants.{Row, TooLarge}
+use Rattle.ucptab_table.specs.declared.error.TableError.TheVariants.{Row, TooLarge}
 use Rattle.ucptrie_tables.specs.Tables.{IsWhyNoTableOfWrites}
-use Rattle.ucptrie_tables.specs.declared.fault.BuildFault.TheVariants.{Table}
+use Rattle.ucptrie_tables.specs.declared.error.TableBuildError.TheVariants.{Table}
 use Rattle.ucptrie_tables.proofs.TableLemmas.{table_of_rows, why_of_rows}
 use Rattle.ucptrie_tables.proofs.table.table_of_rows.Goals as goal
 

@@ -2,7 +2,7 @@ use Rattle.std.proofs.Common.{◌≡◌, [], ◌∙◌, arith, rules, sym, subst
 use Rattle.std.specs.Prelude.{IfErr, IsErrAnd}
 use Rattle.std.specs.Str.Lines.{lines}
 use Rattle.ucptab_table.proofs.CallerLemmas.{left_after}
-use Rattle.ucptrie_words.specs.declared.fault.WordsFault.{WordsFault}
+use Rattle.ucptrie_words.specs.declared.error.WordsError.{WordsError}
 use Rattle.ucptrie_words.proofs.WordSteps.{all_words, first_fault_of, words_more}
 use Rattle.ucptrie_words.proofs.read.read_words.Goals as goal
 
@@ -17,7 +17,7 @@ loop-line-preserved c =
     }
 
 -- What holds of an error holds of the one that `?` returns.
-same_error : {T : Type 0} (r : Result T WordsFault) (x : WordsFault) (P : WordsFault → Type 0) → IsErrAnd r (λ e. e ≡ x) → P x → IfErr r P
+same_error : {T : Type 0} (r : Result T WordsError) (x : WordsError) (P : WordsError → Type 0) → IsErrAnd r (λ e. e ≡ x) → P x → IfErr r P
 same_error (Ok y) x P h p = absurd h
 same_error (Err e) x P h p = subst P (sym h) p
 

@@ -9,7 +9,7 @@ use core::fmt;
 
 /// What is wrong with a row. Rows are tested in this order.
 #[derive(Clone, Copy, Debug, PartialEq, Eq)]
-pub enum RowFault {
+pub enum RowError {
     /// The line has neither the form `HEX;N` nor the form `HEX..HEX;N`.
     NotARow,
     /// A code point is above 10FFFF.
@@ -20,41 +20,41 @@ pub enum RowFault {
     Value,
 }
 
-impl RowFault {
+impl RowError {
     /// Returns what is wrong, in words.
     pub fn text(self) -> &'static str {
         match self {
-            RowFault::NotARow => "not a row",
-            RowFault::CodePoint => "code point too large",
-            RowFault::Reversed => "range reversed",
-            RowFault::Value => "value too large",
+            RowError::NotARow => "not a row",
+            RowError::CodePoint => "code point too large",
+            RowError::Reversed => "range reversed",
+            RowError::Value => "value too large",
         }
     }
 
     /// Returns what the test that failed expects of a row, in words.
     pub fn expected(self) -> &'static str {
         match self {
-            RowFault::NotARow => "HEX;VALUE or HEX..HEX;VALUE",
-            RowFault::CodePoint => "code points up to 10FFFF",
-            RowFault::Reversed => "a range whose end is not below its start",
-            RowFault::Value => "a value up to 4294967295",
+            RowError::NotARow => "HEX;VALUE or HEX..HEX;VALUE",
+            RowError::CodePoint => "code points up to 10FFFF",
+            RowError::Reversed => "a range whose end is not below its start",
+            RowError::Value => "a value up to 4294967295",
         }
     }
 }
 
-impl fmt::Display for RowFault {
+impl fmt::Display for RowError {
     fn fmt(&self, f: &mut fmt::Formatter<'_>) -> fmt::Result {
         f.write_str(self.text())
     }
 }
 
-impl Error for RowFault {}
+impl Error for RowError {}
 
 /// Why the program fails.
 #[derive(Clone, Copy, Debug, PartialEq, Eq)]
 pub enum TableError {
     /// The first line that is not a row, counted from 1, and what is wrong with it.
-    Row(u64, RowFault),
+    Row(u64, RowError),
     /// The map is too large for a trie.
     TooLarge,
     /// An allocation failed.

@@ -8,7 +8,7 @@ use thiserror::Error;
 
 /// Why a table has no set of the code points with a value.
 #[derive(Clone, Copy, Debug, PartialEq, Eq, Error)]
-pub enum ValueSetFault {
+pub enum ValueSetError {
     /// The table's trie is not coherent, so its ranges may differ from its look-ups.
     #[error("not coherent, so its ranges may differ from its look-ups: it has no sets")]
     NotCoherent,
@@ -17,19 +17,19 @@ pub enum ValueSetFault {
     Memory,
 }
 
-impl From<MemoryError> for ValueSetFault {
-    ghost use Rattle.ucptrie_sets.specs.declared.fault.ValueSetFault.TheVariants.{Memory};
+impl From<MemoryError> for ValueSetError {
+    ghost use Rattle.ucptrie_sets.specs.declared.error.ValueSetError.TheVariants.{Memory};
 
     ghost from_gives = { λ _ e. e ≡ Memory };
 
-    fn from(_error: MemoryError) -> ValueSetFault {
-        ValueSetFault::Memory
+    fn from(_error: MemoryError) -> ValueSetError {
+        ValueSetError::Memory
     }
 }
 
 /// Why a set is not written.
 #[derive(Clone, Copy, Debug, PartialEq, Eq, Error)]
-pub enum SetWriteFault {
+pub enum SetWriteError {
     /// ICU's serialized form has no room for the boundaries.
     #[error("too many ranges for ICU's serialized form")]
     TooLong,
@@ -38,42 +38,42 @@ pub enum SetWriteFault {
     Memory,
 }
 
-impl From<AllocError> for SetWriteFault {
-    ghost use Rattle.ucptrie_sets.specs.declared.fault.SetWriteFault.TheVariants.{Memory};
+impl From<AllocError> for SetWriteError {
+    ghost use Rattle.ucptrie_sets.specs.declared.error.SetWriteError.TheVariants.{Memory};
 
     ghost from_gives = { λ _ e. e ≡ Memory };
 
-    fn from(_error: AllocError) -> SetWriteFault {
-        SetWriteFault::Memory
+    fn from(_error: AllocError) -> SetWriteError {
+        SetWriteError::Memory
     }
 }
 
-impl From<MemoryError> for SetWriteFault {
-    ghost use Rattle.ucptrie_sets.specs.declared.fault.SetWriteFault.TheVariants.{Memory};
+impl From<MemoryError> for SetWriteError {
+    ghost use Rattle.ucptrie_sets.specs.declared.error.SetWriteError.TheVariants.{Memory};
 
     ghost from_gives = { λ _ e. e ≡ Memory };
 
-    fn from(_error: MemoryError) -> SetWriteFault {
-        SetWriteFault::Memory
+    fn from(_error: MemoryError) -> SetWriteError {
+        SetWriteError::Memory
     }
 }
 
-impl From<SerializeError> for SetWriteFault {
+impl From<SerializeError> for SetWriteError {
     ghost use Rattle.ucptrie_sets.specs.Sets.{refusal_of_serialize};
 
     ghost from_gives = { λ x e. e ≡ refusal_of_serialize x };
 
-    fn from(error: SerializeError) -> SetWriteFault {
+    fn from(error: SerializeError) -> SetWriteError {
         match error {
-            SerializeError::TooLong => SetWriteFault::TooLong,
-            SerializeError::Memory => SetWriteFault::Memory,
+            SerializeError::TooLong => SetWriteError::TooLong,
+            SerializeError::Memory => SetWriteError::Memory,
         }
     }
 }
 
 /// Why a TOML file has no set. The first variant that applies is returned.
 #[derive(Clone, Copy, Debug, PartialEq, Eq, Error)]
-pub enum SetFileFault {
+pub enum SetFileError {
     /// The text is not TOML.
     #[error("not TOML")]
     NotToml,
@@ -100,12 +100,12 @@ pub enum SetFileFault {
     Memory,
 }
 
-impl From<MemoryError> for SetFileFault {
-    ghost use Rattle.ucptrie_sets.specs.declared.fault.SetFileFault.TheVariants.{Memory};
+impl From<MemoryError> for SetFileError {
+    ghost use Rattle.ucptrie_sets.specs.declared.error.SetFileError.TheVariants.{Memory};
 
     ghost from_gives = { λ _ e. e ≡ Memory };
 
-    fn from(_error: MemoryError) -> SetFileFault {
-        SetFileFault::Memory
+    fn from(_error: MemoryError) -> SetFileError {
+        SetFileError::Memory
     }
 }

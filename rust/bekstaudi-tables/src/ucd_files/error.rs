@@ -9,7 +9,7 @@ use core::fmt;
 
 /// What is wrong with a line. Lines are tested in this order.
 #[derive(Clone, Copy, Debug, PartialEq, Eq)]
-pub enum LineFault {
+pub enum LineError {
     /// In `UnicodeData.txt`, the line before gives the first code point of a range, and this line
     /// does not give the last one of the same range, with the same value. Or this line gives the
     /// last one, and the line before does not give the first one.
@@ -28,65 +28,65 @@ pub enum LineFault {
     UnknownValue,
 }
 
-impl LineFault {
+impl LineError {
     /// Returns what the test that failed expects of a line, in words.
     pub fn expected(self) -> &'static str {
         match self {
-            LineFault::Unpaired => {
+            LineError::Unpaired => {
                 "a line `<NAME, First>`, then a line `<NAME, Last>` with the same value"
             }
-            LineFault::SplitRange => {
+            LineError::SplitRange => {
                 "HEX..HEX for a range: only UnicodeData.txt has it in two lines"
             }
-            LineFault::NotCodePoints => "HEX or HEX..HEX before the first `;`",
-            LineFault::CodePoint => "code points up to 10FFFF",
-            LineFault::Reversed => "a range whose end is not below its start",
-            LineFault::NoValue => "a value",
-            LineFault::UnknownValue => "a value that is a known name or number",
+            LineError::NotCodePoints => "HEX or HEX..HEX before the first `;`",
+            LineError::CodePoint => "code points up to 10FFFF",
+            LineError::Reversed => "a range whose end is not below its start",
+            LineError::NoValue => "a value",
+            LineError::UnknownValue => "a value that is a known name or number",
         }
     }
 }
 
-impl fmt::Display for LineFault {
+impl fmt::Display for LineError {
     fn fmt(&self, f: &mut fmt::Formatter<'_>) -> fmt::Result {
         let expected = self.expected();
         write!(f, "expected {expected}")
     }
 }
 
-impl Error for LineFault {}
+impl Error for LineError {}
 
 /// Why a file can't be read.
 #[derive(Clone, Copy, Debug, PartialEq, Eq)]
-pub enum FileFault {
+pub enum FileError {
     /// The first line that has a fault, counted from 1, and its fault.
-    Line(u64, LineFault),
+    Line(u64, LineError),
     /// The last line gives the first code point of a range, so the last code point is missing.
     Unfinished,
     /// An allocation failed.
     Memory,
 }
 
-impl fmt::Display for FileFault {
+impl fmt::Display for FileError {
     fn fmt(&self, f: &mut fmt::Formatter<'_>) -> fmt::Result {
         match self {
-            FileFault::Line(number, fault) => write!(f, "line {number}: {fault}"),
-            FileFault::Unfinished => f.write_str("the file ends after `<.., First>`"),
-            FileFault::Memory => f.write_str("no memory"),
+            FileError::Line(number, fault) => write!(f, "line {number}: {fault}"),
+            FileError::Unfinished => f.write_str("the file ends after `<.., First>`"),
+            FileError::Memory => f.write_str("no memory"),
         }
     }
 }
 
-impl Error for FileFault {}
+impl Error for FileError {}
 
-impl From<AllocError> for FileFault {
-    fn from(_error: AllocError) -> FileFault {
-        FileFault::Memory
+impl From<AllocError> for FileError {
+    fn from(_error: AllocError) -> FileError {
+        FileError::Memory
     }
 }
 
-impl From<MemoryError> for FileFault {
-    fn from(_error: MemoryError) -> FileFault {
-        FileFault::Memory
+impl From<MemoryError> for FileError {
+    fn from(_error: MemoryError) -> FileError {
+        FileError::Memory
     }
 }

@@ -1,7 +1,7 @@
 //! What is wrong with a line, and why there is no trie or no text.
 ghost use Rattle.std.specs.Prelude.{◌≡◌, ◌++◌, Some, codes};
 ghost use Rattle.ucptrie_words.specs.Messages.{expected_text, rows_fault_text, units_text, words_text};
-ghost use Rattle.ucptrie_words.specs.declared.fault.RowsFault.TheVariants.{Memory as RowsMemory};
+ghost use Rattle.ucptrie_words.specs.declared.error.RowsError.TheVariants.{Memory as RowsMemory};
 
 use icu_zerovec::MemoryError;
 use std::alloc::AllocError;
@@ -10,7 +10,7 @@ use std::fmt;
 
 /// What is wrong with a line. Lines are tested in this order.
 #[derive(Clone, Copy, Debug, PartialEq, Eq)]
-pub enum LineFault {
+pub enum LineError {
     /// The line has no `;`.
     NoSeparator,
     /// There is no key before the last `;`.
@@ -27,24 +27,24 @@ pub enum LineFault {
     Repeated,
 }
 
-impl LineFault {
+impl LineError {
     /// Returns what the test that failed expects of a line, in words.
     pub fn expected(self) -> &'static str
         ensures { result.now ≡ expected_text self }
     {
         match self {
-            LineFault::NoSeparator => "KEY;VALUE",
-            LineFault::NoKey => "a key before the last `;`",
-            LineFault::NotUtf8 => "a key in UTF-8",
-            LineFault::NoValue => "a value after the last `;`",
-            LineFault::NotNumber => "a value from -2147483648 to 2147483647",
-            LineFault::LongKey => "a key of at most 65535 units in UTF-16",
-            LineFault::Repeated => "a key that no line before has",
+            LineError::NoSeparator => "KEY;VALUE",
+            LineError::NoKey => "a key before the last `;`",
+            LineError::NotUtf8 => "a key in UTF-8",
+            LineError::NoValue => "a value after the last `;`",
+            LineError::NotNumber => "a value from -2147483648 to 2147483647",
+            LineError::LongKey => "a key of at most 65535 units in UTF-16",
+            LineError::Repeated => "a key that no line before has",
         }
     }
 }
 
-impl fmt::Display for LineFault {
+impl fmt::Display for LineError {
     ghost output = { λ fault. Some (codes "expected " ++ expected_text fault) };
 
     fn fmt<W: fmt::Write>(&self, f: &mut fmt::Formatter<W>) -> fmt::Result {
@@ -53,36 +53,36 @@ impl fmt::Display for LineFault {
     }
 }
 
-impl Error for LineFault {}
+impl Error for LineError {}
 
 /// Why a word list is not made into a trie.
 #[derive(Clone, Copy, Debug, PartialEq, Eq)]
-pub enum WordsFault {
+pub enum WordsError {
     /// The first line that has a fault, counted from 1, and its fault.
-    Line(u64, LineFault),
+    Line(u64, LineError),
     /// The words may need more than `0x7FFF_FFFF` units.
     TooLarge,
     /// An allocation failed.
     Memory,
 }
 
-impl fmt::Display for WordsFault {
+impl fmt::Display for WordsError {
     ghost output = { λ fault. Some (words_text fault) };
 
     fn fmt<W: fmt::Write>(&self, f: &mut fmt::Formatter<W>) -> fmt::Result {
         match self {
-            WordsFault::Line(number, fault) => write!(f, "line {number}: {fault}"),
-            WordsFault::TooLarge => f.write_str("too large: the words may need too many units"),
-            WordsFault::Memory => f.write_str("no memory"),
+            WordsError::Line(number, fault) => write!(f, "line {number}: {fault}"),
+            WordsError::TooLarge => f.write_str("too large: the words may need too many units"),
+            WordsError::Memory => f.write_str("no memory"),
         }
     }
 }
 
-impl Error for WordsFault {}
+impl Error for WordsError {}
 
 /// Why a file of units has no trie.
 #[derive(Clone, Copy, Debug, PartialEq, Eq)]
-pub enum UnitsFault {
+pub enum UnitsError {
     /// The number of bytes is odd.
     HalfUnit,
     /// The units are no trie.
@@ -91,23 +91,23 @@ pub enum UnitsFault {
     Memory,
 }
 
-impl fmt::Display for UnitsFault {
+impl fmt::Display for UnitsError {
     ghost output = { λ fault. Some (units_text fault) };
 
     fn fmt<W: fmt::Write>(&self, f: &mut fmt::Formatter<W>) -> fmt::Result {
         f.write_str(match self {
-            UnitsFault::HalfUnit => "expected units of two bytes, found an odd number of bytes",
-            UnitsFault::NotATrie => "the units are no trie",
-            UnitsFault::Memory => "no memory",
+            UnitsError::HalfUnit => "expected units of two bytes, found an odd number of bytes",
+            UnitsError::NotATrie => "the units are no trie",
+            UnitsError::Memory => "no memory",
         })
     }
 }
 
-impl Error for UnitsFault {}
+impl Error for UnitsError {}
 
 /// Why the entries of a trie are not written as lines.
 #[derive(Debug, Drop)]
-pub enum RowsFault {
+pub enum RowsError {
     /// No line can have this key: it is empty, has a blank at an end, a line feed, U+FFFD or a lone
     /// surrogate, or starts with `#`.
     Key(String),
@@ -115,31 +115,31 @@ pub enum RowsFault {
     Memory,
 }
 
-impl fmt::Display for RowsFault {
+impl fmt::Display for RowsError {
     ghost output = { λ fault. Some (rows_fault_text fault) };
 
     fn fmt<W: fmt::Write>(&self, f: &mut fmt::Formatter<W>) -> fmt::Result {
         match self {
-            RowsFault::Key(_) => f.write_str("no line can have a key"),
-            RowsFault::Memory => f.write_str("no memory"),
+            RowsError::Key(_) => f.write_str("no line can have a key"),
+            RowsError::Memory => f.write_str("no memory"),
         }
     }
 }
 
-impl Error for RowsFault {}
+impl Error for RowsError {}
 
-impl From<AllocError> for RowsFault {
+impl From<AllocError> for RowsError {
     ghost from_gives = { λ _ e. e ≡ RowsMemory };
 
-    fn from(_error: AllocError) -> RowsFault {
-        RowsFault::Memory
+    fn from(_error: AllocError) -> RowsError {
+        RowsError::Memory
     }
 }
 
-impl From<MemoryError> for RowsFault {
+impl From<MemoryError> for RowsError {
     ghost from_gives = { λ _ e. e ≡ RowsMemory };
 
-    fn from(_error: MemoryError) -> RowsFault {
-        RowsFault::Memory
+    fn from(_error: MemoryError) -> RowsError {
+        RowsError::Memory
     }
 }

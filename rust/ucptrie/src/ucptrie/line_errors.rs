@@ -2,28 +2,28 @@
 use crate::host::*;
 use crate::support::AllocError;
 use crate::support::prelude::*;
-use crate::ucd_files::fault::LineFault;
+use crate::ucd_files::error::LineError;
 use crate::ucd_files::fields::missing_of;
 use crate::ucd_files::names::Numbering;
 use crate::ucptab_table::input::line_at;
 use crate::ucptab_table::message::line_message;
 
 /// Returns what was expected of a line whose values become numbers in this way.
-fn expected(fault: LineFault, numbering: Numbering<'_>) -> &'static str {
+fn expected(fault: LineError, numbering: Numbering<'_>) -> &'static str {
     match (fault, numbering) {
-        (LineFault::UnknownValue, Numbering::Decimal) => "a decimal number of at most 32 bits",
-        (LineFault::UnknownValue, Numbering::Hexadecimal) => {
+        (LineError::UnknownValue, Numbering::Decimal) => "a decimal number of at most 32 bits",
+        (LineError::UnknownValue, Numbering::Hexadecimal) => {
             "a hexadecimal number of at most 32 bits"
         }
-        (LineFault::UnknownValue, _) => "a value that the file of aliases names",
+        (LineError::UnknownValue, _) => "a value that the file of aliases names",
         _ => fault.expected(),
     }
 }
 
 /// Returns how a line is read whose value is no number.
-fn advice(fault: LineFault, numbering: Numbering<'_>, line: &[u8]) -> &'static str {
+fn advice(fault: LineError, numbering: Numbering<'_>, line: &[u8]) -> &'static str {
     match (fault, numbering) {
-        (LineFault::UnknownValue, Numbering::Decimal | Numbering::Hexadecimal) => {
+        (LineError::UnknownValue, Numbering::Decimal | Numbering::Hexadecimal) => {
             if missing_of(line).is_some() {
                 ": give --property and --aliases PropertyValueAliases.txt, which has its number"
             } else {
@@ -39,7 +39,7 @@ pub fn fault_line(
     name: &str,
     file: &[u8],
     number: u64,
-    fault: LineFault,
+    fault: LineError,
     numbering: Numbering<'_>,
 ) -> Result<String, AllocError> {
     let line = line_at(file, number).unwrap_or(&[]);

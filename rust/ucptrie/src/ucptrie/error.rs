@@ -16,7 +16,7 @@ pub struct CompressedInput {
 }
 
 /// Why the program fails.
-pub enum Fault {
+pub enum Error {
     /// The arguments are at fault, as this line says.
     Arguments(String),
     /// Something else is, as this line says.
@@ -29,25 +29,25 @@ pub enum Fault {
     ClosedPipe,
 }
 
-impl From<AllocError> for Fault {
-    fn from(_error: AllocError) -> Fault {
-        Fault::Memory
+impl From<AllocError> for Error {
+    fn from(_error: AllocError) -> Error {
+        Error::Memory
     }
 }
 
-impl<T> From<AllocFailed<T>> for Fault {
-    fn from(_error: AllocFailed<T>) -> Fault {
-        Fault::Memory
+impl<T> From<AllocFailed<T>> for Error {
+    fn from(_error: AllocFailed<T>) -> Error {
+        Error::Memory
     }
 }
 
-impl Fault {
+impl Error {
     /// Returns the line that is printed, or `None` if none is.
     pub fn line(&self) -> Option<&str> {
         match self {
-            Fault::Arguments(line) | Fault::Said(line) => Some(line.as_str()),
-            Fault::Memory => Some("no memory"),
-            Fault::Compressed(_) | Fault::ClosedPipe => None,
+            Error::Arguments(line) | Error::Said(line) => Some(line.as_str()),
+            Error::Memory => Some("no memory"),
+            Error::Compressed(_) | Error::ClosedPipe => None,
         }
     }
 
@@ -55,9 +55,9 @@ impl Fault {
     /// that of the other commands.
     pub fn status(&self, is_diff: bool) -> u8 {
         match self {
-            Fault::Arguments(_) => 2,
-            Fault::Said(_) | Fault::Compressed(_) | Fault::Memory if is_diff => 2,
-            Fault::Said(_) | Fault::Compressed(_) | Fault::Memory | Fault::ClosedPipe => 1,
+            Error::Arguments(_) => 2,
+            Error::Said(_) | Error::Compressed(_) | Error::Memory if is_diff => 2,
+            Error::Said(_) | Error::Compressed(_) | Error::Memory | Error::ClosedPipe => 1,
         }
     }
 }
@@ -70,22 +70,22 @@ fn line_about<W: fmt::Display>(name: &str, why: W) -> Result<String, AllocError>
 }
 
 /// Returns the fault with this line, or that of the allocation that failed.
-pub fn said(line: Result<String, AllocError>) -> Fault {
+pub fn said(line: Result<String, AllocError>) -> Error {
     match line {
-        Ok(line) => Fault::Said(line),
-        Err(error) => Fault::from(error),
+        Ok(line) => Error::Said(line),
+        Err(error) => Error::from(error),
     }
 }
 
 /// Returns the fault of an input, an output or a word.
-pub fn about<W: fmt::Display>(name: &str, why: W) -> Fault {
+pub fn about<W: fmt::Display>(name: &str, why: W) -> Error {
     said(line_about(name, why))
 }
 
 /// Returns the fault of the arguments of a command.
-pub fn about_arguments<W: fmt::Display>(command: &str, why: W) -> Fault {
+pub fn about_arguments<W: fmt::Display>(command: &str, why: W) -> Error {
     match line_about(command, why) {
-        Ok(line) => Fault::Arguments(line),
-        Err(error) => Fault::from(error),
+        Ok(line) => Error::Arguments(line),
+        Err(error) => Error::from(error),
     }
 }

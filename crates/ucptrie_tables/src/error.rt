@@ -12,12 +12,12 @@ use icu_zerovec::MemoryError;
 use std::alloc::AllocError;
 use std::{error, fmt};
 use thiserror::Error;
-use ucd_files::fault::FileFault;
-use ucptab_table::fault::TableError;
+use ucd_files::error::FileError;
+use ucptab_table::error::TableError;
 
 /// Why rows make no table, or why a table is not written.
 #[derive(Clone, Copy, Debug, PartialEq, Eq, Error)]
-pub enum BuildFault {
+pub enum TableBuildError {
     /// A row has a fault, the map is too large for a trie, or an allocation failed.
     #[error("{0}")]
     Table(TableError),
@@ -30,109 +30,109 @@ pub enum BuildFault {
     Binary(WriteError),
 }
 
-impl From<TableError> for BuildFault {
-    ghost use Rattle.ucptrie_tables.specs.declared.fault.BuildFault.TheVariants.{Table};
+impl From<TableError> for TableBuildError {
+    ghost use Rattle.ucptrie_tables.specs.declared.error.TableBuildError.TheVariants.{Table};
 
     ghost from_gives = { λ x e. e ≡ Table x };
 
-    fn from(fault: TableError) -> BuildFault {
-        BuildFault::Table(fault)
+    fn from(fault: TableError) -> TableBuildError {
+        TableBuildError::Table(fault)
     }
 }
 
-impl From<BuildError> for BuildFault {
+impl From<BuildError> for TableBuildError {
     ghost use Rattle.icu_trie_builder.specs.declared.error.BuildError.TheVariants.{TooLarge as BuildTooLarge};
-    ghost use Rattle.ucptab_table.specs.declared.fault.TableError.TheVariants.{TooLarge, Memory};
-    ghost use Rattle.ucptrie_tables.specs.declared.fault.BuildFault.TheVariants.{Table};
+    ghost use Rattle.ucptab_table.specs.declared.error.TableError.TheVariants.{TooLarge, Memory};
+    ghost use Rattle.ucptrie_tables.specs.declared.error.TableBuildError.TheVariants.{Table};
 
     ghost from_gives = { λ x e. (e ≡ Table TooLarge → x ≡ BuildTooLarge)
         × ((e ≡ Table TooLarge) ⊎ (e ≡ Table Memory)) };
 
-    fn from(error: BuildError) -> BuildFault {
-        BuildFault::Table(TableError::from(error))
+    fn from(error: BuildError) -> TableBuildError {
+        TableBuildError::Table(TableError::from(error))
     }
 }
 
-impl From<WriteError> for BuildFault {
+impl From<WriteError> for TableBuildError {
     ghost use Rattle.ucptrie_tables.specs.Tables.{refusal_of_write};
 
     ghost from_gives = { λ x e. e ≡ refusal_of_write x };
 
-    fn from(error: WriteError) -> BuildFault {
+    fn from(error: WriteError) -> TableBuildError {
         match error {
-            WriteError::Memory => BuildFault::Table(TableError::Memory),
-            _ => BuildFault::Binary(error),
+            WriteError::Memory => TableBuildError::Table(TableError::Memory),
+            _ => TableBuildError::Binary(error),
         }
     }
 }
 
-impl From<AllocError> for BuildFault {
-    ghost use Rattle.ucptab_table.specs.declared.fault.TableError.TheVariants.{Memory};
-    ghost use Rattle.ucptrie_tables.specs.declared.fault.BuildFault.TheVariants.{Table};
+impl From<AllocError> for TableBuildError {
+    ghost use Rattle.ucptab_table.specs.declared.error.TableError.TheVariants.{Memory};
+    ghost use Rattle.ucptrie_tables.specs.declared.error.TableBuildError.TheVariants.{Table};
 
     ghost from_gives = { λ _ e. e ≡ Table Memory };
 
-    fn from(_error: AllocError) -> BuildFault {
-        BuildFault::Table(TableError::Memory)
+    fn from(_error: AllocError) -> TableBuildError {
+        TableBuildError::Table(TableError::Memory)
     }
 }
 
-impl From<MemoryError> for BuildFault {
-    ghost use Rattle.ucptab_table.specs.declared.fault.TableError.TheVariants.{Memory};
-    ghost use Rattle.ucptrie_tables.specs.declared.fault.BuildFault.TheVariants.{Table};
+impl From<MemoryError> for TableBuildError {
+    ghost use Rattle.ucptab_table.specs.declared.error.TableError.TheVariants.{Memory};
+    ghost use Rattle.ucptrie_tables.specs.declared.error.TableBuildError.TheVariants.{Table};
 
     ghost from_gives = { λ _ e. e ≡ Table Memory };
 
-    fn from(_error: MemoryError) -> BuildFault {
-        BuildFault::Table(TableError::Memory)
+    fn from(_error: MemoryError) -> TableBuildError {
+        TableBuildError::Table(TableError::Memory)
     }
 }
 
 /// Why a file of the Unicode Character Database makes no table.
 #[derive(Debug, Drop, Error)]
-pub enum UnicodeFileFault {
+pub enum UnicodeFileError {
     /// A line of the file has a fault, or the file is not complete.
     #[error("{0}")]
-    File(FileFault),
+    File(FileError),
     /// What its lines say makes no table.
     #[error("{0}")]
-    Build(BuildFault),
+    Build(TableBuildError),
 }
 
-impl From<FileFault> for UnicodeFileFault {
-    ghost use Rattle.ucptrie_tables.specs.declared.fault.UnicodeFileFault.TheVariants.{File};
+impl From<FileError> for UnicodeFileError {
+    ghost use Rattle.ucptrie_tables.specs.declared.error.UnicodeFileError.TheVariants.{File};
 
     ghost from_gives = { λ x e. e ≡ File x };
 
-    fn from(error: FileFault) -> UnicodeFileFault {
-        UnicodeFileFault::File(error)
+    fn from(error: FileError) -> UnicodeFileError {
+        UnicodeFileError::File(error)
     }
 }
 
-impl From<BuildFault> for UnicodeFileFault {
-    ghost use Rattle.ucptrie_tables.specs.declared.fault.UnicodeFileFault.TheVariants.{Build};
+impl From<TableBuildError> for UnicodeFileError {
+    ghost use Rattle.ucptrie_tables.specs.declared.error.UnicodeFileError.TheVariants.{Build};
 
     ghost from_gives = { λ x e. e ≡ Build x };
 
-    fn from(error: BuildFault) -> UnicodeFileFault {
-        UnicodeFileFault::Build(error)
+    fn from(error: TableBuildError) -> UnicodeFileError {
+        UnicodeFileError::Build(error)
     }
 }
 
-impl From<AllocError> for UnicodeFileFault {
-    ghost use Rattle.ucd_files.specs.declared.fault.FileFault.TheVariants.{Memory};
-    ghost use Rattle.ucptrie_tables.specs.declared.fault.UnicodeFileFault.TheVariants.{File};
+impl From<AllocError> for UnicodeFileError {
+    ghost use Rattle.ucd_files.specs.declared.error.FileError.TheVariants.{Memory};
+    ghost use Rattle.ucptrie_tables.specs.declared.error.UnicodeFileError.TheVariants.{File};
 
     ghost from_gives = { λ _ e. e ≡ File Memory };
 
-    fn from(_error: AllocError) -> UnicodeFileFault {
-        UnicodeFileFault::File(FileFault::Memory)
+    fn from(_error: AllocError) -> UnicodeFileError {
+        UnicodeFileError::File(FileError::Memory)
     }
 }
 
 /// Why a text is not TOML, and in which line, counted from 1.
 #[derive(Clone, Copy, Debug, PartialEq, Eq)]
-pub struct TomlFault {
+pub struct TomlFileError {
     line: usize,
     error: toml::de::Error,
 }
@@ -144,13 +144,13 @@ fn line_at(text: &str, index: usize) -> usize
     line_feeds(&text.as_bytes()[..index.min(text.len())]) + 1
 }
 
-impl TomlFault {
+impl TomlFileError {
     ghost use Rattle.std.specs.Prelude.{◌≡◌, ◌+◌, take};
     ghost use Rattle.toml.specs.Errors.{span_start, IsMemory};
     ghost use Rattle.ucptrie_tables.specs.Comparison.{line_feeds};
 
     /// Returns the fault of a text, with its line.
-    pub(crate) fn new(text: &str, error: toml::de::Error) -> TomlFault
+    pub(crate) fn new(text: &str, error: toml::de::Error) -> TomlFileError
         ensures line { ¬ IsMemory error
             → result.line ≡ line_feeds (take (span_start error) text.now) + 1 }
         ensures error { result.error ≡ error }
@@ -160,7 +160,7 @@ impl TomlFault {
             None => 0,
         };
         let line = line_at(text, start);
-        TomlFault { line, error }
+        TomlFileError { line, error }
     }
 
     /// Returns the line, counted from 1.
@@ -177,18 +177,18 @@ impl TomlFault {
 }
 
 /// Writes the line and the message, without a line feed.
-impl fmt::Display for TomlFault {
+impl fmt::Display for TomlFileError {
     fn fmt<W: fmt::Write>(&self, f: &mut fmt::Formatter<W>) -> fmt::Result {
         let (line, message) = (self.line, self.message());
         write!(f, "line {line}: {message}")
     }
 }
 
-impl error::Error for TomlFault {}
+impl error::Error for TomlFileError {}
 
 /// Why a file has no table.
 #[derive(Debug, Drop, Error)]
-pub enum ReadFault {
+pub enum ReadError {
     /// It has the signature of ICU's binary form, and is not a trie in it.
     #[error("not a trie in ICU's binary form: {0}")]
     Binary(BinaryError),
@@ -203,7 +203,7 @@ pub enum ReadFault {
     TrieJson(TrieJsonError),
     /// It is not TOML, nor in any of the other forms.
     #[error("not TOML: {0}")]
-    Toml(TomlFault),
+    Toml(TomlFileError),
     /// Its TOML is not a trie.
     #[error("the TOML is not a trie: {0}")]
     TrieToml(TrieFromTomlError),
@@ -212,76 +212,76 @@ pub enum ReadFault {
     Memory,
 }
 
-impl From<BinaryError> for ReadFault {
-    ghost use Rattle.ucptrie_tables.specs.declared.fault.ReadFault.TheVariants.{Binary};
+impl From<BinaryError> for ReadError {
+    ghost use Rattle.ucptrie_tables.specs.declared.error.ReadError.TheVariants.{Binary};
 
     ghost from_gives = { λ x e. e ≡ Binary x };
 
-    fn from(error: BinaryError) -> ReadFault {
-        ReadFault::Binary(error)
+    fn from(error: BinaryError) -> ReadError {
+        ReadError::Binary(error)
     }
 }
 
-impl From<SwappedError> for ReadFault {
+impl From<SwappedError> for ReadError {
     ghost use Rattle.ucptrie_tables.specs.Files.{refusal_of_swapped};
 
     ghost from_gives = { λ x e. e ≡ refusal_of_swapped x };
 
-    fn from(error: SwappedError) -> ReadFault {
+    fn from(error: SwappedError) -> ReadError {
         match error {
-            SwappedError::Binary(error) => ReadFault::Binary(error),
-            SwappedError::Memory => ReadFault::Memory,
+            SwappedError::Binary(error) => ReadError::Binary(error),
+            SwappedError::Memory => ReadError::Memory,
         }
     }
 }
 
-impl From<serde_json::Error> for ReadFault {
+impl From<serde_json::Error> for ReadError {
     ghost use Rattle.serde_json.specs.Errors.{IsMemory};
-    ghost use Rattle.ucptrie_tables.specs.declared.fault.ReadFault.TheVariants.{Json, Memory};
+    ghost use Rattle.ucptrie_tables.specs.declared.error.ReadError.TheVariants.{Json, Memory};
 
     ghost from_gives = { λ x e. (e ≡ Memory) ⊎ ((e ≡ Json x) × ¬ IsMemory x) };
 
-    fn from(error: serde_json::Error) -> ReadFault {
+    fn from(error: serde_json::Error) -> ReadError {
         if error.is_memory() {
-            return ReadFault::Memory;
+            return ReadError::Memory;
         }
-        ReadFault::Json(error)
+        ReadError::Json(error)
     }
 }
 
-impl From<TrieJsonError> for ReadFault {
+impl From<TrieJsonError> for ReadError {
     ghost use Rattle.ucptrie_tables.specs.Files.{refusal_of_json};
 
     ghost from_gives = { λ x e. e ≡ refusal_of_json x };
 
-    fn from(error: TrieJsonError) -> ReadFault {
+    fn from(error: TrieJsonError) -> ReadError {
         match error {
-            TrieJsonError::Memory => ReadFault::Memory,
-            _ => ReadFault::TrieJson(error),
+            TrieJsonError::Memory => ReadError::Memory,
+            _ => ReadError::TrieJson(error),
         }
     }
 }
 
-impl From<TomlError> for ReadFault {
+impl From<TomlError> for ReadError {
     ghost use Rattle.icu_trie_formats.specs.TrieToml.{table_refusal};
     ghost use Rattle.ucptrie_tables.specs.Files.{refusal_of_toml};
 
     ghost from_gives = { λ x e. e ≡ refusal_of_toml (table_refusal x) };
 
-    fn from(error: TomlError) -> ReadFault {
-        ReadFault::from(TrieFromTomlError::from(error))
+    fn from(error: TomlError) -> ReadError {
+        ReadError::from(TrieFromTomlError::from(error))
     }
 }
 
-impl From<TrieFromTomlError> for ReadFault {
+impl From<TrieFromTomlError> for ReadError {
     ghost use Rattle.ucptrie_tables.specs.Files.{refusal_of_toml};
 
     ghost from_gives = { λ x e. e ≡ refusal_of_toml x };
 
-    fn from(error: TrieFromTomlError) -> ReadFault {
+    fn from(error: TrieFromTomlError) -> ReadError {
         match error {
-            TrieFromTomlError::Memory => ReadFault::Memory,
-            _ => ReadFault::TrieToml(error),
+            TrieFromTomlError::Memory => ReadError::Memory,
+            _ => ReadError::TrieToml(error),
         }
     }
 }
