@@ -2,8 +2,12 @@
 import os
 import shutil
 import subprocess
+import sys
 
 from running import BUILD, CC, CXX, STRICT, TOP, passes, prints
+
+sys.path.insert(0, f"{TOP}/tests/lib")
+import example_programs
 
 
 ILL_FORMED = "a Ll\nb Ll\nE4 B8 ill-formed\nc Ll\nd Ll\n"
@@ -31,6 +35,32 @@ def examples(room, icu):
     if shutil.which(CXX):
         lines = f"{text}\n\n" * 9000
         yield prints("kept.cpp", [f"{room}/shown", tables[0]], "A\u00df7 \u4e16\n\n" * 9000, os.environ, lines)
+    yield from dictionary(room, flags)
+    yield from graphemes(room, flags) if example_programs.has_unicode_data() else []
+
+
+def dictionary(room, flags):
+    """A text cut into the words of a list, as a dict of Python finds them."""
+    words = f"{room}/words.icu"
+    yield example_programs.write_words(f"{TOP}/ucptrie", f"{room}/words.txt", words)
+    yield passes("dictionary.c", [CC, "-std=c99", *STRICT, "-o", f"{room}/dictionary", f"{TOP}/c/examples/dictionary.c", *flags])
+    yield prints("dictionary.c", [f"{room}/dictionary", words], example_programs.pieces(), os.environ, example_programs.text())
+
+
+def graphemes(room, flags):
+    """The clusters of the texts of Unicode's GraphemeBreakTest.txt."""
+    breaks = f"{room}/breaks"
+    example_programs.write_breaks(f"{breaks}.txt")
+    build = [f"{TOP}/ucptrie", "build", f"{breaks}.txt", "--width", "8", "--as"]
+    yield passes("breaks.icu", [*build, "icu", "-o", f"{breaks}.icu"])
+    yield passes("breaks.h", [*build, "c", "--name", "breaks", "-o", f"{breaks}.h"])
+    words = [CC, "-std=c99", *STRICT, f"-I{room}", "-o", f"{room}/graphemes", f"{TOP}/c/examples/graphemes.c"]
+    yield passes("graphemes.c", [*words, *flags])
+    cut = lambda text: subprocess.run([f"{room}/graphemes", f"{breaks}.icu", text], stdout=subprocess.PIPE).stdout
+    texts = example_programs.clusters()
+    wrong = [it for it in texts if cut("".join(it)) != f"{'|'.join(it)}\n".encode()]
+    print(f"graphemes.c: {len(texts)} texts of Unicode, {len(wrong)} wrong")
+    yield len(texts) > 500 and not wrong
 
 
 def made_by_icu(room, flags):

@@ -11,7 +11,7 @@ fn main() -> Result<(), Box<dyn std::error::Error>> {
     for (word, number) in trie.iter2() {
         println!("{word}: {number}");
     }
-    // The length is in units of UTF-16.
+    // The length is in bytes of the text.
     assert_eq!(trie.longest_match_str("inning"), Some((3, 1)));
     assert_eq!(trie.longest_match_str("outer"), Some((3, 3)));
     Ok(())

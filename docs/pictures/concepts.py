@@ -1,0 +1,175 @@
+"""The pictures of docs/CONCEPTS.md, from the rows of data/general_category.txt and what ucptrie makes of
+them."""
+from picture import BLUE, GREEN, GREY, INK, PALE, Picture
+
+# The classes of general categories, by the first letter of their names, and their colours.
+CLASSES = {
+    "L": ("letter", "#0b62c4"),
+    "M": ("mark", "#8250df"),
+    "N": ("number", "#1a7f45"),
+    "P": ("punctuation", "#bf5a00"),
+    "S": ("symbol", "#c9267a"),
+    "Z": ("separator", "#5a6670"),
+    "C": ("control, private or unassigned", "#d0d7de"),
+}
+# The blocks of 64 code points in the picture of a trie.
+BLOCKS = (0x0000, 0x0040, 0x0400, 0x0440, 0x0480, 0x4E00, 0x4E40, 0x4E80, 0xE000, 0xE040)
+WORDS = {"car": 2, "cat": 3, "category": 4}
+
+
+def draw_trie(trie, names):
+    """Blocks of 64 code points, of which equal ones share their cells in the data."""
+    index, data = trie["index"], trie["data"]
+    picture = Picture(1000, 430, "Equal blocks of a code point trie share their cells")
+    picture.text(30, 38, "A fast code point trie: one index cell for each block of 64 code points", font_size=20)
+    shared = len({tuple(data[it : it + 64]) for it in index[:1024]})
+    said = f"general categories: the 1,024 blocks below U+10000 need {shared} different blocks of data"
+    picture.text(30, 62, said, GREY)
+    offsets = sorted({index[it // 64] for it in BLOCKS})
+    width, top, below = 940 / len(BLOCKS), 118, 236
+    x_of = {it: 30 + 940 * (2 * k + 1) / (2 * len(offsets)) for k, it in enumerate(offsets)}
+    picture.text(30, 90, "index: the offset of each block", BLUE)
+    for k, first in enumerate(BLOCKS):
+        x, offset = 30 + width * (k + 0.5), index[first // 64]
+        picture.text(x, top, f"U+{first:04X}", GREY, text_anchor="middle", font_size=12)
+        picture.box(x - 34, top + 8, 68, 26, BLUE, rx=3)
+        picture.text(x, top + 26, offset, "#ffffff", text_anchor="middle")
+        picture.line(x, top + 34, x_of[offset], below - 22, GREY, stroke_width=1)
+    for offset in offsets:
+        picture.text(x_of[offset], below - 8, f"from cell {offset}", INK, text_anchor="middle", font_size=12)
+        for k, value in enumerate(data[offset : offset + 64]):
+            colour = CLASSES[names[value][0]][1]
+            picture.box(x_of[offset] - 48 + 12 * (k % 8), below + 12 * (k // 8), 11, 11, colour, rx=1)
+    x = 30
+    picture.text(x, 362, "data: 64 values in each block, here by their class", GREEN)
+    for name, colour in CLASSES.values():
+        picture.box(x, 380, 11, 11, colour, rx=1)
+        picture.text(x + 17, 390, name, INK, font_size=12)
+        x += 34 + 7 * len(name)
+    picture.write("trie.svg")
+
+
+def boundaries(rows, value):
+    """The boundaries of the set of a value."""
+    ends = []
+    for first, last, _ in sorted(it for it in rows if it[2] == value):
+        if ends and ends[-1] == first:
+            ends.pop()
+            first = None
+        ends += [last + 1] if first is None else [first, last + 1]
+    return ends
+
+
+def draw_inversion_list(rows, value):
+    """The start of a set on a line, with its boundaries."""
+    ends, start, end = boundaries(rows, value), 0x30, 0x108
+    picture = Picture(1000, 300, "The boundaries of a set of code points")
+    picture.text(30, 38, "A set of code points: the ascending list of its boundaries", font_size=20)
+    picture.text(30, 62, f"Lu, the uppercase letters: {len(ends):,} boundaries, {len(ends) // 2} ranges", GREY)
+    scale = 940 / (end - start)
+    x_of = lambda c: 30 + scale * (c - start)
+    shown = [it for it in ends if start <= it < end]
+    picture.box(30, 120, 940, 30, PALE)
+    for first, last in zip(ends[::2], ends[1::2]):
+        if first < end:
+            picture.box(x_of(first), 120, scale * (min(last, end) - first), 30, BLUE)
+    crowded = -100
+    for k, it in enumerate(shown):
+        picture.line(x_of(it), 112, x_of(it), 158, INK, stroke_width=1)
+        if x_of(it) - crowded >= 24:
+            picture.text(x_of(it), 106, f"{it:X}", INK, text_anchor="middle", font_size=12)
+            crowded = x_of(it)
+    picture.text(970, 174, "and so on", GREY, text_anchor="end", font_size=12)
+    for c, y in ((0x61, 200), (0x51, 250)):
+        count = sum(it <= c for it in ends)
+        kind = "odd: in the set" if count % 2 else "even: not in the set"
+        picture.line(x_of(c), 154, x_of(c), y - 14, GREEN if count % 2 else GREY, stroke_width=1.5)
+        said = f"U+{c:04X} {chr(c)}: {count} {'boundary is' if count == 1 else 'boundaries are'} at or below it, {kind}"
+        picture.text(x_of(c) - 4, y, said, GREEN if count % 2 else INK)
+    picture.text(30, 282, f"stored: {', '.join(f'{it:X}' for it in ends[:10])}, ..", GREY, font_size=12)
+    picture.write("inversion_list.svg")
+
+
+def draw_frozen(words, rows, value):
+    """A bit for each code point: blocks of 256, of which equal ones share their words."""
+    offset = lambda block: words[block // 4] >> 16 * (block % 4) & 0xFFFF
+    blocks = (0x00, 0x01, 0x4E, 0x4F)
+    picture = Picture(1000, 392, "A frozen set")
+    picture.text(30, 38, "A frozen set: one bit for each code point, in blocks of 256", font_size=20)
+    count = len({offset(it) for it in range(4352)})
+    said = f"Lu, the uppercase letters: {count} different blocks of four words, {len(words):,} words with the offsets"
+    picture.text(30, 62, said, GREY)
+    picture.text(30, 92, "the offset of each block of 256 code points, in words", BLUE)
+    found = list(dict.fromkeys(offset(it) for it in blocks))
+    x_of = {it: 30 + 940 * (2 * k + 1) / (2 * len(found)) for k, it in enumerate(found)}
+    for k, block in enumerate(blocks):
+        x = 30 + 940 * (2 * k + 1) / (2 * len(blocks))
+        picture.text(x, 116, f"U+{256 * block:04X}", GREY, text_anchor="middle", font_size=12)
+        picture.box(x - 34, 124, 68, 26, BLUE, rx=3)
+        picture.text(x, 142, offset(block), "#ffffff", text_anchor="middle")
+        picture.line(x, 150, x_of[offset(block)], 186, GREY, stroke_width=1)
+    inside = {c for first, last in zip(*[iter(boundaries(rows, value))] * 2) for c in range(first, last)}
+    for it in found:
+        picture.text(x_of[it], 200, f"from word {it}", INK, text_anchor="middle", font_size=12)
+        block = next(b for b in blocks if offset(b) == it)
+        for bit in range(256):
+            is_set = words[1088 + it + bit // 64] >> bit % 64 & 1
+            assert is_set == (256 * block + bit in inside)
+            x, y = x_of[it] - 144 + 9 * (bit % 32), 210 + 14 * (bit // 32)
+            picture.box(x, y, 8, 12, GREEN if is_set else PALE, rx=1)
+    picture.text(30, 350, "each word has the bits of 64 code points, here in two lines; green is 1", GREEN)
+    said = "U+0051 Q: the block of U+0000, its second word, bit 17 counted from 0"
+    picture.text(30, 374, said, INK)
+    picture.write("frozen.svg")
+
+
+def nodes_of(units):
+    """What each unit of a small unit trie is. Only the short forms of the format are read."""
+    at = 0
+    while at < len(units):
+        lead = units[at]
+        if lead >= 0x8000:
+            yield f"value {lead - 0x8000}", "", GREEN
+            at += 1
+            continue
+        value, low = lead >> 6, lead & 0x3F
+        before = f"value {value - 1}, " if value else ""
+        if low >= 0x30:
+            yield f"{before}next {low - 0x2F}", "", BLUE
+            for unit in units[at + 1 : at + low - 0x2E]:
+                yield chr(unit), "", PALE
+            at += low - 0x2E
+            continue
+        yield f"{before}one of {low + 1}", "", BLUE
+        for k in range(low):
+            yield chr(units[at + 1 + 2 * k]), "", PALE
+            yield f"value {units[at + 2 + 2 * k] - 0x8000}", "", GREEN
+        yield chr(units[at + 1 + 2 * low]), "", PALE
+        at += 2 + 2 * low
+
+
+def draw_unit_trie(units):
+    """The units of three words, and how a text is matched."""
+    picture = Picture(1000, 330, "A unit trie")
+    picture.text(30, 38, "A unit trie: keys of 16-bit units, each with a number", font_size=20)
+    said = ", ".join(f"{key} {value}" for key, value in WORDS.items())
+    picture.text(30, 62, f"{said}: {len(units)} units, {2 * len(units)} bytes", GREY)
+    width = 940 / len(units)
+    for k, (unit, (what, _, colour)) in enumerate(zip(units, nodes_of(units), strict=True)):
+        x = 30 + width * (k + 0.5)
+        picture.box(x - width / 2 + 2, 104, width - 4, 30, colour, rx=3)
+        picture.text(x, 124, f"{unit:04X}", INK if colour == PALE else "#ffffff", text_anchor="middle", font_size=14)
+        for line, word in enumerate(what.split(", ")):
+            picture.text(x, 152 + 16 * line, word, INK, text_anchor="middle", font_size=12)
+    picture.text(30, 212, "The longest key that is a prefix of “categories”:", INK, font_size=15)
+    steps = (
+        ("c a", "the next 2 units match"),
+        ("t", "one of 2: r and t. A key ends here: cat, 3"),
+        ("e g o r", "the next 5 units are egory: 4 of them match"),
+        ("i", "is not y: no key continues, so the longest is cat"),
+    )
+    for k, (read, what) in enumerate(steps):
+        y = 240 + 22 * k
+        picture.text(110, y, read, BLUE, text_anchor="end", font_weight="bold")
+        picture.text(126, y, what, INK)
+    picture.write("unit_trie.svg")
