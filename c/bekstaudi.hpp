@@ -40,7 +40,7 @@
 
 namespace bekstaudi {
 
-// Thrown if the bytes are not a trie of this width. status() is the first fault.
+/// Thrown if the bytes are not a trie of this width. status() is the first fault.
 class trie_refused : public std::invalid_argument {
 public:
     explicit trie_refused(bks_status status)
@@ -51,20 +51,20 @@ private:
     bks_status status_;
 };
 
-// Thrown if the numbers are not the boundaries of a set.
+/// Thrown if the numbers are not the boundaries of a set.
 class set_refused : public std::invalid_argument {
 public:
     using std::invalid_argument::invalid_argument;
 };
 
-// Thrown if the part of a text that is read is not UTF-8.
+/// Thrown if the part of a text that is read is not UTF-8.
 class text_refused : public std::invalid_argument {
 public:
     text_refused() : std::invalid_argument("bekstaudi: the text is not UTF-8") {}
 };
 
-// Consecutive items of a container or an array, like std::span<const T> of C++20, with only what is
-// needed here.
+/// Consecutive items of a container or an array, like std::span<const T> of C++20, with only what is
+/// needed here.
 template <class T>
 class view {
 public:
@@ -77,7 +77,7 @@ public:
     constexpr std::size_t size() const noexcept { return size_; }
 
 private:
-    // data() is never NULL: a view without items points to this one.
+    /// data() is never NULL: a view without items points to this one.
     static constexpr T none{};
     const T *data_;
     std::size_t size_;
@@ -99,12 +99,12 @@ inline constexpr bool outlived<std::basic_string_view<Unit, Traits>> = true;
 template <class T>
 inline constexpr bool outlived<view<T>> = true;
 
-// Enabled for a temporary container.
+/// Enabled for a temporary container.
 template <class C>
 using if_temporary =
     std::enable_if_t<!outlived<C>, decltype(std::data(std::declval<const C &>()))>;
 
-// Returns the count that a function returned, or throws the error that it reports.
+/// Returns the count that a function returned, or throws the error that it reports.
 inline std::size_t answered(std::int64_t answer) {
     if (answer >= 0) return static_cast<std::size_t>(answer);
     if (answer == BKS_NO_MEMORY) throw std::bad_alloc();
@@ -113,17 +113,17 @@ inline std::size_t answered(std::int64_t answer) {
     throw set_refused("bekstaudi: no set"); // BKS_NO_SET
 }
 
-// Returns the units of a text in UTF-16, as C has them.
+/// Returns the units of a text in UTF-16, as C has them.
 inline view<std::uint16_t> units_of(std::u16string_view text) noexcept {
     return {reinterpret_cast<const std::uint16_t *>(text.data()), text.size()};
 }
 
-// Returns the code points of a text in UTF-32, as C has them.
+/// Returns the code points of a text in UTF-32, as C has them.
 inline view<std::uint32_t> points_of(std::u32string_view text) noexcept {
     return {reinterpret_cast<const std::uint32_t *>(text.data()), text.size()};
 }
 
-// Returns a text of code points in UTF-16, or nothing if one is above 0x10FFFF.
+/// Returns a text of code points in UTF-16, or nothing if one is above 0x10FFFF.
 inline std::optional<std::u16string> utf16_of(std::u32string_view text) {
     std::u16string units;
     for (char32_t c : text) {
@@ -134,7 +134,7 @@ inline std::optional<std::u16string> utf16_of(std::u32string_view text) {
     return units;
 }
 
-// Returns the longest prefix whose code points are all in a set, or all outside it.
+/// Returns the longest prefix whose code points are all in a set, or all outside it.
 template <class Set>
 std::u32string_view span_of(const Set &set, std::u32string_view text, bool held) noexcept {
     std::size_t size = 0;
@@ -143,14 +143,14 @@ std::u32string_view span_of(const Set &set, std::u32string_view text, bool held)
 }
 
 #ifdef __cpp_lib_char8_t
-// Returns a text in UTF-8 as C has it.
+/// Returns a text in UTF-8 as C has it.
 inline std::string_view bytes_of(std::u8string_view text) noexcept {
     return {reinterpret_cast<const char *>(text.data()), text.size()};
 }
 #endif
 
-// Returns the boundaries that a call writes. The call is made again with a larger buffer if there
-// are more than `room`.
+/// Returns the boundaries that a call writes. The call is made again with a larger buffer if there
+/// are more than `room`.
 template <class Call>
 std::vector<std::uint32_t> ends_of(std::size_t room, Call call) {
     std::vector<std::uint32_t> ends(room ? room : 1);
@@ -166,14 +166,14 @@ std::vector<std::uint32_t> ends_of(std::size_t room, Call call) {
 
 }  // namespace detail
 
-// A set of code points, stored as the list of its boundaries (ICU: UnicodeSet).
+/// A set of code points, stored as the list of its boundaries (ICU: UnicodeSet).
 class code_point_set {
 public:
-    // Makes the empty set.
+    /// Makes the empty set.
     code_point_set() = default;
 
-    // Makes the set with these boundaries: {0x41, 0x5B} is A to Z. Throws set_refused if they are
-    // not the boundaries of a set.
+    /// Makes the set with these boundaries: {0x41, 0x5B} is A to Z. Throws set_refused if they are
+    /// not the boundaries of a set.
     explicit code_point_set(view<std::uint32_t> ends)
         : ends_(ends.data(), ends.data() + ends.size()) {
         if (!bks_set_test(ends.data(), ends.size()))
@@ -182,12 +182,12 @@ public:
     code_point_set(std::initializer_list<std::uint32_t> ends)
         : code_point_set(view<std::uint32_t>(ends.begin(), ends.size())) {}
 
-    // The code points from `first` to `last`, both included.
+    /// The code points from `first` to `last`, both included.
     using range = bks_interval;
 
-    // Makes the set of all code points in these ranges, which may be in any order and may overlap.
-    // A range whose first code point is above its last one has none, and code points above 0x10FFFF
-    // are left out. Takes O(n log n) time (ICU: uset_addRange, range by range).
+    /// Makes the set of all code points in these ranges, which may be in any order and may overlap.
+    /// A range whose first code point is above its last one has none, and code points above 0x10FFFF
+    /// are left out. Takes O(n log n) time (ICU: uset_addRange, range by range).
     static code_point_set from_ranges(view<range> ranges) {
         return made(2 * ranges.size(), [&](std::uint32_t *ends, std::size_t room) {
             return bks_set_from_ranges(ranges.data(), ranges.size(), ends, room);
@@ -197,8 +197,8 @@ public:
         return from_ranges(view<range>(ranges.begin(), ranges.size()));
     }
 
-    // Makes the set of these code points, in any order: a range of integers, or a text in UTF-32.
-    // Numbers that are not from 0 to 0x10FFFF are left out.
+    /// Makes the set of these code points, in any order: a range of integers, or a text in UTF-32.
+    /// Numbers that are not from 0 to 0x10FFFF are left out.
     template <class Points>
     static code_point_set from_points(const Points &points) {
         if constexpr (std::is_convertible_v<const Points &, std::u32string_view>)
@@ -213,7 +213,7 @@ public:
     const std::vector<std::uint32_t> &ends() const noexcept { return ends_; }
     bool empty() const noexcept { return ends_.empty(); }
 
-    // Returns the ranges of the set, in ascending order. No two of them are adjacent.
+    /// Returns the ranges of the set, in ascending order. No two of them are adjacent.
     std::vector<range> ranges() const {
         std::vector<range> found;
         found.reserve(ends_.size() / 2);
@@ -222,7 +222,7 @@ public:
         return found;
     }
 
-    // Iterates over all code points, in order and backwards: for (std::uint32_t c : set) ..
+    /// Iterates over all code points, in order and backwards: for (std::uint32_t c : set) ..
     class iterator {
     public:
         using iterator_category = std::bidirectional_iterator_tag;
@@ -278,7 +278,7 @@ public:
         return {ends_.data() + ends_.size(), ends_.data() + ends_.size()};
     }
 
-    // Returns the code point at this index, if the set has that many (ICU: uset_charAt).
+    /// Returns the code point at this index, if the set has that many (ICU: uset_charAt).
     std::optional<std::uint32_t> nth(std::size_t index) const noexcept {
         std::uint32_t c = 0;
         if (index > 0x10FFFF) return std::nullopt;
@@ -287,15 +287,15 @@ public:
         return c;
     }
 
-    // Returns the index of a code point among those of the set, if it is in the set (ICU:
-    // uset_indexOf).
+    /// Returns the index of a code point among those of the set, if it is in the set (ICU:
+    /// uset_indexOf).
     std::optional<std::size_t> index_of(std::uint32_t c) const noexcept {
         std::uint32_t index = 0;
         if (!bks_set_index_of(of().data(), ends_.size(), c, &index)) return std::nullopt;
         return index;
     }
 
-    // Returns whether the set contains all code points of another one (ICU: uset_containsAll).
+    /// Returns whether the set contains all code points of another one (ICU: uset_containsAll).
     bool contains_all(const code_point_set &other) const noexcept {
         return bks_set_contains_all(of().data(), ends_.size(), other.of().data(),
                                     other.ends_.size());
@@ -305,37 +305,39 @@ public:
         return bks_set_contains(of().data(), ends_.size(), c);
     }
 
-    // Returns how many code points the set contains, surrogates included.
+    /// Returns how many code points the set contains, surrogates included.
     std::size_t size() const {
         return detail::answered(bks_set_size(of().data(), ends_.size()));
     }
 
-    // Returns the longest prefix of a text in UTF-8 whose characters are all in the set or, if
-    // `held` is false, all outside it. An ill-formed sequence ends it. Throws text_refused if the
-    // text is not empty and does not start with a character.
+    /// Returns the longest prefix of a text in UTF-8 whose characters are all in the set or, if
+    /// `held` is false, all outside it. An ill-formed sequence ends it. Throws text_refused if the
+    /// text is not empty and does not start with a character.
     std::string_view span(std::string_view text, bool held = true) const {
         view<char> bytes(text);
         return text.substr(0, detail::answered(bks_set_span(of().data(), ends_.size(), bytes.data(),
                                                             bytes.size(), held)));
     }
 
-    // Returns the longest suffix of such characters. Throws text_refused if the text is not empty
-    // and does not end with a character.
+    /// Returns the longest suffix of a text in UTF-8 whose characters are all in the set or, if
+    /// `held` is false, all outside it. An ill-formed sequence ends it. Throws text_refused if the
+    /// text is not empty and does not end with a character.
     std::string_view span_back(std::string_view text, bool held = true) const {
         view<char> bytes(text);
         return text.substr(detail::answered(bks_set_span_back(of().data(), ends_.size(),
                                                               bytes.data(), bytes.size(), held)));
     }
 
-    // Returns the longest prefix of a text in UTF-16 whose code points are all in the set or, if
-    // `held` is false, all outside it. An unpaired surrogate is a code point of its own.
+    /// Returns the longest prefix of a text in UTF-16 whose code points are all in the set or, if
+    /// `held` is false, all outside it. An unpaired surrogate is a code point of its own.
     std::u16string_view span(std::u16string_view text, bool held = true) const {
         view<std::uint16_t> units = detail::units_of(text);
         return text.substr(
             0, bks_set_span_utf16(of().data(), ends_.size(), units.data(), units.size(), held));
     }
 
-    // The same for a text in UTF-32, and spans as above of a text of char8_t.
+    /// Returns the longest prefix of a text in UTF-32 whose numbers are all in the set or, if `held`
+    /// is false, all outside it. Texts of char8_t have the spans of UTF-8, from C++20 on.
     std::u32string_view span(std::u32string_view text, bool held = true) const noexcept {
         return detail::span_of(*this, text, held);
     }
@@ -360,7 +362,7 @@ public:
     friend code_point_set operator^(const code_point_set &a, const code_point_set &b) {
         return made(bks_set_symmetric_difference, a, b);
     }
-    // Returns the code points that are not in the set (ICU: uset_complement).
+    /// Returns the code points that are not in the set (ICU: uset_complement).
     code_point_set operator~() const {
         return made(ends_.size() + 2, [&](std::uint32_t *ends, std::size_t room) {
             return bks_set_complement(of().data(), ends_.size(), ends, room);
@@ -372,7 +374,7 @@ public:
     code_point_set &operator-=(const code_point_set &other) { return *this = *this - other; }
     code_point_set &operator^=(const code_point_set &other) { return *this = *this ^ other; }
 
-    // An order for ordered containers: that of the lists of boundaries. It says nothing of subsets.
+    /// An order for ordered containers: that of the lists of boundaries. It says nothing of subsets.
     friend bool operator<(const code_point_set &a, const code_point_set &b) noexcept {
         return a.ends_ < b.ends_;
     }
@@ -411,7 +413,7 @@ private:
         });
     }
 
-    // Whether a type has the units of UTF-8 or UTF-16.
+    /// Whether a type has the units of UTF-8 or UTF-16.
     template <class T>
     static constexpr bool is_unit = std::is_same_v<T, char> || std::is_same_v<T, char16_t>
 #ifdef __cpp_char8_t
@@ -419,7 +421,7 @@ private:
 #endif
         ;
 
-    // The set whose boundaries a call writes, at most `room` of them.
+    /// The set whose boundaries a call writes, at most `room` of them.
     template <class Call>
     static code_point_set made(std::size_t room, Call call) {
         code_point_set set;
@@ -430,11 +432,11 @@ private:
     std::vector<std::uint32_t> ends_;
 };
 
-// A set of code points for many look-ups, of two reads each (ICU: a frozen UnicodeSet). A move
-// copies the words, so no frozen set is ever without words.
+/// A set of code points for many look-ups, of two reads each (ICU: a frozen UnicodeSet). A move
+/// copies the words, so no frozen set is ever without words.
 class frozen_set {
 public:
-    // Makes the empty set.
+    /// Makes the empty set.
     frozen_set() : frozen_set(code_point_set()) {}
     explicit frozen_set(const code_point_set &set) {
         view<std::uint32_t> ends(set.ends());
@@ -452,37 +454,39 @@ public:
     frozen_set(const frozen_set &) = default;
     frozen_set &operator=(const frozen_set &) = default;
 
-    // Returns the words, in the layout of bks_set_freeze: store them, or pass them to C.
+    /// Returns the words, in the layout of bks_set_freeze: store them, or pass them to C.
     const std::vector<std::uint64_t> &words() const noexcept { return words_; }
 
     bool contains(std::uint32_t c) const noexcept { return bks_frozen_has(words_.data(), c); }
 
-    // Returns the longest prefix of a text in UTF-8 whose characters are all in the set or, if
-    // `held` is false, all outside it. An ill-formed sequence ends it. Throws text_refused if the
-    // text is not empty and does not start with a character.
+    /// Returns the longest prefix of a text in UTF-8 whose characters are all in the set or, if
+    /// `held` is false, all outside it. An ill-formed sequence ends it. Throws text_refused if the
+    /// text is not empty and does not start with a character.
     std::string_view span(std::string_view text, bool held = true) const {
         view<char> bytes(text);
         return {text.data(), detail::answered(bks_frozen_span(words_.data(), words_.size(),
                                                               bytes.data(), bytes.size(), held))};
     }
 
-    // Returns the longest suffix of such characters. Throws text_refused if the text is not empty
-    // and does not end with a character.
+    /// Returns the longest suffix of a text in UTF-8 whose characters are all in the set or, if
+    /// `held` is false, all outside it. An ill-formed sequence ends it. Throws text_refused if the
+    /// text is not empty and does not end with a character.
     std::string_view span_back(std::string_view text, bool held = true) const {
         view<char> bytes(text);
         return text.substr(detail::answered(bks_frozen_span_back(
             words_.data(), words_.size(), bytes.data(), bytes.size(), held)));
     }
 
-    // Returns the longest prefix of a text in UTF-16 whose code points are all in the set or, if
-    // `held` is false, all outside it. An unpaired surrogate is a code point of its own.
+    /// Returns the longest prefix of a text in UTF-16 whose code points are all in the set or, if
+    /// `held` is false, all outside it. An unpaired surrogate is a code point of its own.
     std::u16string_view span(std::u16string_view text, bool held = true) const {
         view<std::uint16_t> units = detail::units_of(text);
         return text.substr(0, bks_frozen_span_utf16(words_.data(), words_.size(), units.data(),
                                                     units.size(), held));
     }
 
-    // The same for a text in UTF-32, and spans as above of a text of char8_t.
+    /// Returns the longest prefix of a text in UTF-32 whose numbers are all in the set or, if `held`
+    /// is false, all outside it. Texts of char8_t have the spans of UTF-8, from C++20 on.
     std::u32string_view span(std::u32string_view text, bool held = true) const noexcept {
         return detail::span_of(*this, text, held);
     }
@@ -499,8 +503,8 @@ private:
     std::vector<std::uint64_t> words_;
 };
 
-// A trie whose values have 8, 16 or 32 bits (ICU: UCPTrie). The bytes that it was opened from have
-// to stay at their address, unchanged, while it or a copy of it is used.
+/// A trie whose values have 8, 16 or 32 bits (ICU: UCPTrie). The bytes that it was opened from have
+/// to stay at their address, unchanged, while it or a copy of it is used.
 template <class Value>
 class trie {
     static_assert(std::is_same_v<Value, std::uint8_t> || std::is_same_v<Value, std::uint16_t> ||
@@ -508,11 +512,11 @@ class trie {
                   "the values of a trie have 8, 16 or 32 bits");
 
 public:
-    // Makes a trie without cells, whose values are all 0.
+    /// Makes a trie without cells, whose values are all 0.
     trie() = default;
 
-    // Opens the trie at the start of the bytes. Throws trie_refused if there is none, or one of
-    // another width (BKS_OTHER_WIDTH).
+    /// Opens the trie at the start of the bytes. Throws trie_refused if there is none, or one of
+    /// another width (BKS_OTHER_WIDTH).
     trie(const void *bytes, std::size_t size) {
         auto status = static_cast<bks_status>(bks_open(&trie_, bytes ? bytes : "", size));
         if (status == BKS_OK && trie_.width != sizeof(Value)) status = BKS_OTHER_WIDTH;
@@ -525,7 +529,7 @@ public:
     template <class C, class = detail::if_temporary<C>>
     explicit trie(const C &&bytes) = delete;
 
-    // Return the trie as C sees it, and how many of the bytes it takes.
+    /// Return the trie as C sees it, and how many of the bytes it takes.
     const bks_trie &as_c() const noexcept { return trie_; }
     std::size_t size_bytes() const noexcept { return trie_.size; }
 
@@ -540,16 +544,16 @@ public:
             return bks_get32(&trie_, c);
     }
 
-    // Returns the values of the characters of a UTF-8 text, in order. Each ill-formed part has the
-    // error value, as in bks_trie8_copy_utf8 (ICU: UCPTRIE_FAST_U8_NEXT in a loop).
+    /// Returns the values of the characters of a UTF-8 text, in order. Each ill-formed part has the
+    /// error value, as in bks_trie8_copy_utf8 (ICU: UCPTRIE_FAST_U8_NEXT in a loop).
     std::vector<Value> values_of(std::string_view text) const {
         std::vector<Value> values(text.size());
         values.resize(copy_values(text, values.data(), values.size()).values);
         return values;
     }
 
-    // Writes these values to a buffer, as many as fit. Returns how many it wrote, and how many bytes
-    // of the text these are for: go on after them with the next buffer.
+    /// Writes these values to a buffer, as many as fit. Returns how many it wrote, and how many bytes
+    /// of the text these are for: go on after them with the next buffer.
     struct copied {
         std::size_t values, bytes;
     };
@@ -560,8 +564,8 @@ public:
         return done;
     }
 
-    // Returns the values of the code points of a text in UTF-16, in order. An unpaired surrogate is a
-    // code point of its own (ICU: U16_NEXT and ucptrie_get in a loop).
+    /// Returns the values of the code points of a text in UTF-16, in order. An unpaired surrogate is a
+    /// code point of its own (ICU: U16_NEXT and ucptrie_get in a loop).
     std::vector<Value> values_of(std::u16string_view text) const {
         view<std::uint16_t> units = detail::units_of(text);
         std::vector<Value> values(text.size());
@@ -570,7 +574,7 @@ public:
         return values;
     }
 
-    // The same for a text in UTF-32, and values as above of a text of char8_t.
+    /// The same for a text in UTF-32, and values as above of a text of char8_t.
     std::vector<Value> values_of(std::u32string_view text) const {
         view<std::uint32_t> points = detail::points_of(text);
         std::vector<Value> values(text.size());
@@ -587,18 +591,18 @@ public:
     }
 #endif
 
-    // Returns whether the ranges are the longest runs of equal values, as in every trie that ICU or
-    // this library built.
+    /// Returns whether the ranges are the longest runs of equal values, as in every trie that ICU or
+    /// this library built.
     bool is_coherent() const noexcept { return bks_trie_is_coherent(&trie_); }
 
-    // Returns the range of one value that starts at c (ICU: ucptrie_getRange). There is none if c
-    // is above 0x10FFFF, or if the trie lacks a cell.
+    /// Returns the range of one value that starts at c (ICU: ucptrie_getRange). There is none if c
+    /// is above 0x10FFFF, or if the trie lacks a cell.
     std::optional<bks_range> range(std::uint32_t c) const noexcept {
         bks_range found = bks_trie_range(&trie_, c);
         return found.found ? std::optional<bks_range>(found) : std::nullopt;
     }
 
-    // Iterates over all ranges, in order: for (const bks_range &range : trie) ..
+    /// Iterates over all ranges, in order: for (const bks_range &range : trie) ..
     class iterator {
     public:
         using iterator_category = std::input_iterator_tag;
@@ -644,7 +648,7 @@ public:
     iterator begin() const noexcept { return iterator(trie_); }
     iterator end() const noexcept { return iterator(); }
 
-    // Returns the set of the code points in ranges of this value.
+    /// Returns the set of the code points in ranges of this value.
     code_point_set set_of(Value value) const {
         code_point_set set;
         auto call = [&](std::uint32_t *ends, std::size_t room) {
@@ -655,7 +659,7 @@ public:
     }
 
 private:
-    // Returns the one of three functions that is for the width of the values.
+    /// Returns the one of three functions that is for the width of the values.
     template <class Of8, class Of16, class Of32>
     static constexpr auto of_width([[maybe_unused]] Of8 of_8, [[maybe_unused]] Of16 of_16,
                                    [[maybe_unused]] Of32 of_32) noexcept {
@@ -670,7 +674,7 @@ private:
     bks_trie trie_ = {};
 };
 
-// Thrown by build if no trie can be built from the rows.
+/// Thrown by build if no trie can be built from the rows.
 class row_refused : public std::invalid_argument {
 public:
     explicit row_refused(bks_refusal refusal)
@@ -678,15 +682,15 @@ public:
                                     ? "bekstaudi: a value has more bits than the trie's"
                                     : "bekstaudi: the trie of these rows would be too large"),
           refusal_(refusal) {}
-    // Returns BKS_WIDE_VALUE if a value has more bits than the trie's, or BKS_TOO_LARGE.
+    /// Returns BKS_WIDE_VALUE if a value has more bits than the trie's, or BKS_TOO_LARGE.
     bks_refusal refusal() const noexcept { return refusal_; }
 
 private:
     bks_refusal refusal_;
 };
 
-// Returns the bytes of a trie built from the rows in ICU's binary form, as bks_trie_build writes
-// them. Throws row_refused.
+/// Returns the bytes of a trie built from the rows in ICU's binary form, as bks_trie_build writes
+/// them. Throws row_refused.
 template <class Value>
 std::vector<std::uint8_t> build(view<bks_row> rows, std::uint32_t default_value = 0,
                                 std::uint32_t error_value = 0, bks_type type = BKS_FAST) {
@@ -708,25 +712,25 @@ std::vector<std::uint8_t> build(std::initializer_list<bks_row> rows,
     return build<Value>(view<bks_row>(rows.begin(), rows.size()), default_value, error_value, type);
 }
 
-// Thrown if no unit trie can be built from the entries.
+/// Thrown if no unit trie can be built from the entries.
 class entries_refused : public std::invalid_argument {
 public:
     explicit entries_refused(bks_refusal refusal)
         : std::invalid_argument("bekstaudi: no unit trie of these entries"), refusal_(refusal) {}
-    // Returns BKS_LONG_KEY; BKS_SAME_KEY if two entries have the same key; BKS_NO_TEXT if a key is
-    // not UTF-8 or not UTF-32; BKS_WIDE_VALUE if a value is not a signed 32-bit number; or BKS_TOO_LARGE.
+    /// Returns BKS_LONG_KEY; BKS_SAME_KEY if two entries have the same key; BKS_NO_TEXT if a key is
+    /// not UTF-8 or not UTF-32; BKS_WIDE_VALUE if a value is not a signed 32-bit number; or BKS_TOO_LARGE.
     bks_refusal refusal() const noexcept { return refusal_; }
 
 private:
     bks_refusal refusal_;
 };
 
-// A map from keys of 16-bit units to numbers (ICU: UCharsTrie). The units, two bytes each, have to
-// stay at their address, unchanged, while it or a copy of it is used. Any bytes are accepted.
+/// A map from keys of 16-bit units to numbers (ICU: UCharsTrie). The units, two bytes each, have to
+/// stay at their address, unchanged, while it or a copy of it is used. Any bytes are accepted.
 class unit_trie {
 public:
-    // A prefix of a text that is a key: its size in the items of the text (units or bytes), and its
-    // value.
+    /// A prefix of a text that is a key: its size in the items of the text (units or bytes), and its
+    /// value.
     struct match {
         std::size_t size;
         std::int32_t value;
@@ -741,9 +745,9 @@ public:
     template <class C, class = detail::if_temporary<C>>
     explicit unit_trie(const C &&units) = delete;
 
-    // Returns the units of a trie built from entries in any order, as bks_units_build and
-    // bks_units_build_utf8 write them. The entries are a map, or any other range of pairs of a text
-    // and an integer. Throws entries_refused.
+    /// Returns the units of a trie built from entries in any order, as bks_units_build and
+    /// bks_units_build_utf8 write them. The entries are a map, or any other range of pairs of a text
+    /// and an integer. Throws entries_refused.
     template <class Entries>
     static std::vector<std::uint8_t> build(const Entries &entries) {
         using key_of = std::tuple_element_t<0, std::decay_t<decltype(*std::begin(entries))>>;
@@ -776,7 +780,7 @@ public:
         return bytes;
     }
 
-    // Returns how many entries there are, at most 2^63 - 1, or nothing if the units are not a trie.
+    /// Returns how many entries there are, at most 2^63 - 1, or nothing if the units are not a trie.
     std::optional<std::uint64_t> count() const {
         std::int64_t answer = bks_units_count(units_.data(), units_.size());
         if (answer == BKS_NO_MEMORY) throw std::bad_alloc();
@@ -784,9 +788,9 @@ public:
                           : std::optional<std::uint64_t>(static_cast<std::uint64_t>(answer));
     }
 
-    // Returns all entries in unit order, each key as UTF-8, with each lone surrogate as U+FFFD. A
-    // few untrusted units can have very many entries: call count() first. Throws std::length_error
-    // if there are more than any memory can hold.
+    /// Returns all entries in unit order, each key as UTF-8, with each lone surrogate as U+FFFD. A
+    /// few untrusted units can have very many entries: call count() first. Throws std::length_error
+    /// if there are more than any memory can hold.
     std::vector<std::pair<std::string, std::int32_t>> entries() const {
         std::vector<bks_word> words(1);
         std::string texts(1, '\0');
@@ -812,9 +816,9 @@ public:
         return all;
     }
 
-    // Returns the entries whose keys start with a UTF-8 text, in unit order, each key whole, as in
-    // entries(). A few untrusted units can have very many entries: call count() first. Throws
-    // text_refused if the text is not UTF-8.
+    /// Returns the entries whose keys start with a UTF-8 text, in unit order, each key whole, as in
+    /// entries(). A few untrusted units can have very many entries: call count() first. Throws
+    /// text_refused if the text is not UTF-8.
     std::vector<std::pair<std::string, std::int32_t>> entries(std::string_view prefix) const {
         std::vector<std::pair<std::string, std::int32_t>> all;
         std::vector<bks_word> words(64);
@@ -837,8 +841,8 @@ public:
         }
     }
 
-    // Returns the value of a key, or nothing if it is not there (ICU: UCharsTrie::reset, next and
-    // getValue).
+    /// Returns the value of a key, or nothing if it is not there (ICU: UCharsTrie::reset, next and
+    /// getValue).
     std::optional<std::int32_t> operator[](std::u16string_view key) const noexcept {
         std::int32_t value = 0;
         view<std::uint16_t> units = detail::units_of(key);
@@ -847,7 +851,7 @@ public:
         return found ? std::optional<std::int32_t>(value) : std::nullopt;
     }
 
-    // Returns the longest key that is a prefix of a UTF-16 text, or nothing if no key is.
+    /// Returns the longest key that is a prefix of a UTF-16 text, or nothing if no key is.
     std::optional<match> longest(std::u16string_view text) const noexcept {
         std::int32_t value = 0;
         view<std::uint16_t> units = detail::units_of(text);
@@ -857,9 +861,9 @@ public:
         return match{static_cast<std::size_t>(size), value};
     }
 
-    // Returns the longest key that is a prefix of a UTF-8 text, or nothing if no key is. Reads no
-    // more of the text than some key continues with. An ill-formed sequence ends the text. Throws
-    // text_refused if the text is not empty and does not start with a character.
+    /// Returns the longest key that is a prefix of a UTF-8 text, or nothing if no key is. Reads no
+    /// more of the text than some key continues with. An ill-formed sequence ends the text. Throws
+    /// text_refused if the text is not empty and does not start with a character.
     std::optional<match> longest(std::string_view text) const {
         std::int32_t value = 0;
         view<char> bytes(text);
@@ -870,7 +874,7 @@ public:
         return match{static_cast<std::size_t>(size), value};
     }
 
-    // Returns the value of a key in UTF-8, or nothing if it is not UTF-8 or not there.
+    /// Returns the value of a key in UTF-8, or nothing if it is not UTF-8 or not there.
     std::optional<std::int32_t> get(std::string_view key) const noexcept {
         std::int32_t value = 0;
         view<char> bytes(key);
@@ -880,13 +884,13 @@ public:
     }
     std::optional<std::int32_t> operator[](std::string_view key) const noexcept { return get(key); }
 
-    // The same for a key in UTF-32.
+    /// The same for a key in UTF-32.
     std::optional<std::int32_t> operator[](std::u32string_view key) const {
         std::optional<std::u16string> units = detail::utf16_of(key);
         return units ? (*this)[std::u16string_view(*units)] : std::nullopt;
     }
 
-    // Returns all keys that are prefixes of a UTF-16 text, the shortest first.
+    /// Returns all keys that are prefixes of a UTF-16 text, the shortest first.
     std::vector<match> prefixes(std::u16string_view text) const {
         view<std::uint16_t> units = detail::units_of(text);
         return matches_of([&](bks_prefix *found, std::size_t room) {
@@ -895,10 +899,10 @@ public:
         });
     }
 
-    // Returns all keys that are prefixes of a UTF-8 text, the shortest first. A key that ends within
-    // a character does not count. Reads no more of the text than some key continues with. An
-    // ill-formed sequence ends the text. Throws text_refused if the text is not empty and does not
-    // start with a character.
+    /// Returns all keys that are prefixes of a UTF-8 text, the shortest first. A key that ends within
+    /// a character does not count. Reads no more of the text than some key continues with. An
+    /// ill-formed sequence ends the text. Throws text_refused if the text is not empty and does not
+    /// start with a character.
     std::vector<match> prefixes(std::string_view text) const {
         view<char> bytes(text);
         return matches_of([&](bks_prefix *found, std::size_t room) {
@@ -907,7 +911,7 @@ public:
         });
     }
 
-    // The same for a text in UTF-32.
+    /// The same for a text in UTF-32.
     std::optional<match> longest(std::u32string_view text) const {
         std::optional<match> last;
         each_prefix(text, [&](match found) { last = found; });
@@ -920,7 +924,7 @@ public:
     }
 
 #ifdef __cpp_lib_char8_t
-    // The same for texts of char8_t.
+    /// The same for texts of char8_t.
     std::optional<std::int32_t> get(std::u8string_view key) const noexcept {
         return get(detail::bytes_of(key));
     }
@@ -936,7 +940,7 @@ public:
     }
 #endif
 
-    // Moves unit by unit from the root (ICU: UCharsTrie::next, getValue).
+    /// Moves unit by unit from the root (ICU: UCharsTrie::next, getValue).
     class cursor {
     public:
         explicit cursor(const unit_trie &trie) noexcept : units_(trie.units_) {}
@@ -980,7 +984,7 @@ public:
     };
 
 private:
-    // Return a key in UTF-8 or UTF-16.
+    /// Return a key in UTF-8 or UTF-16.
     static std::string_view text_of(std::string_view key) noexcept { return key; }
     static std::u16string_view text_of(std::u16string_view key) noexcept { return key; }
     static std::u16string text_of(std::u32string_view key) {
@@ -992,7 +996,7 @@ private:
     static std::string_view text_of(std::u8string_view key) noexcept { return detail::bytes_of(key); }
 #endif
 
-    // Reports each key that is a prefix of a text of code points, the shortest first.
+    /// Reports each key that is a prefix of a text of code points, the shortest first.
     template <class Report>
     void each_prefix(std::u32string_view text, Report report) const {
         cursor at(*this);
@@ -1006,7 +1010,7 @@ private:
         }
     }
 
-    // Returns whether an integer is a signed 32-bit number.
+    /// Returns whether an integer is a signed 32-bit number.
     template <class Number>
     static constexpr bool is_of_32_bits(Number number) noexcept {
         static_assert(std::is_integral_v<Number>, "the values of a unit trie are whole numbers");
@@ -1017,7 +1021,7 @@ private:
                    static_cast<std::int64_t>(number) <= INT32_MAX;
     }
 
-    // Returns the prefixes that a call finds.
+    /// Returns the prefixes that a call finds.
     template <class Call>
     static std::vector<match> matches_of(Call call) {
         std::vector<bks_prefix> found(8);
