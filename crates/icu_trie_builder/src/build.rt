@@ -1,10 +1,10 @@
 //! Building a trie from a map: the map's values become numbers, the numbers become a trie, and the
-//! cells of that trie become values again.
+//! cells of that trie become values again, which are packed one by one.
 ghost use Rattle.std.specs.Prelude.{◌≡◌, ◌≢◌, ℕ, ◌≤◌, List, Err, None, IfOk, IfErr, is_some};
 ghost use Rattle.std.specs.List.{AllPass, count_by};
 ghost use Rattle.icu_trie.specs.Parts.{parts_fault};
 ghost use Rattle.icu_trie_builder.specs.Bounds.{IsTooLarge};
-ghost use Rattle.icu_trie_builder.specs.CodePointMap.{map_value, IsBuilder};
+ghost use Rattle.icu_trie_builder.specs.CodePointMap.{map_value, value_of_number, IsBuilder};
 ghost use Rattle.icu_trie_builder.specs.Inside.ValuesOfNumbers.{number_value, AreValuesOf};
 ghost use Rattle.icu_trie_builder.specs.Built.{IsBuiltFrom};
 ghost use Rattle.icu_trie_builder.specs.Writes.{is_accepted, value_after};
@@ -16,30 +16,38 @@ use crate::map::number_map::NumberMap;
 use crate::number_trie::{NumberTrie, build_numbers};
 use crate::writes::Write;
 use icu_trie::cptrie::CodePointTrie;
-use icu_trie::error::PartsError;
 use icu_trie::header::TrieType;
 use icu_trie::value::TrieValue;
-use std::alloc::{AllocError, Global};
+use icu_zerovec::{MemoryError, ZeroVec};
+use std::alloc::Global;
 
-/// Returns the value of each number. Each must be the number of a value.
-fn values_of<T: TrieValue>(alloc: Global, numbers: &[u32]) -> Result<Vec<T>, AllocError>
-    requires { AllPass (λ n. is_some (T.of_number n)) numbers.now }
-    ensures { IfOk result (λ v. AreValuesOf T.of_number numbers.now v.items) }
+/// Returns the value with this number, or `default` if there is none.
+#[inline(always)]
+fn value_or<T: TrieValue>(number: u32, default: T) -> T
+    ensures { result ≡ value_of_number T.of_number default number }
 {
-    let mut values = Vec::with_capacity(alloc, numbers.len())?;
-    for number in numbers {
-        match T::try_from_u32(*number) {
-            Ok(value) => values.push(value)?,
-            Err(_) => unreachable!(),
-        }
-    }
-    Ok(values)
+    T::try_from_u32(number).unwrap_or(default)
+}
+
+/// Returns the values of these numbers, packed. Each value is packed as soon as it is made, so no
+/// list of values is needed. Each number must be that of a value, so `default` is never used.
+fn packed_values<T: TrieValue>(
+    alloc: Global,
+    numbers: &[u32],
+    default: T,
+) -> Result<ZeroVec<'static, T>, MemoryError>
+    requires { AllPass (λ n. is_some (T.of_number n)) numbers.now }
+    ensures { IfOk result (λ v. AreValuesOf T.of_number numbers.now v) }
+{
+    let values = numbers.iter().map(|number| value_or(*number, default));
+    ZeroVec::alloc_from_iter(alloc, values)
 }
 
 /// Returns the trie of values that belongs to a trie of numbers.
 fn trie_of<T: TrieValue>(
     alloc: Global,
     trie: NumberTrie,
+    default: T,
 ) -> Result<CodePointTrie<'static, T>, BuildError>
     requires numbers { AllPass (λ n. is_some (T.of_number n)) trie.values.items }
     requires sound { (values : List T) → AreValuesOf T.of_number trie.values.items values
@@ -49,11 +57,17 @@ fn trie_of<T: TrieValue>(
     ensures values { IfOk result (λ t. AreValuesOf T.of_number trie.values.items t.values) }
     ensures memory { IfErr result (λ e. e ≡ BuildError.Memory) }
 {
-    let values = values_of::<T>(alloc, &trie.values)?;
-    match CodePointTrie::alloc_from_slices(alloc, trie.header, &trie.index, &values) {
+    let NumberTrie {
+        header,
+        index,
+        values,
+    } = trie;
+    let data = packed_values(alloc, &values, default)?;
+    drop(values);
+    let index = ZeroVec::alloc_from_slice(alloc, &index)?;
+    match CodePointTrie::try_new(header, index, data) {
         Ok(trie) => Ok(trie),
-        Err(PartsError::Memory) => Err(BuildError::Memory),
-        Err(PartsError::Trie(_)) => unreachable!(),
+        Err(_) => unreachable!(),
     }
 }
 
@@ -72,7 +86,7 @@ fn build_map<T: TrieValue>(
         → IsTooLarge (λ c. T.number (number_value T.of_number default numbers.now c)) }
 {
     let trie = build_numbers(alloc, numbers, error.to_u32(), default.to_u32(), trie_type)?;
-    trie_of(alloc, trie)
+    trie_of(alloc, trie, default)
 }
 
 impl<T: TrieValue> CodePointTrieBuilder<T> {

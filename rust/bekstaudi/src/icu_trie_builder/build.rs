@@ -1,8 +1,7 @@
 //! Building a trie from a map: the map's values become numbers, the numbers become a trie, and the
-//! cells of that trie become values again.
+//! cells of that trie become values again, which are packed one by one.
 
 use crate::icu_trie::cptrie::CodePointTrie;
-use crate::icu_trie::error::PartsError;
 use crate::icu_trie::header::TrieType;
 use crate::icu_trie::value::TrieValue;
 use crate::icu_trie_builder::builder::CodePointTrieBuilder;
@@ -10,30 +9,42 @@ use crate::icu_trie_builder::error::BuildError;
 use crate::icu_trie_builder::map::number_map::NumberMap;
 use crate::icu_trie_builder::number_trie::{NumberTrie, build_numbers};
 use crate::icu_trie_builder::writes::Write;
-use crate::support::AllocError;
+use crate::icu_zerovec::{MemoryError, ZeroVec};
 use crate::support::prelude::*;
 
-/// Returns the value of each number. Each must be the number of a value.
+/// Returns the value with this number, or `default` if there is none.
+#[inline(always)]
+fn value_or<T: TrieValue>(number: u32, default: T) -> T {
+    T::try_from_u32(number).unwrap_or(default)
+}
+
+/// Returns the values of these numbers, packed. Each value is packed as soon as it is made, so no
+/// list of values is needed. Each number must be that of a value, so `default` is never used.
 #[inline]
-fn values_of<T: TrieValue>(numbers: &[u32]) -> Result<Vec<T>, AllocError> {
-    let mut values = Vec::with_room(numbers.len())?;
-    for number in numbers {
-        match T::try_from_u32(*number) {
-            Ok(value) => values.try_push(value)?,
-            Err(_) => unreachable!(),
-        }
-    }
-    Ok(values)
+fn packed_values<T: TrieValue>(
+    numbers: &[u32],
+    default: T,
+) -> Result<ZeroVec<'static, T>, MemoryError> {
+    let values = numbers.iter().map(|number| value_or(*number, default));
+    ZeroVec::alloc_from_iter(values)
 }
 
 /// Returns the trie of values that belongs to a trie of numbers.
-#[inline]
-fn trie_of<T: TrieValue>(trie: NumberTrie) -> Result<CodePointTrie<'static, T>, BuildError> {
-    let values = values_of::<T>(&trie.values)?;
-    match CodePointTrie::alloc_from_slices(trie.header, &trie.index, &values) {
+fn trie_of<T: TrieValue>(
+    trie: NumberTrie,
+    default: T,
+) -> Result<CodePointTrie<'static, T>, BuildError> {
+    let NumberTrie {
+        header,
+        index,
+        values,
+    } = trie;
+    let data = packed_values(&values, default)?;
+    drop(values);
+    let index = ZeroVec::alloc_from_slice(&index)?;
+    match CodePointTrie::try_new(header, index, data) {
         Ok(trie) => Ok(trie),
-        Err(PartsError::Memory) => Err(BuildError::Memory),
-        Err(PartsError::Trie(_)) => unreachable!(),
+        Err(_) => unreachable!(),
     }
 }
 
@@ -46,7 +57,7 @@ fn build_map<T: TrieValue>(
     trie_type: TrieType,
 ) -> Result<CodePointTrie<'static, T>, BuildError> {
     let trie = build_numbers(numbers, error.to_u32(), default.to_u32(), trie_type)?;
-    trie_of(trie)
+    trie_of(trie, default)
 }
 
 impl<T: TrieValue> CodePointTrieBuilder<T> {
