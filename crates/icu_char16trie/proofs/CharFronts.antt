@@ -10,14 +10,12 @@ use Rattle.std.specs.Char.{encode_utf8}
 use Rattle.std.specs.Char.Escape.{encode_utf16}
 use Rattle.std.specs.List.{flat_map}
 use Rattle.std.specs.Str.{chars, IsCharBoundary, IsUtf8}
-use Rattle.icu_char16trie.specs.UnitMap.{UnitMap, goes_on, value_of}
 use Rattle.icu_char16trie.specs.UnitPlaces.{is_empty_at}
 use Rattle.icu_char16trie.specs.Steps.{StepsAlong}
-use Rattle.icu_char16trie.specs.Matches.{HasCharsStepped, HasCharsValue, front_units, in_bytes}
+use Rattle.icu_char16trie.specs.Matches.{HasCharsStepped, front_units, in_bytes}
 use Rattle.icu_char16trie.specs.Inside.Fronts.{longer}
 use Rattle.icu_char16trie.specs.declared.place.Place.{Place}
 use Rattle.icu_char16trie.specs.declared.place.Place.TheVariants.{Node}
-use Rattle.icu_char16trie.proofs.MapLemmas.{none_beyond}
 use Rattle.icu_char16trie.proofs.FrontLemmas.{front_more, none_along}
 
 -- A character has a unit.
@@ -41,13 +39,7 @@ units_more cs i k below within =
           ∙ ap (λ z. front_units cs i ++ (z ++ flat_map encode_utf16 t.1)) one.2,
     )
 
--- If no key continues after some characters, no longer sequence of characters has a value.
-pub no_more_chars : (m : UnitMap) (cs : List ℕ) (i k : ℕ) → goes_on m (front_units cs i) ≡ false → i < k → k ≤ length cs
-    → HasCharsValue m cs k None
-no_more_chars m cs i k ends below within =
-    let more = units_more cs i k below within in
-    ap (value_of m) more.2 ∙ none_beyond m (front_units cs i) more.0 more.1 ends
-
+-- If no unit can match after some characters, no longer sequence of characters has a value.
 pub no_more_steps : (units cs : List ℕ) (place : Place) (i k : ℕ) → StepsAlong units (Node 0) (front_units cs i) place
     → is_empty_at units place ≡ true → i < k → k ≤ length cs → HasCharsStepped units cs k None
 no_more_steps units cs place i k steps ends below within =

@@ -1,12 +1,13 @@
 -- What is at the position to which steps have led.
-use Rattle.std.proofs.Common.{◌≡◌, ℕ, ℤ, zero, suc, ◌+◌, ◌-◌, Bool, true, false, nat_eq, List, [], ◌∷◌, Option, Some, None, get_or, slice_get, take, refl, sym, ◌∙◌, arith, inl, inr}
+use Rattle.std.proofs.Common.{◌≡◌, ℕ, ℤ, zero, suc, ◌+◌, ◌-◌, Bool, true, false, nat_eq, List, [], ◌∷◌, Option, Some, None, get_or, length, slice_get, take, refl, sym, ◌∙◌, arith, inl, inr}
+use Rattle.std.specs.Str.{chars}
 use Rattle.std.proofs.lemmas.Bool.{eqb-true, ne_eqb}
 use Rattle.std.proofs.lemmas.Option.{same_Some, slice_get-get_or}
 use Rattle.icu_char16trie.specs.Grammar.{Arms, Part, IsAscending, Children, Matches, Holds, IsTrieOf, branch_start}
-use Rattle.icu_char16trie.specs.UnitMap.{UnitMap, after, after_all}
+use Rattle.icu_char16trie.specs.UnitMap.{UnitMap, after, after_all, value_of}
 use Rattle.icu_char16trie.specs.UnitPlaces.{InRun, Stands}
 use Rattle.icu_char16trie.specs.Steps.{InPart, InMatch, in_run, in_short, in_long, no_length, InNode, no_lead, at_final, at_plain, at_valued, StepsTo, StepsAlong, run_place, child_place}
-use Rattle.icu_char16trie.specs.Matches.{HasFrontValue, HasFrontStepped, LongestWithin}
+use Rattle.icu_char16trie.specs.Matches.{HasCharsStepped, HasCharsValue, HasFrontValue, HasFrontStepped, HasValueAlong, IsLongestInText, IsLongestSteppedInText, LongestWithin, front_units}
 use Rattle.icu_char16trie.specs.declared.place.Place.{Place}
 use Rattle.icu_char16trie.specs.declared.place.Place.TheVariants.{Nowhere, Node, Run}
 use Rattle.icu_char16trie.proofs.MapLemmas.{value_after_all}
@@ -103,13 +104,16 @@ along_stand units from [] q m steps h = rw steps h
 along_stand units from (u ∷ w) q m steps h =
     along_stand units steps.0 w q (after u m) steps.2 (steps_stand units from u steps.0 m steps.1 h)
 
--- The value to which the steps of a prefix lead is that of the map.
-front_is_value : (units : List ℕ) (m : UnitMap) (text : List ℕ) (k : ℕ) (v : Option ℤ) → IsTrieOf units m → HasFrontStepped units text k v
-    → HasFrontValue m text k v
-front_is_value units m text k v trie h =
-    let w = take k text in
+-- The value to which steps lead is that of the map.
+pub along_is_value : (units : List ℕ) (m : UnitMap) (w : List ℕ) (v : Option ℤ) → IsTrieOf units m → HasValueAlong units w v
+    → value_of m w ≡ v
+along_is_value units m w v trie h =
     value_after_all w m
     ∙ sym (value_stands units h.0 (after_all w m) (along_stand units (Node 0) w h.0 m h.1 (root_stands units m trie))) ∙ h.2
+
+front_is_value : (units : List ℕ) (m : UnitMap) (text : List ℕ) (k : ℕ) (v : Option ℤ) → IsTrieOf units m → HasFrontStepped units text k v
+    → HasFrontValue m text k v
+front_is_value units m text k v trie h = along_is_value units m (take k text) v trie h
 
 longest_as : (P Q : ℕ → Option ℤ → Type 0) (most : ℕ) (found : Option (ℕ × ℤ)) → ((k : ℕ) (v : Option ℤ) → P k v → Q k v)
     → LongestWithin P most found → LongestWithin Q most found
@@ -121,3 +125,13 @@ pub stepped_is_longest : (units : List ℕ) (m : UnitMap) (text : List ℕ) (mos
     → LongestWithin (HasFrontStepped units text) most found → LongestWithin (HasFrontValue m text) most found
 stepped_is_longest units m text most found trie =
     longest_as (HasFrontStepped units text) (HasFrontValue m text) most found (λ k v. front_is_value units m text k v trie)
+
+-- The longest match in a text by the steps is that of the map.
+pub stepped_is_longest_text : (units : List ℕ) (m : UnitMap) (text : List ℕ) (result : Option (ℕ × ℤ)) → IsTrieOf units m
+    → IsLongestSteppedInText units text result → IsLongestInText m text result
+stepped_is_longest_text units m text result trie h = (
+  h.0,
+  longest_as (HasCharsStepped units (chars text)) (HasCharsValue m (chars text)) (length (chars text)) h.0
+      (λ k v. along_is_value units m (front_units (chars text) k) v trie) h.1,
+  h.2,
+)

@@ -17,7 +17,7 @@ ghost use Rattle.icu_char16trie.specs.declared.place.Place.TheVariants.{Nowhere,
 use crate::listing::Entries;
 use crate::next_units::add_units;
 use crate::place::{CursorPlace, Place, numbers_of, place_of};
-use crate::step::{is_empty_at, step, value_at};
+use crate::step::{is_empty_at, state_at, step, value_at};
 use crate::unique::unique_value_at;
 use icu_zerovec::{MemoryError, ZeroSlice};
 use std::alloc::Global;
@@ -103,6 +103,7 @@ impl<'a> Char16TrieCursor<'a> {
 
     /// Advances by the UTF-16 units of the code point `c`: one unit below 0x10000, surrogates
     /// included, and two from there to 0x10FFFF. Above 0x10FFFF nothing matches.
+    #[inline(always)]
     pub fn step32(&mut self, c: u32)
         ensures units { self.new.units ≡ self.old.units }
         ensures within { c ≤ 0x10FFFF → Passes self.old (encode_utf16 c) self.new }
@@ -124,7 +125,7 @@ impl<'a> Char16TrieCursor<'a> {
     }
 
     /// Advances by the UTF-16 units of the character `c`: one below U+10000, and two from there on.
-    #[inline]
+    #[inline(always)]
     pub fn step(&mut self, c: char)
         ensures passes { Passes self.old (encode_utf16 c) self.new }
         ensures only { (q : Place) → StepsAlong self.old.units self.old.place (encode_utf16 c) q
@@ -154,6 +155,16 @@ impl<'a> Char16TrieCursor<'a> {
         ensures exact { result ≡ is_empty_at self.now.units self.now.place }
     {
         is_empty_at(self.units, self.place)
+    }
+
+    /// Returns the value of the units so far, as [`value`](Self::value) does, and whether no key
+    /// continues after them, as [`is_empty`](Self::is_empty) does.
+    #[inline(always)]
+    pub(crate) fn state(&self) -> (Option<i32>, bool)
+        ensures value { result.0 ≡ value_at self.now.units self.now.place }
+        ensures empty { result.1 ≡ is_empty_at self.now.units self.now.place }
+    {
+        state_at(self.units, self.place)
     }
 
     /// Returns the entries whose keys start with the units so far, in unit order, each key without

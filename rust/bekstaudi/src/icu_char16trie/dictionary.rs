@@ -36,7 +36,7 @@ fn begins_run(units: ZeroSlice<'_, u16>, place: usize, count: usize, text: &[u16
 /// number of units consumed. `low` is the low six bits of the match node's lead unit, and `place`
 /// is the index after the lead and its value.
 #[inline(always)]
-fn pass_match(
+pub(crate) fn pass_match(
     units: ZeroSlice<'_, u16>,
     place: usize,
     low: u16,
@@ -120,19 +120,19 @@ impl<'data> Char16Trie<'data> {
     #[must_use]
     pub fn longest_match_str(&self, text: &str) -> Option<(usize, i32)> {
         let mut cursor = self.cursor();
-        let empty = cursor.value();
-        let mut found = longer_match(0, empty, None);
+        let mut found = None;
         let mut end = 0;
         for c in text.chars() {
-            if cursor.is_empty() {
+            let (value, ends) = cursor.state();
+            found = longer_match(end, value, found);
+            if ends {
                 return found;
             }
             cursor.step(c);
             end += c.len_utf8();
-            let value = cursor.value();
-            found = longer_match(end, value, found);
         }
-        found
+        let value = cursor.value();
+        longer_match(end, value, found)
     }
 
     /// Returns all keys that `text` starts with, the shortest first: the length of each in units
