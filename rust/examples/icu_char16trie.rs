@@ -114,6 +114,24 @@ while entries.try_advance()? {
     lengths.push((entries.key().len(), entries.value()));
 }
 assert_eq!(lengths, [(1, 1), (2, 2)]);
+//# lookup get
+use bekstaudi::char16trie::Char16TrieBuilder;
+
+let mut builder = Char16TrieBuilder::new();
+builder.add_str("a", 1)?;
+builder.add_str("ab", 2)?;
+let trie = builder.try_build()?;
+assert_eq!(trie.get(&[0x61, 0x62]), Some(2));
+assert_eq!(trie.get(&[0x62]), None);
+//# lookup get_str
+use bekstaudi::char16trie::Char16TrieBuilder;
+
+let mut builder = Char16TrieBuilder::new();
+builder.add_str("a", 1)?;
+builder.add_str("ab", 2)?;
+let trie = builder.try_build()?;
+assert_eq!(trie.get_str("ab"), Some(2));
+assert_eq!(trie.get_str("b"), None);
 //# mod
 //# soundness try_is_trie
 use bekstaudi::char16trie::Char16Trie;

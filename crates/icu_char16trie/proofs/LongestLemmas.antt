@@ -6,7 +6,7 @@ use Rattle.std.proofs.lemmas.Bool.{lt-ltb}
 use Rattle.icu_char16trie.specs.Numbers.{node_end, end_by}
 use Rattle.icu_char16trie.specs.UnitPlaces.{value_at, value_by, is_empty_at, ends_by}
 use Rattle.icu_char16trie.specs.Steps.{at_plain, at_valued, StepsAlong}
-use Rattle.icu_char16trie.specs.Matches.{HasFrontStepped, LongestWithin}
+use Rattle.icu_char16trie.specs.Matches.{HasFrontStepped, HasValueAlong, LongestWithin}
 use Rattle.icu_char16trie.specs.Inside.Fronts.{longer, HasValueFrom, NoneHasValue, LeadsToNode, LeadsByMatch, PassesMatch}
 use Rattle.icu_char16trie.specs.declared.place.Place.{Place}
 use Rattle.icu_char16trie.specs.declared.place.Place.TheVariants.{Node}
@@ -174,3 +174,48 @@ within_text units text i node n q within on = omega (arith, on.within, length-dr
 -- The rest of a text.
 pub rest_is : (text : List ℕ) (i : ℕ) → take (length text - i) (drop i text) ≡ drop i text
 rest_is text i = let all : length (drop i text) ≡ length text - i = length-drop i text in rw (← all) (take-length (drop i text))
+
+-- ---- the value of the whole text
+
+whole : (units text : List ℕ) (k : ℕ) (v : Option ℤ) → k ≡ length text → HasFrontStepped units text k v → HasValueAlong units text v
+whole units text k v e h =
+    let all : take k text ≡ text = ap (λ n. take n text) e ∙ take-length text in subst (λ w. HasValueAlong units w v) all h
+
+no_value_beyond : (units text : List ℕ) (i node : ℕ) → i < length text → StepsAlong units (Node 0) (take i text) (Node node)
+    → is_empty_at units (Node node) ≡ true → HasValueAlong units text None
+no_value_beyond units text i node within steps ends =
+    whole units text (length text) None refl (no_longer_step units text (Node node) i (length text) steps ends within (omega arith))
+
+-- The lead is missing.
+pub none_without_lead : (units text : List ℕ) (i node : ℕ) → i < length text → StepsAlong units (Node 0) (take i text) (Node node)
+    → slice_get units node ≡ None → HasValueAlong units text None
+none_without_lead units text i node within steps g = no_value_beyond units text i node within steps (ap ends_by g)
+
+-- The lead is that of a final value.
+pub none_after_final : (units text : List ℕ) (i node lead : ℕ) → i < length text → StepsAlong units (Node 0) (take i text) (Node node)
+    → slice_get units node ≡ Some lead → 0x8000 ≤ lead → HasValueAlong units text None
+none_after_final units text i node lead within steps g big =
+    no_value_beyond units text i node within steps (ap ends_by g ∙ from_yes 0x8000 lead big)
+
+-- The text does not continue at the match node.
+pub none_within : (units text : List ℕ) (i node lead place : ℕ) → i < length text
+    → StepsAlong units (Node 0) (take i text) (Node node) → slice_get units node ≡ Some lead → lead < 0x8000
+    → place ≡ node_end (node + 1) lead → PassesMatch units (drop i text) place (lead % 64) None → HasValueAlong units text None
+none_within units text i node lead place within steps g small e passes =
+    let rest : i + (length text - i) ≡ length text = omega (arith, within) in
+    whole units text (i + (length text - i)) None rest
+    (front_from units text i (length text - i) (Node node) None steps
+    (passes (Node node) (match_leads units node lead place g small e) (length text - i) (omega (arith, within))
+    (omega (arith, length-drop i text))))
+
+-- The text ends at the node.
+pub value_here : (units text : List ℕ) (i node : ℕ) (lead : Option ℕ) → i ≡ length text
+    → StepsAlong units (Node 0) (take i text) (Node node) → slice_get units node ≡ lead
+    → HasValueAlong units text (option_and_then (value_by units (node + 1)) lead)
+value_here units text i node lead e steps g =
+    whole units text i _ e (Node node, steps, ap (option_and_then (value_by units (node + 1))) g)
+
+-- The units so far lead on to the next node.
+pub along_on : (units text : List ℕ) (i node n q : ℕ) → StepsAlong units (Node 0) (take i text) (Node node)
+    → LeadsToNode units (Node node) (drop i text) q n → StepsAlong units (Node 0) (take (i + n) text) (Node q)
+along_on units text i node n q steps on = along_front units text i n (Node node) (Node q) steps on.steps

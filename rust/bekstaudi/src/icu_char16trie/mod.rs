@@ -14,6 +14,7 @@
 //!   `write`: look-up of text that is written to it
 //! - `iterator`: [`Char16TrieIterator`](char16trie::Char16TrieIterator), a cursor with a result for
 //!   each step
+//! - `lookup`: the value of a key
 //! - `dictionary`: the longest key that a text starts with; `matches`:
 //!   [`Matches`](char16trie::Matches), all such keys
 //! - `soundness`: whether units are a trie; `counted`: the number of its entries
@@ -42,6 +43,7 @@ pub mod impl_const;
 mod iterator;
 mod json;
 mod listing;
+mod lookup;
 mod matches;
 mod next_units;
 mod pending;

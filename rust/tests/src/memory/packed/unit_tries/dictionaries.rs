@@ -1,5 +1,5 @@
-//! The keys that are prefixes of a text: the longest one, and all of them. Finding them does not
-//! allocate.
+//! The value of a key, and the keys that are prefixes of a text: the longest one, and all of them.
+//! Finding them does not allocate.
 
 use super::support::{A_AB, LEAD_PAIR, SIX, some_trie};
 use crate::icu_char16trie::char16trie::Char16Trie;
@@ -18,6 +18,37 @@ enum Text {
 /// The units of a trie, a text, and the length and value of the longest key that is a prefix of the
 /// text.
 type Row = (&'static [u16], Text, Option<(usize, i32)>);
+
+/// The units of a trie, a key, and its value.
+type KeyRow = (&'static [u16], Text, Option<i32>);
+
+static KEYS: [KeyRow; 24] = [
+    (&A_AB, Text::Units(&[0x61]), Some(1)),
+    (&A_AB, Text::Units(&[0x61, 0x62]), Some(2)),
+    (&A_AB, Text::Units(&[0x61, 0x62, 0x63]), None),
+    (&A_AB, Text::Units(&[0x62]), None),
+    (&A_AB, Text::Units(&[]), None),
+    (&EMPTY_A, Text::Units(&[]), Some(7)),
+    (&EMPTY_A, Text::Units(&[0x61]), Some(1)),
+    (&[0x31, 0x61, 0x62, 0x8003], Text::Units(&[0x61]), None),
+    (&[0x31, 0x61, 0x62, 0x8003], Text::Units(&[0x61, 0x62]), Some(3)),
+    (&SIX, Text::Units(&[0x63]), Some(3)),
+    (&SIX, Text::Units(&[0x67]), None),
+    (&LEAD_PAIR, Text::Units(&[0xD83D]), Some(1)),
+    (&LEAD_PAIR, Text::Units(&[0xD83D, 0xDE00]), Some(2)),
+    (&LEAD_PAIR, Text::Units(&[0xD83D, 0xDE01]), None),
+    // Invalid units: if a needed unit is missing, there is no value, and a truncated value is 0.
+    (&[], Text::Units(&[]), None),
+    (&[0xFFFF], Text::Units(&[]), Some(0)),
+    (&[0x30], Text::Units(&[0x61]), None),
+    (&A_AB, Text::Characters("ab"), Some(2)),
+    (&A_AB, Text::Characters("abc"), None),
+    (&A_AB, Text::Characters(""), None),
+    (&EMPTY_A, Text::Characters(""), Some(7)),
+    (&[0x30, 0xE9, 0x8001], Text::Characters("\u{e9}"), Some(1)),
+    (&LEAD_PAIR, Text::Characters("\u{1f600}"), Some(2)),
+    (&LEAD_PAIR, Text::Characters("\u{1f601}"), None),
+];
 
 static LONGEST: [Row; 35] = [
     (&A_AB, Text::Units(&[0x61, 0x62, 0x63]), Some((2, 2))),
@@ -108,6 +139,34 @@ static ALL: [AllRow; 7] = [
     ),
     (&[], &[0x61], [None; 3]),
 ];
+
+/// Returns the value of a key.
+fn value_of(trie: &Char16Trie<'_>, key: &Text) -> Option<i32> {
+    match key {
+        Text::Units(key) => trie.get(key),
+        Text::Characters(key) => trie.get_str(key),
+    }
+}
+
+/// Expects this value of a key.
+fn expect_value(units: &[u16], key: &Text, want: Option<i32>) {
+    let Some(trie) = some_trie(units) else {
+        return;
+    };
+    say("call");
+    let found = value_of(&trie, key);
+    expect_done((units, found), (units, want), "the value of a key");
+}
+
+/// Calls: `Char16Trie::get`, `Char16Trie::get_str`.
+#[test]
+fn values_of_keys_quiet() {
+    none_asked(|| {
+        for (units, key, want) in KEYS.iter() {
+            expect_value(units, key, *want);
+        }
+    });
+}
 
 /// Returns the longest key that is a prefix of a text.
 fn longest_of(trie: &Char16Trie<'_>, text: &Text) -> Option<(usize, i32)> {
