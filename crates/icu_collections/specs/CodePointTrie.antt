@@ -18,6 +18,7 @@ pub use Rattle.icu_trie.specs.MappedRanges.{CanFuse, iter_mapped_source, iter_ma
 pub use Rattle.icu_trie.specs.MappedTrie.{AnswersAlways, CallsInTurn, IsMapOfTrie, IsTrieOfAnswers, IsWhyNone, MapsInTurn, ok_answer}
 pub use Rattle.icu_trie.specs.Conversion.{Becomes, same_packed, with_null_value}
 pub use Rattle.icu_trie.specs.Typed.{IsOfType, IsTyped}
+pub use Rattle.icu_trie.specs.View.{view_parts}
 -- For a user-defined value type: the numbers of values, and the laws of the value types in the
 -- crate.
 pub use Rattle.icu_trie_core.specs.ValueNumbers.{GivesType, character, fitting, is_within, signed_fitting, type_number}

@@ -23,6 +23,7 @@ pub use icu_trie::typed::{
     Untyped,
 };
 pub use icu_trie::value::{NotAValue, TrieValue};
+pub use icu_trie::view::TrieView;
 pub use icu_trie::walk::walk;
 pub use icu_trie_binary::binary;
 pub use icu_trie_builder::build_from_writes;

@@ -1,4 +1,5 @@
 pub mod Parts
+pub mod View
 pub mod Typed
 pub mod Conversion
 pub mod Ranges

@@ -1,55 +1,22 @@
 //! The check whether a trie is coherent.
-ghost use Rattle.std.specs.Prelude.{◌≡◌, ◌<◌, ◌↔◌, IsTrue};
-ghost use Rattle.icu_trie_core.specs.Coherence.{IsCoherent};
-ghost use Rattle.icu_trie.specs.Parts.{cells_in};
+ghost use Rattle.std.specs.Prelude.{◌≡◌, ◌↔◌, IsTrue};
 
 use crate::cptrie::CodePointTrie;
-use crate::packed_cells::PackedCells;
-use icu_trie_core::cells::Steps;
-use icu_trie_core::coherent::is_coherent;
-use icu_trie_core::header::CodePointTrieHeader;
+use crate::packed_cells::is_coherent_in;
+use crate::view::TrieView;
 use icu_trie_core::value::TrieValue;
-use icu_zerovec::ZeroSlice;
-use std::marker::Brand;
-use std::sync::ledger::{Blank, Ledger};
 
-/// `is_coherent` over packed vectors.
-///
-/// # Contract
-/// It counts in the ledger of `blank`.
-fn is_coherent_counted<T: TrieValue, L: Ledger>(
-    header: &CodePointTrieHeader,
-    index: ZeroSlice<'_, u16>,
-    values: ZeroSlice<'_, T>,
-    blank: Blank,
-) -> bool
-    requires name { blank.name ≡ L.name }
-    requires parts { blank.parts ≡ L.parts }
-    requires some { 0 < blank.parts }
-    ensures { IsTrue result
-        ↔ IsCoherent T.of_number header.now (cells_in index.entry values.entry) }
-{
-    let mut cells = PackedCells {
-        index,
-        values,
-        reads: Steps::<L>::new(blank),
-    };
-    is_coherent(header, &mut cells)
-}
+impl<'a, T: TrieValue> TrieView<'a, T> {
+    ghost use Rattle.icu_trie.specs.Ranges.{IsCoherentTrie};
+    ghost use Rattle.icu_trie.specs.View.{view_parts};
 
-/// `is_coherent` over packed vectors.
-///
-/// # Contract
-/// It counts in its own ledger, which it then drops.
-fn is_coherent_in<T: TrieValue>(
-    header: &CodePointTrieHeader,
-    index: ZeroSlice<'_, u16>,
-    values: ZeroSlice<'_, T>,
-) -> bool
-    ensures { IsTrue result
-        ↔ IsCoherent T.of_number header.now (cells_in index.entry values.entry) }
-{
-    is_coherent_counted::<T, Brand>(header, index, values, Blank::new(1))
+    /// Returns true if the trie is coherent, as [`CodePointTrie::is_coherent`] does.
+    pub fn is_coherent(&self) -> bool
+        ensures { IsTrue result ↔ IsCoherentTrie T.of_number (view_parts self.now) }
+    {
+        let (header, index, data) = self.parts();
+        is_coherent_in(&header, index, data)
+    }
 }
 
 impl<'trie, T: TrieValue> CodePointTrie<'trie, T> {
@@ -85,6 +52,6 @@ impl<'trie, T: TrieValue> CodePointTrie<'trie, T> {
     pub fn is_coherent(&self) -> bool
         ensures { IsTrue result ↔ IsCoherentTrie T.of_number self.now }
     {
-        is_coherent_in(&self.header, self.index.as_slice(), self.data.as_slice())
+        self.as_view().is_coherent()
     }
 }

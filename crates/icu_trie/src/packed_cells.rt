@@ -1,16 +1,14 @@
 //! The cells of two packed vectors, and the functions of the format that read only these.
-ghost use Rattle.std.specs.Prelude.{◌≡◌, ◌+◌, ◌%◌, ◌<◌, Some, IsSomeAnd};
-ghost use Rattle.std.specs.Option.{option_and_then};
+ghost use Rattle.std.specs.Prelude.{◌≡◌, ◌<◌, ◌≤◌, ◌↔◌, IsTrue, Some, IsSomeAnd};
 ghost use Rattle.icu_trie_core.specs.Coherence.{IsCoherent};
-ghost use Rattle.icu_trie_core.specs.Format.{answer, small_offset};
+ghost use Rattle.icu_trie_core.specs.Format.{answer};
 ghost use Rattle.icu_trie_core.specs.Range.{GivesWalk, last_of};
 ghost use Rattle.icu_trie_core.specs.Runs.{LongestRun};
 ghost use Rattle.icu_trie.specs.Parts.{cells_in};
-ghost use Rattle.icu_zerovec.specs.Slice.{slice_values};
 
 use icu_trie_core::cells::{Cells, Steps};
-use icu_trie_core::header::{CodePointTrieHeader, TrieType};
-use icu_trie_core::lookup::small_place_of;
+use icu_trie_core::coherent::is_coherent;
+use icu_trie_core::header::CodePointTrieHeader;
 use icu_trie_core::range::CodePointMapRange;
 use icu_trie_core::value::TrieValue;
 use icu_trie_core::walk::walk;
@@ -66,51 +64,6 @@ impl<'a, T: TrieValue, L: Ledger> Cells<T> for PackedCells<'a, T, L> {
     }
 }
 
-/// `small_place_of` over packed vectors.
-///
-/// # Contract
-/// It counts in the ledger of `blank`.
-#[inline(always)]
-fn small_place_counted<T: TrieValue, L: Ledger>(
-    trie_type: TrieType,
-    index: ZeroSlice<'_, u16>,
-    values: ZeroSlice<'_, T>,
-    c: u32,
-    blank: Blank,
-) -> Option<usize>
-    requires name { blank.name ≡ L.name }
-    requires parts { blank.parts ≡ L.parts }
-    requires some { 0 < blank.parts }
-    ensures { result
-        ≡ option_and_then (λ offset. Some (offset + c % 16))
-        (small_offset trie_type (slice_values index.entry) c) }
-{
-    let mut cells = PackedCells {
-        index,
-        values,
-        reads: Steps::<L>::new(blank),
-    };
-    small_place_of(trie_type, &mut cells, c)
-}
-
-/// `small_place_of` over packed vectors.
-///
-/// # Contract
-/// It counts in its own ledger, which it then drops.
-#[inline(always)]
-pub(crate) fn small_place_in<T: TrieValue>(
-    trie_type: TrieType,
-    index: ZeroSlice<'_, u16>,
-    values: ZeroSlice<'_, T>,
-    c: u32,
-) -> Option<usize>
-    ensures { result
-        ≡ option_and_then (λ offset. Some (offset + c % 16))
-        (small_offset trie_type (slice_values index.entry) c) }
-{
-    small_place_counted::<T, Brand>(trie_type, index, values, c, Blank::new(1))
-}
-
 /// `walk` over packed vectors.
 ///
 /// # Contract
@@ -158,4 +111,43 @@ pub(crate) fn walk_in<T: TrieValue>(
         (Some r.value)) }
 {
     walk_counted::<T, Brand>(header, index, values, c, Blank::new(1))
+}
+
+/// `is_coherent` over packed vectors.
+///
+/// # Contract
+/// It counts in the ledger of `blank`.
+fn is_coherent_counted<T: TrieValue, L: Ledger>(
+    header: &CodePointTrieHeader,
+    index: ZeroSlice<'_, u16>,
+    values: ZeroSlice<'_, T>,
+    blank: Blank,
+) -> bool
+    requires name { blank.name ≡ L.name }
+    requires parts { blank.parts ≡ L.parts }
+    requires some { 0 < blank.parts }
+    ensures { IsTrue result
+        ↔ IsCoherent T.of_number header.now (cells_in index.entry values.entry) }
+{
+    let mut cells = PackedCells {
+        index,
+        values,
+        reads: Steps::<L>::new(blank),
+    };
+    is_coherent(header, &mut cells)
+}
+
+/// `is_coherent` over packed vectors.
+///
+/// # Contract
+/// It counts in its own ledger, which it then drops.
+pub(crate) fn is_coherent_in<T: TrieValue>(
+    header: &CodePointTrieHeader,
+    index: ZeroSlice<'_, u16>,
+    values: ZeroSlice<'_, T>,
+) -> bool
+    ensures { IsTrue result
+        ↔ IsCoherent T.of_number header.now (cells_in index.entry values.entry) }
+{
+    is_coherent_counted::<T, Brand>(header, index, values, Blank::new(1))
 }

@@ -4,12 +4,36 @@ ghost use Rattle.icu_invlist.specs.InversionList.{IsValid, holds};
 
 use crate::cptrie::CodePointTrie;
 use crate::packed_cells::walk_in;
+use crate::view::TrieView;
 use icu_invlist::codepointinvlist::CodePointInversionList;
 pub use icu_trie_core::range::CodePointMapRange;
 use icu_trie_core::value::TrieValue;
 use icu_trie_core::walk::is_same;
 use icu_zerovec::{CODE_POINT_LIMIT, MemoryError};
 use std::alloc::Global;
+
+impl<'a, T: TrieValue> TrieView<'a, T> {
+    ghost use Rattle.icu_trie_core.specs.Contents.{contents_of};
+    ghost use Rattle.icu_trie_core.specs.Runs.{LongestRun};
+    ghost use Rattle.icu_trie_core.specs.Range.{GivesWalk, last_of};
+    ghost use Rattle.icu_trie.specs.Ranges.{IsCoherentTrie, answers};
+    ghost use Rattle.icu_trie.specs.View.{view_parts};
+
+    /// Returns the range of code points from `c` on that have the same value as `c`, as
+    /// [`CodePointTrie::get_range`] does.
+    #[inline(always)]
+    pub fn get_range(&self, c: u32) -> Option<CodePointMapRange<T>>
+        ensures gives { GivesWalk T.of_number (view_parts self.now).header
+            (contents_of (view_parts self.now).index (view_parts self.now).values) c
+            result }
+        ensures longest { IsCoherentTrie T.of_number (view_parts self.now)
+            → MatchOption result (0x110000 ≤ c)
+            (λ x. LongestRun (answers (view_parts self.now)) c (last_of x) (Some x.value)) }
+    {
+        let (header, index, data) = self.parts();
+        walk_in(&header, index, data, c)
+    }
+}
 
 impl<'trie, T: TrieValue> CodePointTrie<'trie, T> {
     ghost use Rattle.std.specs.List.{All};
@@ -35,7 +59,7 @@ impl<'trie, T: TrieValue> CodePointTrie<'trie, T> {
             → MatchOption result (0x110000 ≤ c)
             (λ x. LongestRun (answers self.now) c (last_of x) (Some x.value)) }
     {
-        walk_in(&self.header, self.index.as_slice(), self.data.as_slice(), c)
+        self.as_view().get_range(c)
     }
 
     /// Returns an iterator over the ranges of equal values, in order from 0 on. Each range starts

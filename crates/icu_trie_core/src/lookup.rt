@@ -1,7 +1,7 @@
 //! Look-ups in a trie.
 ghost use Rattle.std.specs.Prelude.{◌≡◌, ℕ, ◌+◌, ◌^◌, ◌<◌, ◌≤◌, ◌/◌, ◌%◌, ◌-◌, List, Some, None, length, IfSome, false};
 ghost use Rattle.std.specs.Option.{option_and_then};
-ghost use Rattle.icu_trie_core.specs.Format.{answer, fast_limit, high_cell, index2_cell, offset_in_block, long_offset, place, small_offset};
+ghost use Rattle.icu_trie_core.specs.Format.{answer, fast_limit, high_cell, index2_cell, offset_in_block, long_offset, small_offset};
 ghost use Rattle.icu_trie_core.specs.FastIndex.{IsWhole};
 
 use crate::cells::Cells;
@@ -11,7 +11,6 @@ use crate::impl_const::{
     HIGH_VALUE_NEG_DATA_OFFSET, INDEX_2_MASK, INDEX_3_MASK, OMITTED_BMP_INDEX_1_LENGTH, SHIFT_1,
     SHIFT_2, SHIFT_3, SMALL_DATA_MASK, SMALL_INDEX_LENGTH,
 };
-use icu_zerovec::CODE_POINT_LIMIT;
 
 /// Returns the index-2 cell of a code point, in at most two reads.
 #[inline]
@@ -34,7 +33,10 @@ pub(crate) fn index2_cell_of<T, C: Cells<T>>(
 
 /// Returns the 18-bit offset number `place` of a group of eight. `high` is the cell with bits 16
 /// and 17 of all eight offsets, and `low` is the offset's own cell.
-fn long_offset_of(high: u16, low: u16, place: u32) -> u32
+///
+/// Public for the crates that build on this one.
+#[inline]
+pub fn long_offset_of(high: u16, low: u16, place: u32) -> u32
     requires { place < 8 }
     ensures { result ≡ long_offset high low place }
 {
@@ -65,10 +67,10 @@ pub(crate) fn offset_of<T, C: Cells<T>>(cells: &mut C, index2_cell: u16, place: 
 /// Returns the data position of a code point from the fast limit on and below the high start,
 /// through the three stages of the index. Returns `None` if a cell of the index is missing.
 ///
-/// Takes at most four reads. Public for the crates that build on this one.
+/// Takes at most four reads.
 #[inline(always)]
 #[tactic(auto, unfolding(crate::specs::Format::small_offset))]
-pub fn small_place_of<T, C: Cells<T>>(trie_type: TrieType, cells: &mut C, c: u32) -> Option<usize>
+fn small_place_of<T, C: Cells<T>>(trie_type: TrieType, cells: &mut C, c: u32) -> Option<usize>
     ensures place { result
         ≡ option_and_then (λ offset. Some (offset + c % 16))
         (small_offset trie_type (C.contents cells.old).index c) }
@@ -87,31 +89,6 @@ pub(crate) fn high_cell_of(len: usize) -> Option<usize>
     ensures { result ≡ high_cell len }
 {
     len.checked_sub(HIGH_VALUE_NEG_DATA_OFFSET as usize)
-}
-
-/// Returns the data position of the cell of `c`, which can be any 32-bit number. The position may
-/// be outside the data.
-///
-/// Returns `None` if `c` is above 0x10FFFF, if a cell of the index is missing, or if the high value
-/// is missing. Takes at most four reads. Public for the crates that build on this one.
-#[inline]
-pub fn cell_of<T, C: Cells<T>>(header: &CodePointTrieHeader, cells: &mut C, c: u32) -> Option<usize>
-    ensures place { result
-        ≡ place header.now (C.contents cells.old).index (length (C.contents cells.old).values) c }
-    ensures reads { C.reads cells.new ≤ C.reads cells.old + 4 }
-    ensures kept { C.contents cells.new ≡ C.contents cells.old }
-{
-    if c < header.trie_type.fast_limit() {
-        let offset = cells.index_cell((c >> FAST_TYPE_SHIFT) as usize)?;
-        return Some(offset as usize + (c & FAST_TYPE_DATA_MASK) as usize);
-    }
-    if c >= CODE_POINT_LIMIT {
-        return None;
-    }
-    if header.high_start <= c {
-        return high_cell_of(cells.data_len());
-    }
-    small_place_of(header.trie_type, cells, c)
 }
 
 /// Returns the cell of `c`, or `None` for the error value.

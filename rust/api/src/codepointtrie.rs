@@ -56,6 +56,7 @@ pub use crate::icu_trie::typed::{
     Untyped,
 };
 pub use crate::icu_trie::value::{NotAValue, TrieValue};
+pub use crate::icu_trie::view::TrieView;
 pub use crate::icu_trie_binary::binary;
 #[cfg(feature = "alloc")]
 pub use crate::icu_trie_builder::builder::CodePointTrieBuilder;

@@ -1,35 +1,9 @@
 //! The packed bytes of a code point's cell.
 
 use crate::icu_trie::cptrie::CodePointTrie;
-use crate::icu_trie::packed_cells::PackedCells;
-use crate::icu_trie_core::header::CodePointTrieHeader;
-use crate::icu_trie_core::lookup::cell_of;
 use crate::icu_trie_core::value::TrieValue;
-use crate::icu_zerovec::{ZeroSlice, ZeroVec};
+use crate::icu_zerovec::ZeroVec;
 use crate::support::prelude::*;
-
-/// `cell_of` over packed vectors.
-#[inline]
-fn cell_counted<T: TrieValue>(
-    header: &CodePointTrieHeader,
-    index: ZeroSlice<'_, u16>,
-    values: ZeroSlice<'_, T>,
-    c: u32,
-) -> Option<usize> {
-    let mut cells = PackedCells { index, values };
-    cell_of(header, &mut cells, c)
-}
-
-/// `cell_of` over packed vectors.
-#[inline]
-fn cell_in<T: TrieValue>(
-    header: &CodePointTrieHeader,
-    index: ZeroSlice<'_, u16>,
-    values: ZeroSlice<'_, T>,
-    c: u32,
-) -> Option<usize> {
-    cell_counted::<T>(header, index, values, c)
-}
 
 /// Returns the packed bytes of the value at index `i`, or `None` if `i` is past the end.
 #[inline]
@@ -54,7 +28,6 @@ impl<'trie, T: TrieValue> CodePointTrie<'trie, T> {
     #[must_use]
     #[inline]
     pub fn get32_ule(&self, c: u32) -> Option<&[u8]> {
-        let place = cell_in(&self.header, self.index.as_slice(), self.data.as_slice(), c);
-        bytes_at(&self.data, place.unwrap_or(self.data.len() - 1))
+        bytes_at(&self.data, self.as_view().place(c))
     }
 }

@@ -1,32 +1,19 @@
 //! The check whether a trie is coherent.
 
 use crate::icu_trie::cptrie::CodePointTrie;
-use crate::icu_trie::packed_cells::PackedCells;
-use crate::icu_trie_core::coherent::is_coherent;
-use crate::icu_trie_core::header::CodePointTrieHeader;
+use crate::icu_trie::packed_cells::is_coherent_in;
+use crate::icu_trie::view::TrieView;
 use crate::icu_trie_core::value::TrieValue;
-use crate::icu_zerovec::ZeroSlice;
 use crate::support::prelude::*;
 
-/// `is_coherent` over packed vectors.
-#[inline]
-fn is_coherent_counted<T: TrieValue>(
-    header: &CodePointTrieHeader,
-    index: ZeroSlice<'_, u16>,
-    values: ZeroSlice<'_, T>,
-) -> bool {
-    let mut cells = PackedCells { index, values };
-    is_coherent(header, &mut cells)
-}
-
-/// `is_coherent` over packed vectors.
-#[inline]
-fn is_coherent_in<T: TrieValue>(
-    header: &CodePointTrieHeader,
-    index: ZeroSlice<'_, u16>,
-    values: ZeroSlice<'_, T>,
-) -> bool {
-    is_coherent_counted::<T>(header, index, values)
+impl<'a, T: TrieValue> TrieView<'a, T> {
+    /// Returns true if the trie is coherent, as [`CodePointTrie::is_coherent`] does.
+    #[must_use]
+    #[inline]
+    pub fn is_coherent(&self) -> bool {
+        let (header, index, data) = self.parts();
+        is_coherent_in(&header, index, data)
+    }
 }
 
 impl<'trie, T: TrieValue> CodePointTrie<'trie, T> {
@@ -70,6 +57,6 @@ impl<'trie, T: TrieValue> CodePointTrie<'trie, T> {
     #[must_use]
     #[inline]
     pub fn is_coherent(&self) -> bool {
-        is_coherent_in(&self.header, self.index.as_slice(), self.data.as_slice())
+        self.as_view().is_coherent()
     }
 }

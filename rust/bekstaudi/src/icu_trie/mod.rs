@@ -1,6 +1,7 @@
 //! Maps from code points to values that are read in place: ICU's code point tries.
 //!
 //! - `cptrie`: [`CodePointTrie`](cptrie::CodePointTrie), the trie over packed vectors
+//! - `view`: [`TrieView`](view::TrieView), a trie wherever its cells are stored, with the look-up
 //! - `coherence`: the check whether a trie is coherent
 //! - `ranges`: its ranges of equal values, and the set of code points with a value
 //! - `ranges_of_value`: the ranges with a certain value
@@ -29,6 +30,7 @@ mod packed_cells;
 pub mod ranges;
 pub mod ranges_of_value;
 pub mod typed;
+pub mod view;
 
 #[allow(unused_imports)]
 pub use crate::icu_trie_core::{cells, coherent, header, impl_const, lookup, value, walk};

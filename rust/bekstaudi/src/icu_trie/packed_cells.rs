@@ -1,8 +1,8 @@
 //! The cells of two packed vectors, and the functions of the format that read only these.
 
 use crate::icu_trie_core::cells::Cells;
-use crate::icu_trie_core::header::{CodePointTrieHeader, TrieType};
-use crate::icu_trie_core::lookup::small_place_of;
+use crate::icu_trie_core::coherent::is_coherent;
+use crate::icu_trie_core::header::CodePointTrieHeader;
 use crate::icu_trie_core::range::CodePointMapRange;
 use crate::icu_trie_core::value::TrieValue;
 use crate::icu_trie_core::walk::walk;
@@ -47,29 +47,6 @@ impl<'a, T: TrieValue> Cells<T> for PackedCells<'a, T> {
     }
 }
 
-/// `small_place_of` over packed vectors.
-#[inline(always)]
-fn small_place_counted<T: TrieValue>(
-    trie_type: TrieType,
-    index: ZeroSlice<'_, u16>,
-    values: ZeroSlice<'_, T>,
-    c: u32,
-) -> Option<usize> {
-    let mut cells = PackedCells { index, values };
-    small_place_of(trie_type, &mut cells, c)
-}
-
-/// `small_place_of` over packed vectors.
-#[inline(always)]
-pub(crate) fn small_place_in<T: TrieValue>(
-    trie_type: TrieType,
-    index: ZeroSlice<'_, u16>,
-    values: ZeroSlice<'_, T>,
-    c: u32,
-) -> Option<usize> {
-    small_place_counted::<T>(trie_type, index, values, c)
-}
-
 /// `walk` over packed vectors.
 #[inline(always)]
 fn walk_counted<T: TrieValue>(
@@ -91,4 +68,25 @@ pub(crate) fn walk_in<T: TrieValue>(
     c: u32,
 ) -> Option<CodePointMapRange<T>> {
     walk_counted::<T>(header, index, values, c)
+}
+
+/// `is_coherent` over packed vectors.
+#[inline]
+fn is_coherent_counted<T: TrieValue>(
+    header: &CodePointTrieHeader,
+    index: ZeroSlice<'_, u16>,
+    values: ZeroSlice<'_, T>,
+) -> bool {
+    let mut cells = PackedCells { index, values };
+    is_coherent(header, &mut cells)
+}
+
+/// `is_coherent` over packed vectors.
+#[inline]
+pub(crate) fn is_coherent_in<T: TrieValue>(
+    header: &CodePointTrieHeader,
+    index: ZeroSlice<'_, u16>,
+    values: ZeroSlice<'_, T>,
+) -> bool {
+    is_coherent_counted::<T>(header, index, values)
 }

@@ -3,11 +3,23 @@
 use crate::icu_invlist::codepointinvlist::CodePointInversionList;
 use crate::icu_trie::cptrie::CodePointTrie;
 use crate::icu_trie::packed_cells::walk_in;
+use crate::icu_trie::view::TrieView;
 pub use crate::icu_trie_core::range::CodePointMapRange;
 use crate::icu_trie_core::value::TrieValue;
 use crate::icu_trie_core::walk::is_same;
 use crate::icu_zerovec::{CODE_POINT_LIMIT, MemoryError};
 use crate::support::prelude::*;
+
+impl<'a, T: TrieValue> TrieView<'a, T> {
+    /// Returns the range of code points from `c` on that have the same value as `c`, as
+    /// [`CodePointTrie::get_range`] does.
+    #[inline(always)]
+    #[must_use]
+    pub fn get_range(&self, c: u32) -> Option<CodePointMapRange<T>> {
+        let (header, index, data) = self.parts();
+        walk_in(&header, index, data, c)
+    }
+}
 
 impl<'trie, T: TrieValue> CodePointTrie<'trie, T> {
     /// Returns the range of code points from `c` on that have the same value as `c`.
@@ -19,7 +31,7 @@ impl<'trie, T: TrieValue> CodePointTrie<'trie, T> {
     #[inline(always)]
     #[must_use]
     pub fn get_range(&self, c: u32) -> Option<CodePointMapRange<T>> {
-        walk_in(&self.header, self.index.as_slice(), self.data.as_slice(), c)
+        self.as_view().get_range(c)
     }
 
     /// Returns an iterator over the ranges of equal values, in order from 0 on. Each range starts

@@ -119,17 +119,17 @@ impl<'trie, T: TrieValue> TypedCodePointTrie<'trie, T> for FastCodePointTrie<'tr
 
     #[inline(always)]
     fn get32(&self, c: u32) -> T {
-        self.inner.value_by_type(TrieType::Fast, c)
+        self.inner.as_view().value_by_type(TrieType::Fast, c)
     }
 
     #[inline(always)]
     fn get(&self, c: char) -> T {
-        self.inner.character_by_type(TrieType::Fast, c)
+        self.inner.as_view().character_by_type(TrieType::Fast, c)
     }
 
     #[inline(always)]
     fn get32_by_fast_index(&self, c: u32) -> Option<T> {
-        self.inner.fast_value_by_type(TrieType::Fast, c)
+        self.inner.as_view().fast_value_by_type(TrieType::Fast, c)
     }
 }
 
@@ -158,17 +158,17 @@ impl<'trie, T: TrieValue> TypedCodePointTrie<'trie, T> for SmallCodePointTrie<'t
 
     #[inline(always)]
     fn get32(&self, c: u32) -> T {
-        self.inner.value_by_type(TrieType::Small, c)
+        self.inner.as_view().value_by_type(TrieType::Small, c)
     }
 
     #[inline(always)]
     fn get(&self, c: char) -> T {
-        self.inner.character_by_type(TrieType::Small, c)
+        self.inner.as_view().character_by_type(TrieType::Small, c)
     }
 
     #[inline(always)]
     fn get32_by_fast_index(&self, c: u32) -> Option<T> {
-        self.inner.fast_value_by_type(TrieType::Small, c)
+        self.inner.as_view().fast_value_by_type(TrieType::Small, c)
     }
 }
 

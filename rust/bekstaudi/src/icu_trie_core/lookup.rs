@@ -7,7 +7,6 @@ use crate::icu_trie_core::impl_const::{
     HIGH_VALUE_NEG_DATA_OFFSET, INDEX_2_MASK, INDEX_3_MASK, OMITTED_BMP_INDEX_1_LENGTH, SHIFT_1,
     SHIFT_2, SHIFT_3, SMALL_DATA_MASK, SMALL_INDEX_LENGTH,
 };
-use crate::icu_zerovec::CODE_POINT_LIMIT;
 use crate::support::prelude::*;
 
 /// Returns the index-2 cell of a code point, in at most two reads.
@@ -27,8 +26,10 @@ pub(crate) fn index2_cell_of<T, C: Cells<T>>(
 
 /// Returns the 18-bit offset number `place` of a group of eight. `high` is the cell with bits 16
 /// and 17 of all eight offsets, and `low` is the offset's own cell.
+///
+/// Public for the crates that build on this one.
 #[inline]
-fn long_offset_of(high: u16, low: u16, place: u32) -> u32 {
+pub(crate) fn long_offset_of(high: u16, low: u16, place: u32) -> u32 {
     (((high as u32) << (2 + 2 * place)) & 0x30000) | low as u32
 }
 
@@ -54,9 +55,9 @@ pub(crate) fn offset_of<T, C: Cells<T>>(
 /// Returns the data position of a code point from the fast limit on and below the high start,
 /// through the three stages of the index. Returns `None` if a cell of the index is missing.
 ///
-/// Takes at most four reads. Public for the crates that build on this one.
+/// Takes at most four reads.
 #[inline(always)]
-pub fn small_place_of<T, C: Cells<T>>(trie_type: TrieType, cells: &mut C, c: u32) -> Option<usize> {
+fn small_place_of<T, C: Cells<T>>(trie_type: TrieType, cells: &mut C, c: u32) -> Option<usize> {
     let index2_cell = index2_cell_of(trie_type, cells, c)?;
     let offset = offset_of(cells, index2_cell, (c >> SHIFT_3) & INDEX_3_MASK)?;
     Some(offset as usize + (c & SMALL_DATA_MASK) as usize)
@@ -67,30 +68,6 @@ pub fn small_place_of<T, C: Cells<T>>(trie_type: TrieType, cells: &mut C, c: u32
 #[inline(always)]
 pub(crate) fn high_cell_of(len: usize) -> Option<usize> {
     len.checked_sub(HIGH_VALUE_NEG_DATA_OFFSET as usize)
-}
-
-/// Returns the data position of the cell of `c`, which can be any 32-bit number. The position may
-/// be outside the data.
-///
-/// Returns `None` if `c` is above 0x10FFFF, if a cell of the index is missing, or if the high value
-/// is missing. Takes at most four reads. Public for the crates that build on this one.
-#[inline]
-pub fn cell_of<T, C: Cells<T>>(
-    header: &CodePointTrieHeader,
-    cells: &mut C,
-    c: u32,
-) -> Option<usize> {
-    if c < header.trie_type.fast_limit() {
-        let offset = cells.index_cell((c >> FAST_TYPE_SHIFT) as usize)?;
-        return Some(offset as usize + (c & FAST_TYPE_DATA_MASK) as usize);
-    }
-    if c >= CODE_POINT_LIMIT {
-        return None;
-    }
-    if header.high_start <= c {
-        return high_cell_of(cells.data_len());
-    }
-    small_place_of(header.trie_type, cells, c)
 }
 
 /// Returns the cell of `c`, or `None` for the error value.

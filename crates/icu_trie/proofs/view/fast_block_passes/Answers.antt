@@ -7,7 +7,7 @@ use Rattle.icu_trie_core.specs.declared.header.TrieType.{TrieType}
 use Rattle.icu_trie_core.specs.declared.header.TrieType.TheVariants.{Fast, Small}
 use Rattle.icu_trie_core.specs.FastIndex.{fast_index_len}
 use Rattle.icu_trie.proofs.FastCells.{Decides, halves, more, passes}
-use Rattle.icu_trie.proofs.cptrie.fast_block_passes.Goals as goal
+use Rattle.icu_trie.proofs.view.fast_block_passes.Goals as goal
 
 -- The number of cells in the fast index is even.
 even : (trie_type : TrieType) → fast_index_len trie_type / 2 + fast_index_len trie_type / 2 ≡ fast_index_len trie_type

@@ -1,6 +1,0 @@
-use Rattle.std.proofs.Common.{◌∙◌}
-use Rattle.icu_trie.proofs.Positions.{value_of_position}
-use Rattle.icu_trie.proofs.cptrie.CodePointTrie.character_by_type.Goals as goal
-
-pub returns : goal.returns
-returns g c = c.value_at.ensures ∙ value_of_position c.args.self.now c.args.c c.character_place.result.0 c.character_place.ensures.place
