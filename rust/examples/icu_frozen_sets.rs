@@ -4,6 +4,11 @@ use bekstaudi::codepointinvlist::{CodePointInversionList, FrozenCodePointSet};
 let letters = FrozenCodePointSet::freeze(&('a'..='z').collect());
 assert_eq!(letters.span_utf8(b"ab\xFFc", true), 2);
 assert_eq!(letters.span_utf8(b"\xFFab", false), 0);
+//# bytes span_back_utf8
+use bekstaudi::codepointinvlist::FrozenCodePointSet;
+
+let letters = FrozenCodePointSet::freeze(&('a'..='z').collect());
+assert_eq!(letters.span_back_utf8(b"a\xFFbc", true), 2);
 //# frozen FrozenCodePointSet
 use bekstaudi::codepointinvlist::{CodePointInversionList, FrozenCodePointSet};
 
@@ -12,13 +17,13 @@ let letters = FrozenCodePointSet::freeze(&set);
 assert!(letters.contains('a') && !letters.contains('A'));
 assert_eq!(letters.span("word!", true), 4);
 assert_eq!(letters.as_set(), &set);
-//# frozen tables
-use bekstaudi::codepointinvlist::{FrozenCodePointSet, FrozenTables};
+//# frozen as_words
+use bekstaudi::codepointinvlist::{FrozenCodePointSet, FrozenView};
 
 let letters = FrozenCodePointSet::freeze(&('A'..='Z').collect());
-let FrozenTables { index, words } = letters.tables();
-let contains = |c: usize| words[usize::from(index[c / 256]) + c / 64 % 4] >> (c % 64) & 1 == 1;
-assert!(contains(0x41) && !contains(0x61));
+let words = letters.as_words();
+let view = FrozenView::new(words);
+assert!(view.contains('A') && !view.contains('a'));
 //# spans spans
 use bekstaudi::codepointinvlist::FrozenCodePointSet;
 
@@ -31,3 +36,11 @@ use bekstaudi::codepointinvlist::FrozenCodePointSetAndStrings;
 let words = FrozenCodePointSetAndStrings::freeze(&["a", "abc"].into_iter().collect());
 assert!(words.contains_str("abc") && words.contains_str("a"));
 assert!(!words.contains_str("ab"));
+//# view FrozenView
+use bekstaudi::codepointinvlist::{FrozenCodePointSet, FrozenView};
+
+let letters = FrozenCodePointSet::freeze(&('a'..='z').collect());
+let words: Vec<u64> = letters.as_words().to_vec();
+let view = FrozenView::new(&words);
+assert_eq!(view.span_utf8(b"ab\xFF", true), 2);
+assert_eq!(view.span_utf16(&[0x61, 0xD800], true), 1);

@@ -1,5 +1,5 @@
 -- The definitions of sets of code points: inversion lists, their members, their ranges, and
--- operations on them; the spans of a text by a frozen set, and its tables.
+-- operations on them; the spans of a text by a frozen set, and its words.
 pub use Rattle.icu_zerovec.specs.CodePoints.{code_point_limit}
 pub use Rattle.icu_invlist.specs.InversionList.{IsValid, holds, is_odd}
 unfoldable pub use Rattle.icu_invlist.specs.InversionList.{ends_up_to, members, members_below}
@@ -9,6 +9,8 @@ pub use Rattle.icu_invlist.specs.InversionList.{AreApart, IsOfCodePoints, Starts
 pub use Rattle.icu_invlist.specs.InversionList.{characters, complement_of, toggle_back, toggle_front}
 pub use Rattle.icu_invlist.specs.NamedCodePoints.{IsUnionOf, adds, end_of_included, end_of_inclusive, is_used_up, open_end, open_start, range_of_numbers}
 pub use Rattle.icu_invlist.specs.Refusals.{IsRefusedList, IsRefusedRange, IsRefusedSlice}
-pub use Rattle.icu_frozen_sets.specs.CodePointBits.{AreTablesOf, BitTables, has_bit, word_with}
+pub use Rattle.icu_frozen_sets.specs.FrozenView.{view_words}
+pub use Rattle.icu_frozen_sets.specs.FrozenWords.{IsFrozenOf, bit_in, is_held, place_in}
+pub use Rattle.icu_frozen_sets.specs.LongestSpans.{AllHeld, IsSpan, IsSpanBack, unit_count, unit_span}
 pub use Rattle.icu_frozen_sets.specs.Spans.{AreAlternating, AreSpans, GivesSpan, IsFirstSpan, IsOfOneKind, TextToCut, front_of}
 pub use Rattle.icu_frozen_sets.specs.TextFronts.{IsTextUpTo}

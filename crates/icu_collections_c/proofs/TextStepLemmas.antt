@@ -1,14 +1,15 @@
 -- A cursor that passes the characters of bytes that may be ill-formed UTF-8, one after another.
-use Rattle.std.proofs.Common.{◌≡◌, ◌∙◌, refl, sym, ap, subst, ℕ, ℤ, zero, suc, ◌+◌, ◌<◌, ◌≤◌, Bool, true, false, List, [], ◌∷◌, ◌++◌, Option, Some, None, length, take, drop, get_or, append-nil, append_assoc, length-append, arith, inl, inr, encode_utf8}
+use Rattle.std.proofs.Common.{◌≡◌, ◌∙◌, refl, sym, ap, subst, ℕ, ℤ, zero, suc, ◌+◌, ◌<◌, ◌≤◌, true, List, [], ◌∷◌, ◌++◌, Option, Some, None, length, take, drop, get_or, append-nil, append_assoc, length-append, arith, inl, inr, encode_utf8}
 use Rattle.std.specs.Prelude.{IfSome, encode_utf8_all}
 use Rattle.std.specs.Char.{IsScalar}
 use Rattle.std.specs.Char.Escape.{encode_utf16}
 use Rattle.std.specs.List.{flat_map}
-use Rattle.std.specs.Str.{IsUtf8, StartsWithNoChar, all_scalars, chars, is_utf8}
-use Rattle.std.proofs.lemmas.Bool.{and_parts, cases_lt, true≢false}
+use Rattle.std.specs.Str.{IsUtf8, StartsWithNoChar, all_scalars, chars}
+use Rattle.std.proofs.lemmas.Bool.{and_parts, cases_lt}
 use Rattle.std.proofs.lemmas.List.{drop_all, drop_at, drop_more, length-take-le, take-append-drop, take_at, take_more}
-use Rattle.std.proofs.lemmas.Str.{IsCharBoundary-from_take, IsUtf8-append, IsUtf8-encode, IsUtf8-from_is_utf8, IsUtf8-nil, encode_same, encodes-append, encodes-chars, is_utf8-from_IsUtf8, length-encode, length-le-encodes, scalars-chars}
+use Rattle.std.proofs.lemmas.Str.{IsCharBoundary-from_take, IsUtf8-append, IsUtf8-encode, IsUtf8-nil, encode_same, encodes-append, encodes-chars, length-encode, length-le-encodes, scalars-chars}
 use Rattle.icu_frozen_sets.specs.TextFronts.{IsTextUpTo}
+use Rattle.icu_frozen_sets.proofs.CallerLemmas.{text_front}
 use Rattle.icu_char16trie.specs.Grammar.{IsTrieOf}
 use Rattle.icu_char16trie.specs.Matches.{HasCharsStepped, HasCharsValue, LongestWithin, front_units, in_bytes, match_at}
 use Rattle.icu_char16trie.specs.Steps.{StepsAlong}
@@ -22,27 +23,7 @@ use Rattle.icu_collections_c.specs.UnitTries.{EndsAtBoundary}
 use Rattle.icu_utf.proofs.CallerLemmas.{size_of}
 use Rattle.icu_collections_c.proofs.UnitPrefixLemmas.{AllValued, HasLooked, few-looked, looked_all_exact, looked_all_keys, looked_ends_exact, looked_ends_keys, looked_first, looked_next}
 
--- ---- the longest prefix that is UTF-8
-text_below : (bytes : List ℕ) (k : ℕ) → k ≤ length bytes → ((m : ℕ) → k < m → m ≤ length bytes → ¬ (IsUtf8 (take m bytes)))
-    → (n : ℕ) × IsTextUpTo bytes n
-text_below bytes zero within none = (0, record { within = within; front = IsUtf8-nil; longest = none })
-text_below bytes (suc k) within none = by (is_utf8 (take (suc k) bytes)) refl (text_below bytes k (omega (arith, within)))
-  where
-    by : (b : Bool) → is_utf8 (take (suc k) bytes) ≡ b
-        → (((m : ℕ) → k < m → m ≤ length bytes → ¬ (IsUtf8 (take m bytes))) → (n : ℕ) × IsTextUpTo bytes n) → (n : ℕ) × IsTextUpTo bytes n
-    by true e below = (suc k, record { within = within; front = IsUtf8-from_is_utf8 _ e; longest = none })
-    by false e below = below (λ m above there u. elim (cases_lt (suc k) m) [
-      | inl more ↦ none m more there u
-      | inr less ↦
-          let same : m ≡ suc k = omega (arith, above, less) in
-          true≢false (sym (is_utf8-from_IsUtf8 _ (subst (λ i. IsUtf8 (take i bytes)) same u)) ∙ e)
-    ])
-
--- There is one.
-pub text_front : (bytes : List ℕ) → (n : ℕ) × IsTextUpTo bytes n
-text_front bytes = text_below bytes (length bytes) (omega arith) (λ m above there u. omega (arith, above, there))
-
--- Its characters.
+-- The characters of the longest prefix that is UTF-8.
 abbrev pub chars_of : List ℕ → List ℕ
 chars_of bytes = chars (take (text_front bytes).0 bytes)
 

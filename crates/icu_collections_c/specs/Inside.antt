@@ -4,7 +4,6 @@ pub mod BuiltValues
 pub mod Joined
 pub mod Listed
 pub mod NumberLaws
-pub mod PackedPlaces
 pub mod Pages
 pub mod SetPlaces
 pub mod TextCells

@@ -1,13 +1,12 @@
--- Setting blocks of the tables.
-use Rattle.std.proofs.Common.{◌≡◌, ◌∙◌, ℕ, ◌+◌, ◌-◌, ◌/◌, ◌%◌, ◌^◌, ◌<◌, ◌≤◌, List, [], ◌∷◌, ◌++◌, ◌*◌, length, take, drop, get_or, set, replicate, refl, ap, sym, arith, zero, suc, zero-add, Bool, true, false, cond, inl, inr}
+-- Setting blocks of the words of a frozen set.
+use Rattle.std.proofs.Common.{◌≡◌, ◌∙◌, ℕ, ◌+◌, ◌-◌, ◌*◌, ◌/◌, ◌%◌, ◌^◌, ◌<◌, ◌≤◌, List, [], ◌∷◌, ◌++◌, length, take, get_or, replicate, refl, ap, sym, arith, zero, suc, Bool, true, false, cond, inl, inr}
 use Rattle.std.specs.Int.{bit_at}
 use Rattle.std.specs.Prelude.{nat_eq, ◌||◌}
 use Rattle.std.proofs.lemmas.Bool.{cases_eq, cases_lt}
-use Rattle.std.proofs.lemmas.Grind.{get_or-set_at}
-use Rattle.std.proofs.lemmas.List.{length-set, length-replicate, length-take-le, get_or-take, get_or-drop, get_or_append_left, get_or-append_right, get_or_default, get_or_past, get_or-replicate, get_or-set_other}
+use Rattle.std.proofs.lemmas.List.{length-append, length-replicate, get_or_append_left, get_or-append_right, get_or-replicate, take_all}
 use Rattle.std.proofs.lemmas.Nat.Bits.{bit_at_ones, bit_at-zero}
 use Rattle.icu_invlist.specs.InversionList.{between}
-use Rattle.icu_frozen_sets.specs.CodePointBits.{BitTables, has_bit, word_with}
+use Rattle.icu_frozen_sets.specs.FrozenWords.{bit_in, place_in}
 use Rattle.icu_frozen_sets.specs.Inside.Filling.{AreTables, IsFilling, SetsBlock, block_bit}
 use Rattle.icu_frozen_sets.proofs.BitLemmas.{between_after, between_before, between_in, or_false, or_true}
 
@@ -16,74 +15,120 @@ pub bit_of_uniform : (value : Bool) (word k : ℕ) → word ≡ cond value (2 ^ 
 bit_of_uniform true word k e h = rw (e, bit_at_ones 64 k h) refl
 bit_of_uniform false word k e h = rw (e, bit_at-zero k) refl
 
-pub shared_word : (t : BitTables) (value : Bool) (j : ℕ) → AreTables t → j < 4
-    → get_or t.words (cond value 4 0 + j) 0 ≡ cond value (2 ^ 64 - 1) 0
-shared_word t true j a h = a.all j h
-shared_word t false j a h = rw zero-add (a.none j h)
+-- The bit of c by the offset of its block.
+pub bit_by_place : (t : List ℕ) (c p : ℕ) → place_in t (c / 256) ≡ p
+    → bit_in t c ≡ nat_eq (bit_at (get_or t (1088 + p + c / 64 % 4) 0) (c % 64)) 1
+bit_by_place t c p e = ap (λ (n : ℕ). nat_eq (bit_at (get_or t (1088 + n + c / 64 % 4) 0) (c % 64)) 1) e
 
-shared_place : (value : Bool) → cond value 4 0 ≤ 4
-shared_place true = omega arith
-shared_place false = omega arith
+-- An empty block has no bit, and a full block has all.
+pub empty_block : (t : List ℕ) (c : ℕ) → AreTables t → place_in t (c / 256) ≡ 0 → bit_in t c ≡ false
+empty_block t c a e = bit_by_place t c 0 e ∙ bit_of_uniform false _ (c % 64) (a.none (c / 64 % 4) (omega arith)) (omega arith)
+
+pub full_block : (t : List ℕ) (c : ℕ) → AreTables t → place_in t (c / 256) ≡ 4 → bit_in t c ≡ true
+full_block t c a e = bit_by_place t c 4 e ∙ bit_of_uniform true _ (c % 64) (a.all (c / 64 % 4) (omega arith)) (omega arith)
 
 -- ---- a block is set
--- The block shares its words with all empty or all full blocks.
-module _ (t : BitTables) (index : List ℕ) (at place : ℕ) (value : Bool) (a : AreTables t) (there : at < length t.index)
-    (p : place ≡ cond value 4 0) (e : index ≡ set t.index at place) where
-  same_length : length index ≡ length t.index
-  same_length = ap length e ∙ length-set t.index at place
+-- Up to four words are appended, and the offset of block `at` is written.
+module _ (t mid new : List ℕ) (at place : ℕ) (a : AreTables t) (there : at < 4352) (longer : length t ≤ length mid)
+    (few : length mid ≤ length t + 4) (most : length mid ≤ 1096 + 4 * 4352)
+    (front : (k : ℕ) → k < length t → get_or mid k 0 ≡ get_or t k 0) (len : length new ≡ length mid)
+    (here : place_in new at ≡ place) (elsewhere : (b : ℕ) → (b ≡ at → ⊥) → place_in new b ≡ place_in mid b)
+    (kept : (k : ℕ) → (k ≡ at / 4 → ⊥) → get_or new k 0 ≡ get_or mid k 0) (fits : 1088 + place + 4 ≤ length mid) where
+  same_word : (k : ℕ) → 1088 ≤ k → k < length t → get_or new k 0 ≡ get_or t k 0
+  same_word k l h = kept k (λ e. omega (arith, e)) ∙ front k h
 
-  here : (b : ℕ) → b ≡ at → get_or index b 0 ≡ cond value 4 0
-  here b q = ap (λ (l : List ℕ). get_or l b 0) e ∙ (get_or-set_at t.index at b place 0 q there ∙ p)
+  old_place : (b : ℕ) → (b ≡ at → ⊥) → b < 4352 → place_in new b ≡ place_in t b
+  old_place b n l = elsewhere b n
+      ∙ ap (λ (w : ℕ). w / 2 ^ (16 * (b % 4)) % 2 ^ 16) (front (b / 4) (let m = a.least in omega arith))
 
-  elsewhere : (b : ℕ) → (b ≡ at → ⊥) → get_or index b 0 ≡ get_or t.index b 0
-  elsewhere b n = ap (λ (l : List ℕ). get_or l b 0) e ∙ get_or-set_other t.index at b place 0 n
-
-  shared_placed : (b : ℕ) → b < length index → get_or index b 0 + 4 ≤ length t.words
-  shared_placed b h = elim (cases_eq b at) [
-    | inl q ↦ (let k = here b q in let m = shared_place value in let l = a.least in omega arith)
-    | inr n ↦ (let k = elsewhere b n in let m = a.placed b (omega (arith, h, same_length)) in omega arith)
+  set_placed : (b : ℕ) → b < 4352 → 1088 + place_in new b + 4 ≤ length new
+  set_placed b l = elim (cases_eq b at) [
+    | inl q ↦ (let e : place_in new b ≡ place = ap (λ (n : ℕ). place_in new n) q ∙ here in omega (arith, e))
+    | inr n ↦ (let e = old_place b n l in let p = a.placed b l in omega (arith, e, p))
   ]
 
-  pub sets_shared : SetsBlock t (record { index = index; words = t.words }) at (λ c. value)
-  sets_shared = record {
+  pub sets_block : (bits : ℕ → Bool)
+      → ((c : ℕ) → c / 256 ≡ at → nat_eq (bit_at (get_or new (1088 + place + c / 64 % 4) 0) (c % 64)) 1 ≡ bits c)
+      → SetsBlock t new at bits
+  sets_block bits set = record {
     tables = record {
-      least = a.least;
-      most = (let m = a.most in let n = same_length in omega arith);
-      placed = shared_placed;
-      none = a.none;
-      all = a.all;
+      least = (let m = a.least in omega arith);
+      most = omega arith;
+      placed = set_placed;
+      none = λ k h. same_word (1088 + k) (omega arith) (let m = a.least in omega arith) ∙ a.none k h;
+      all = λ k h. same_word (1092 + k) (omega arith) (let m = a.least in omega arith) ∙ a.all k h;
     };
-    blocks = same_length;
     few = omega arith;
-    others = elsewhere;
-    kept = λ c n h. ap (λ (n : ℕ). nat_eq (bit_at (get_or t.words (n + c / 64 % 4) 0) (c % 64)) 1) (elsewhere (c / 256) n);
-    set = λ c q. ap (λ (n : ℕ). nat_eq (bit_at (get_or t.words (n + c / 64 % 4) 0) (c % 64)) 1) (here (c / 256) q)
-        ∙ bit_of_uniform value _ (c % 64) (shared_word t value (c / 64 % 4) a (omega arith)) (omega arith);
+    others = old_place;
+    kept = λ c n h.
+        let p = a.placed (c / 256) (omega arith) in
+        bit_by_place new c (place_in t (c / 256)) (old_place (c / 256) n (omega arith))
+        ∙ ap (λ (w : ℕ). nat_eq (bit_at w (c % 64)) 1)
+        (same_word (1088 + place_in t (c / 256) + c / 64 % 4) (omega arith) (omega (arith, p)));
+    set = λ c q. bit_by_place new c place (ap (λ (n : ℕ). place_in new n) q ∙ here) ∙ set c q;
   }
 
+-- A block is made full.
+pub sets_full : (t new : List ℕ) (at : ℕ) → AreTables t → at < 4352 → length new ≡ length t → place_in new at ≡ 4
+    → ((b : ℕ) → (b ≡ at → ⊥) → place_in new b ≡ place_in t b) → ((k : ℕ) → (k ≡ at / 4 → ⊥) → get_or new k 0 ≡ get_or t k 0)
+    → SetsBlock t new at (λ c. true)
+sets_full t new at a there len here elsewhere kept =
+    let m = a.least in
+    sets_block t t new at 4 a there (omega arith) (omega arith) a.most (λ k h. refl) len here elsewhere kept (omega arith) (λ c. true)
+    (λ c q. bit_of_uniform true _ (c % 64)
+    (kept (1092 + c / 64 % 4) (λ e. omega (arith, e)) ∙ a.all (c / 64 % 4) (omega arith)) (omega arith))
+
+-- A block gets four words of its own.
+pub sets_own : (t mid new block : List ℕ) (at place : ℕ) → AreTables t → at < 4352 → length t ≤ 1096 + 4 * at → length block ≡ 4
+    → mid ≡ t ++ block → place ≡ length t - 1088 → length new ≡ length mid → place_in new at ≡ place
+    → ((b : ℕ) → (b ≡ at → ⊥) → place_in new b ≡ place_in mid b) → ((k : ℕ) → (k ≡ at / 4 → ⊥) → get_or new k 0 ≡ get_or mid k 0)
+    → SetsBlock t new at (block_bit block)
+sets_own t mid new block at place a there room four grown is len here elsewhere kept =
+    let m = a.least in
+    let long : length mid ≡ length t + 4 = ap (λ (l : List ℕ). length l) grown ∙ length-append t block ∙ omega arith in
+    sets_block t mid new at place a there (omega (arith, long)) (omega (arith, long)) (omega (arith, long))
+    (λ k h. ap (λ (l : List ℕ). get_or l k 0) grown ∙ get_or_append_left t block 0 k h) len here elsewhere kept (omega (arith, long))
+    (block_bit block)
+    (λ c q.
+    let j : ℕ = 1088 + place + c / 64 % 4 in
+    let less : j - length t ≡ c / 64 % 4 = omega arith in
+    ap (λ (w : ℕ). nat_eq (bit_at w (c % 64)) 1)
+    (kept j (λ e. omega (arith, e)) ∙ (ap (λ (l : List ℕ). get_or l j 0) grown
+    ∙ (get_or-append_right t block (length t) j 0 refl (omega arith) ∙ ap (λ (k : ℕ). get_or block k 0) less))))
+
 -- A block of equal words.
-pub uniform_block : (t new : BitTables) (block : List ℕ) (at : ℕ) (value : Bool) → SetsBlock t new at (λ c. value)
+pub uniform_block : (t new : List ℕ) (block : List ℕ) (at : ℕ) (value : Bool) → SetsBlock t new at (λ c. value)
     → ((k : ℕ) → k < 4 → get_or block k 0 ≡ cond value (2 ^ 64 - 1) 0) → SetsBlock t new at (block_bit block)
 uniform_block t new block at value s all = record {
   tables = s.tables;
-  blocks = s.blocks;
   few = s.few;
   others = s.others;
   kept = s.kept;
   set = λ c q. s.set c q ∙ sym (bit_of_uniform value _ (c % 64) (all (c / 64 % 4) (omega arith)) (omega arith));
 }
 
+-- A block that is empty stays so.
+pub sets_empty : (t : List ℕ) (at : ℕ) → AreTables t → at < 4352 → place_in t at ≡ 0 → SetsBlock t t at (λ c. false)
+sets_empty t at a there e = record {
+  tables = a;
+  few = omega arith;
+  others = λ b n l. refl;
+  kept = λ c n h. refl;
+  set = λ c q. empty_block t c a (ap (λ (n : ℕ). place_in t n) q ∙ e);
+}
+
 -- The blocks from `from` to before `to` are made full.
-module _ (t : BitTables) (index : List ℕ) (from to : ℕ) (a : AreTables t) (same : length index ≡ length t.index)
-    (full : (b : ℕ) → get_or index b 0 ≡ cond (between from to b) 4 (get_or t.index b 0)) where
-  inside_run : (b : ℕ) → from ≤ b → b < to → get_or index b 0 ≡ 4
+module _ (t new : List ℕ) (from to : ℕ) (a : AreTables t) (len : length new ≡ length t)
+    (full : (b : ℕ) → place_in new b ≡ cond (between from to b) 4 (place_in t b))
+    (kept : (k : ℕ) → 1088 ≤ k → get_or new k 0 ≡ get_or t k 0) where
+  inside_run : (b : ℕ) → from ≤ b → b < to → place_in new b ≡ 4
   inside_run b l h = full b ∙ rw (between_in from to b l h) refl
 
-  outside_run : (b : ℕ) → between from to b ≡ false → get_or index b 0 ≡ get_or t.index b 0
+  pub outside_run : (b : ℕ) → between from to b ≡ false → place_in new b ≡ place_in t b
   outside_run b n = full b ∙ rw n refl
 
-  run_placed : (b : ℕ) → b < length index → get_or index b 0 + 4 ≤ length t.words
-  run_placed b h = let p = a.placed b (omega (arith, h, same)) in
+  run_placed : (b : ℕ) → b < 4352 → 1088 + place_in new b + 4 ≤ length new
+  run_placed b h = let p = a.placed b h in
       elim (cases_lt b from) [
         | inl l ↦ (let e = outside_run b (between_before from to b l) in omega (arith, e, p))
         | inr l ↦ elim (cases_lt b to) [
@@ -92,40 +137,30 @@ module _ (t : BitTables) (index : List ℕ) (from to : ℕ) (a : AreTables t) (s
         ]
       ]
 
-  pub run_tables : AreTables (record { index = index; words = t.words })
+  pub run_tables : AreTables new
   run_tables = record {
-    least = a.least;
-    most = (let m = a.most in omega (arith, m, same));
+    least = (let m = a.least in omega arith);
+    most = (let m = a.most in omega arith);
     placed = run_placed;
-    none = a.none;
-    all = a.all;
+    none = λ k h. kept (1088 + k) (omega arith) ∙ a.none k h;
+    all = λ k h. kept (1092 + k) (omega arith) ∙ a.all k h;
   }
 
-  bit_at_place : (c n m : ℕ) → n ≡ m
-      → nat_eq (bit_at (get_or t.words (n + c / 64 % 4) 0) (c % 64)) 1 ≡ nat_eq (bit_at (get_or t.words (m + c / 64 % 4) 0) (c % 64)) 1
-  bit_at_place c n m e = ap (λ (k : ℕ). nat_eq (bit_at (get_or t.words (k + c / 64 % 4) 0) (c % 64)) 1) e
+  kept_bit : (c : ℕ) → between from to (c / 256) ≡ false → bit_in new c ≡ (bit_in t c || between from to (c / 256))
+  kept_bit c n = bit_by_place new c (place_in t (c / 256)) (outside_run (c / 256) n)
+      ∙ (ap (λ (w : ℕ). nat_eq (bit_at w (c % 64)) 1) (kept (1088 + place_in t (c / 256) + c / 64 % 4) (omega arith))
+      ∙ sym (rw n (or_false _)))
 
-  kept_bit : (c : ℕ) → between from to (c / 256) ≡ false
-      → has_bit (record { index = index; words = t.words }) c ≡ (has_bit t c || between from to (c / 256))
-  kept_bit c n = bit_at_place c _ _ (outside_run (c / 256) n) ∙ sym (rw n (or_false _))
-
-  pub run_bits : (c : ℕ) → has_bit (record { index = index; words = t.words }) c ≡ (has_bit t c || between from to (c / 256))
+  pub run_bits : (c : ℕ) → bit_in new c ≡ (bit_in t c || between from to (c / 256))
   run_bits c = elim (cases_lt (c / 256) from) [
     | inl l ↦ kept_bit c (between_before from to (c / 256) l)
     | inr l ↦ elim (cases_lt (c / 256) to) [
-      | inl k ↦ bit_at_place c _ 4 (inside_run (c / 256) l k)
-          ∙ (bit_of_uniform true _ (c % 64) (shared_word t true (c / 64 % 4) a (omega arith)) (omega arith)
-          ∙ sym (rw (between_in from to (c / 256) l k) (or_true _)))
+      | inl k ↦ full_block new c run_tables (inside_run (c / 256) l k) ∙ sym (rw (between_in from to (c / 256) l k) (or_true _))
       | inr k ↦ kept_bit c (between_after from to (c / 256) k)
     ]
   ]
 
--- An empty block has no bit.
-pub empty_block : (t : BitTables) (c : ℕ) → AreTables t → get_or t.index (c / 256) 0 ≡ 0 → has_bit t c ≡ false
-empty_block t c a e = bit_of_uniform false _ (c % 64)
-    (ap (λ (n : ℕ). get_or t.words (n + c / 64 % 4) 0) e ∙ shared_word t false (c / 64 % 4) a (omega arith)) (omega arith)
-
--- ---- the tables without any block of their own
+-- ---- the words without any block of their own
 -- The words of the empty block, and those of the full block.
 abbrev pub two_blocks : List ℕ
 two_blocks = 0 ∷ 0 ∷ 0 ∷ 0 ∷ (2 ^ 64 - 1) ∷ (2 ^ 64 - 1) ∷ (2 ^ 64 - 1) ∷ (2 ^ 64 - 1) ∷ []
@@ -144,49 +179,44 @@ last_four (suc (suc zero)) h = refl
 last_four (suc (suc (suc zero))) h = refl
 last_four (suc (suc (suc (suc k)))) h = absurd (omega arith)
 
-none_there : (index : List ℕ) → index ≡ replicate 4352 0 → (b : ℕ) → get_or index b 0 ≡ 0
-none_there index e b = ap (λ (l : List ℕ). get_or l b 0) e ∙ elim (cases_lt b 4352) [
-  | inl l ↦ get_or-replicate 4352 b 0 0 l
-  | inr l ↦ get_or_past (replicate 4352 0) b 0 (omega (arith, l, length-replicate {A = ℕ} 4352 0))
-]
+-- An empty vector that was filled up with zeros.
+pub zeros_written : (n : ℕ) (had words : List ℕ) (len : ℕ) → had ≡ [] → len ≡ 0 → words ≡ take n had ++ replicate (n - len) 0
+    → words ≡ replicate n 0
+zeros_written n had words len e z w =
+    let none : take n had ≡ [] = ap (λ (xs : List ℕ). take n xs) e ∙ take_all n [] (omega arith) in
+    w ∙ (ap (λ (xs : List ℕ). xs ++ replicate (n - len) 0) none ∙ ap (λ (k : ℕ). replicate k 0) (omega (arith, z)))
 
-pub empty_tables : (index words : List ℕ) → index ≡ replicate 4352 0 → words ≡ two_blocks
-    → IsFilling (record { index = index; words = words }) 0
-empty_tables index words e w =
-    let long : length index ≡ 4352 = ap length e ∙ length-replicate {A = ℕ} 4352 0 in
-    let eight : length words ≡ 8 = ap length w in
+pub empty_tables : (words : List ℕ) → words ≡ replicate 1088 0 ++ two_blocks → IsFilling words 0
+empty_tables words e =
+    let zeros : List ℕ = replicate 1088 0 in
+    let front : length zeros ≡ 1088 = length-replicate {A = ℕ} 1088 0 in
+    let long : length words ≡ 1096 = ap (λ (l : List ℕ). length l) e ∙ (length-append zeros two_blocks ∙ omega (arith, front)) in
+    let none : (b : ℕ) → b < 4352 → place_in words b ≡ 0 = λ b h.
+    let word : get_or words (b / 4) 0 ≡ 0 =
+    ap (λ (l : List ℕ). get_or l (b / 4) 0) e ∙ (get_or_append_left zeros two_blocks 0 (b / 4) (omega (arith, front))
+    ∙ get_or-replicate 1088 (b / 4) 0 0 (omega arith)) in
+    ap (λ (w : ℕ). w / 2 ^ (16 * (b % 4)) % 2 ^ 16) word ∙ no_place (b % 4) (omega arith) in
+    let after : (k : ℕ) → k < 8 → get_or words (1088 + k) 0 ≡ get_or two_blocks k 0 = λ k h.
+    let less : 1088 + k - 1088 ≡ k = omega arith in
+    ap (λ (l : List ℕ). get_or l (1088 + k) 0) e ∙ (get_or-append_right zeros two_blocks 1088 (1088 + k) 0 front (omega arith)
+    ∙ ap (λ (j : ℕ). get_or two_blocks j 0) less) in
     record {
       tables = record {
         least = omega arith;
         most = omega arith;
-        placed = λ b h. (let n = none_there index e b in omega arith);
-        none = λ k h. ap (λ (l : List ℕ). get_or l k 0) w ∙ first_four k h;
-        all = λ k h. ap (λ (l : List ℕ). get_or l (4 + k) 0) w ∙ last_four k h;
+        placed = λ b h. (let n = none b h in omega arith);
+        none = λ k h. after k (omega arith) ∙ first_four k h;
+        all = λ k h. (let same : 1092 + k ≡ 1088 + (4 + k) = omega arith in
+            ap (λ (j : ℕ). get_or words j 0) same ∙ (after (4 + k) (omega arith) ∙ last_four k h));
       };
-      blocks = long;
       few = omega arith;
       within = omega arith;
-      empty = λ b h. none_there index e b;
+      empty = λ b l h. none b h;
     }
-
--- ---- the words of the first code points
--- The four words of one more block are copied.
-pub words_more : (t : BitTables) (words more : List ℕ) (k first size : ℕ) → AreTables t → length words ≡ 32 → k < 8 → 8 ≤ length t.index
-    → first ≡ get_or t.index k first → size ≡ 4 → take (4 * k + 4) more ≡ take (4 * k) words ++ take size (drop first t.words)
-    → ((c : ℕ) → c / 256 < k → get_or words (c / 64) 0 ≡ word_with t c)
-    → (c : ℕ) → c / 256 < k + 1 → get_or more (c / 64) 0 ≡ word_with t c
-words_more t words more k first size a n h l f four put same c m =
-    let low : length (take (4 * k) words) ≡ 4 * k = length-take-le (4 * k) words (omega (arith, n)) in
-    let given : get_or more (c / 64) 0 ≡ get_or (take (4 * k) words ++ take size (drop first t.words)) (c / 64) 0
-    = sym (get_or-take (4 * k + 4) more (c / 64) 0 (omega (arith, m))) ∙ ap (λ (ws : List ℕ). get_or ws (c / 64) 0) put in
-    elim (cases_lt (c / 256) k) [
-      | inl q ↦ given ∙ get_or_append_left (take (4 * k) words) (take size (drop first t.words)) 0 (c / 64) (omega (arith, low, q))
-          ∙ get_or-take (4 * k) words (c / 64) 0 (omega (arith, q)) ∙ same c q
-      | inr q ↦
-          let place : first ≡ get_or t.index k 0 = f ∙ get_or_default t.index k first 0 (omega arith) in
-          let block : get_or t.index k 0 ≡ get_or t.index (c / 256) 0 = ap (λ (b : ℕ). get_or t.index b 0) (omega (arith, m, q)) in
-          given ∙ get_or-append_right (take (4 * k) words) (take size (drop first t.words)) (4 * k) (c / 64) 0 low (omega (arith, q))
-          ∙ get_or-take size (drop first t.words) (c / 64 - 4 * k) 0 (omega (arith, m, q, four))
-          ∙ get_or-drop first t.words (c / 64 - 4 * k) 0
-          ∙ ap (λ (j : ℕ). get_or t.words j 0) (omega (arith, m, q, place, block))
-    ]
+  where
+    no_place : (k : ℕ) → k < 4 → 0 / 2 ^ (16 * k) % 2 ^ 16 ≡ 0
+    no_place zero h = omega arith
+    no_place (suc zero) h = omega arith
+    no_place (suc (suc zero)) h = omega arith
+    no_place (suc (suc (suc zero))) h = omega arith
+    no_place (suc (suc (suc (suc k)))) h = absurd (omega arith)

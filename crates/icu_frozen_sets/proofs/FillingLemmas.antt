@@ -1,5 +1,5 @@
 -- Filling the bits, step by step.
-use Rattle.std.proofs.Common.{◌≡◌, ◌∙◌, ℕ, ◌+◌, ◌-◌, ◌/◌, ◌%◌, ◌^◌, ◌<◌, ◌≤◌, List, length, refl, ap, sym, arith, Bool, false, inl, inr}
+use Rattle.std.proofs.Common.{◌≡◌, ◌∙◌, ℕ, ◌+◌, ◌-◌, ◌/◌, ◌%◌, ◌^◌, ◌<◌, ◌≤◌, List, refl, ap, sym, arith, Bool, false, inl, inr}
 use Rattle.std.specs.Int.{bit_at}
 use Rattle.std.specs.Prelude.{nat_eq, ◌||◌}
 use Rattle.std.proofs.lemmas.Bool.{cases_eq, cases_lt, eq-eqb, ne_eqb}
@@ -7,18 +7,18 @@ use Rattle.std.proofs.lemmas.Nat.{pow_pos}
 use Rattle.std.proofs.lemmas.Nat.Bits.{bit_at-zero}
 use Rattle.icu_zerovec.specs.CodePoints.{code_point_limit}
 use Rattle.icu_invlist.specs.InversionList.{between}
-use Rattle.icu_frozen_sets.specs.CodePointBits.{BitTables, has_bit}
+use Rattle.icu_frozen_sets.specs.FrozenWords.{bit_in}
 use Rattle.icu_frozen_sets.specs.Inside.Filling.{IsFilling, SetsBlock, block_bit, filled}
 use Rattle.icu_frozen_sets.proofs.BitLemmas.{between_in, between_before, between_after, or_false}
 use Rattle.icu_frozen_sets.proofs.BlockLemmas.{empty_block}
 use Rattle.icu_frozen_sets.proofs.MarkLemmas.{range_bits}
 
 -- ---- the block of a code point
-pub filled_here : (t : BitTables) (block at c : ℕ) → c / 256 ≡ at → filled t block at c ≡ nat_eq (bit_at block (c % 256)) 1
+pub filled_here : (t : List ℕ) (block at c : ℕ) → c / 256 ≡ at → filled t block at c ≡ nat_eq (bit_at block (c % 256)) 1
 unfolding filled
 filled_here t block at c e = rw (eq-eqb (c / 256) at e) refl
 
-pub filled_else : (t : BitTables) (block at c : ℕ) → (c / 256 ≡ at → ⊥) → filled t block at c ≡ has_bit t c
+pub filled_else : (t : List ℕ) (block at c : ℕ) → (c / 256 ≡ at → ⊥) → filled t block at c ≡ bit_in t c
 unfolding filled
 filled_else t block at c n = rw (ne_eqb (c / 256) at n) refl
 
@@ -26,23 +26,23 @@ filled_else t block at c n = rw (ne_eqb (c / 256) at n) refl
 no_bit : (k : ℕ) → nat_eq (bit_at 0 k) 1 ≡ false
 no_bit k = rw (bit_at-zero k) refl
 
-pub none_filled : (t : BitTables) (c : ℕ) → IsFilling t 0 → filled t 0 0 c ≡ false
-none_filled t c f = elim (cases_eq (c / 256) 0) [
+pub none_filled : (t : List ℕ) (c : ℕ) → c < code_point_limit → IsFilling t 0 → filled t 0 0 c ≡ false
+none_filled t c h f = elim (cases_eq (c / 256) 0) [
   | inl q ↦ filled_here t 0 0 c q ∙ no_bit (c % 256)
-  | inr n ↦ filled_else t 0 0 c n ∙ empty_block t c f.tables (f.empty (c / 256) (omega arith))
+  | inr n ↦ filled_else t 0 0 c n ∙ empty_block t c f.tables (f.empty (c / 256) (omega arith) (omega arith))
 ]
 
 -- ---- the current block is written, and another begins
-module _ (t new : BitTables) (block at next : ℕ) (f : IsFilling t at) (order : at ≤ next) (other : at ≡ next → ⊥)
+module _ (t new : List ℕ) (block at next : ℕ) (f : IsFilling t at) (order : at ≤ next) (other : at ≡ next → ⊥)
     (words : List ℕ) (s : SetsBlock t new at (block_bit words)) where
   pub moved_same : ((c : ℕ) → block_bit words c ≡ nat_eq (bit_at block (c % 256)) 1)
       → (c : ℕ) → c < code_point_limit → filled new 0 next c ≡ filled t block at c
   moved_same alike c h = elim (cases_eq (c / 256) next) [
     | inl q ↦ filled_here new 0 next c q ∙ (no_bit (c % 256) ∙ sym (filled_else t block at c (λ p. other (sym p ∙ q))
-        ∙ empty_block t c f.tables (f.empty (c / 256) (omega arith))))
+        ∙ empty_block t c f.tables (f.empty (c / 256) (omega arith) (omega arith))))
     | inr n ↦ filled_else new 0 next c n ∙ elim (cases_eq (c / 256) at) [
       | inl q ↦ s.set c q ∙ (alike c ∙ sym (filled_here t block at c q))
-      | inr m ↦ s.kept c m (let l = f.blocks in omega arith) ∙ sym (filled_else t block at c m)
+      | inr m ↦ s.kept c m h ∙ sym (filled_else t block at c m)
     ]
   ]
 
@@ -67,7 +67,7 @@ between_here start end c s e = elim (cases_lt c start) [
   ]
 ]
 
-pub added_here : (t : BitTables) (block more at start end : ℕ) → at ≡ start / 256 → at ≡ end / 256 → start < end
+pub added_here : (t : List ℕ) (block more at start end : ℕ) → at ≡ start / 256 → at ≡ end / 256 → start < end
     → block < 2 ^ (start % 256) → more ≡ block + (2 ^ (end % 256) - 2 ^ (start % 256))
     → (c : ℕ) → filled t more at c ≡ (filled t block at c || between start end c)
 added_here t block more at start end s e order fits is c = elim (cases_eq (c / 256) at) [
@@ -107,27 +107,24 @@ last_part start end c s l = elim (cases_lt c end) [
   | inr h ↦ between_after 0 (end % 256) (c % 256) (omega arith) ∙ sym (between_after start end c h)
 ]
 
-module _ (t mid new : BitTables) (block at start end : ℕ) (words : List ℕ) (f : IsFilling t at) (s : at ≡ start / 256)
+module _ (t mid new : List ℕ) (block at start end : ℕ) (words : List ℕ) (f : IsFilling t at) (s : at ≡ start / 256)
     (later : start / 256 < end / 256) (fits : block < 2 ^ (start % 256))
     (sets : SetsBlock t mid at (block_bit words))
     (alike : (c : ℕ) → block_bit words c ≡ nat_eq (bit_at (block + (2 ^ 256 - 2 ^ (start % 256))) (c % 256)) 1)
-    (run : (c : ℕ) → c / 256 < length mid.index → has_bit new c ≡ (has_bit mid c || between (at + 1) (end / 256) (c / 256))) where
-  run_bits : (c : ℕ) → c < code_point_limit → has_bit new c ≡ (has_bit mid c || between (at + 1) (end / 256) (c / 256))
-  run_bits c h = run c (let m = sets.blocks in let n = f.blocks in omega arith)
-
+    (run_bits : (c : ℕ) → c < code_point_limit → bit_in new c ≡ (bit_in mid c || between (at + 1) (end / 256) (c / 256))) where
   -- In the last block.
-  last_bits : (c : ℕ) → c / 256 ≡ end / 256
+  last_bits : (c : ℕ) → c < code_point_limit → c / 256 ≡ end / 256
       → filled new (2 ^ (end % 256) - 1) (end / 256) c ≡ (filled t block at c || between start end c)
-  last_bits c q =
+  last_bits c h q =
       let whole : 2 ^ (end % 256) - 1 ≡ 0 + (2 ^ (end % 256) - 2 ^ 0) = omega arith in
       filled_here new (2 ^ (end % 256) - 1) (end / 256) c q ∙ (ap (λ (n : ℕ). nat_eq (bit_at n (c % 256)) 1) whole
       ∙ (range_bits 0 0 (end % 256) (c % 256) (pow_pos 0) (omega arith)
       ∙ (ap (λ (b : Bool). b || between 0 (end % 256) (c % 256)) (no_bit (c % 256)
-      ∙ sym (filled_else t block at c (λ p. omega arith) ∙ empty_block t c f.tables (f.empty (c / 256) (omega arith))))
+      ∙ sym (filled_else t block at c (λ p. omega arith) ∙ empty_block t c f.tables (f.empty (c / 256) (omega arith) (omega arith))))
       ∙ ap (λ (b : Bool). filled t block at c || b) (last_part start end c q later))))
 
   -- In the first block.
-  first_bits : (c : ℕ) → c < code_point_limit → c / 256 ≡ at → has_bit new c ≡ (filled t block at c || between start end c)
+  first_bits : (c : ℕ) → c < code_point_limit → c / 256 ≡ at → bit_in new c ≡ (filled t block at c || between start end c)
   first_bits c h q = run_bits c h ∙ (rw (between_before (at + 1) (end / 256) (c / 256) (omega arith)) (or_false _)
       ∙ (sets.set c q ∙ (alike c ∙ (range_bits block (start % 256) 256 (c % 256) fits (omega arith)
       ∙ (ap (λ (b : Bool). b || between (start % 256) 256 (c % 256)) (sym (filled_here t block at c q))
@@ -135,16 +132,16 @@ module _ (t mid new : BitTables) (block at start end : ℕ) (words : List ℕ) (
 
   -- In all other blocks.
   other_bits : (c : ℕ) → c < code_point_limit → (c / 256 ≡ at → ⊥) → (c / 256 ≡ end / 256 → ⊥)
-      → has_bit new c ≡ (filled t block at c || between start end c)
+      → bit_in new c ≡ (filled t block at c || between start end c)
   other_bits c h m n = run_bits c h
       ∙ (ap (λ (b : Bool). b || between (at + 1) (end / 256) (c / 256))
-      (sets.kept c m (let l = f.blocks in omega arith) ∙ sym (filled_else t block at c m))
+      (sets.kept c m h ∙ sym (filled_else t block at c m))
       ∙ ap (λ (b : Bool). filled t block at c || b) (whole_blocks at (end / 256) start end c s refl m n))
 
   pub added_far : (c : ℕ) → c < code_point_limit
       → filled new (2 ^ (end % 256) - 1) (end / 256) c ≡ (filled t block at c || between start end c)
   added_far c h = elim (cases_eq (c / 256) (end / 256)) [
-    | inl q ↦ last_bits c q
+    | inl q ↦ last_bits c h q
     | inr n ↦ filled_else new (2 ^ (end % 256) - 1) (end / 256) c n ∙ elim (cases_eq (c / 256) at) [
       | inl p ↦ first_bits c h p
       | inr m ↦ other_bits c h m n

@@ -1,12 +1,13 @@
 -- The ranges of a set are filled one after another.
-use Rattle.std.proofs.Common.{◌≡◌, ◌∙◌, ℕ, ◌+◌, ◌<◌, ◌≤◌, List, [], ◌∷◌, length, get_or, min, refl, ap, sym, arith, suc, Bool, true, false, inl, inr}
+use Rattle.std.proofs.Common.{◌≡◌, ◌∙◌, ℕ, ◌+◌, ◌-◌, ◌*◌, ◌<◌, ◌≤◌, List, [], ◌∷◌, length, drop, get_or, min, refl, ap, sym, arith, suc, Bool, true, false, inl, inr}
 use Rattle.std.specs.Prelude.{nat_lt, nat_le, ◌&&◌, ◌||◌}
 use Rattle.std.specs.List.{All}
 use Rattle.std.specs.declared.ops.RangeInclusive.{RangeInclusive}
 use Rattle.std.proofs.lemmas.Bool.{cases_lt, lt-ltb, le-ltb, le-leb, lt-leb}
+use Rattle.std.proofs.lemmas.List.{drop_all, drop_more}
 use Rattle.icu_zerovec.specs.CodePoints.{code_point_limit}
-use Rattle.icu_invlist.specs.InversionList.{AreApart, IsOfCodePoints, IsValid, StartsBehind, between, holds, in_ranges}
-use Rattle.icu_frozen_sets.specs.CodePointBits.{BitTables, has_bit}
+use Rattle.icu_invlist.specs.InversionList.{AreApart, IsOfCodePoints, IsValid, StartsBehind, between, holds, in_ranges, ranges_of}
+use Rattle.icu_frozen_sets.specs.FrozenWords.{IsFrozenOf, bit_in}
 use Rattle.icu_frozen_sets.specs.Inside.Filling.{AreBelow, AreClosed, AreTables, IsFilling, IsFrozen, bit_among, bits_of, filled}
 use Rattle.icu_frozen_sets.proofs.BitLemmas.{or_false}
 use Rattle.icu_frozen_sets.proofs.MarkLemmas.{below_later}
@@ -22,7 +23,7 @@ AreBelowFirst starts ends at [] = Unit {0}
 AreBelowFirst starts ends at (r ∷ rs) = AreBelow starts ends at r.start
 
 -- Each code point in the set is filled, or in one of the ranges that are left.
-pub record Freezes (set : List ℕ) (left : List (RangeInclusive ℕ)) (t : BitTables) (starts ends : List ℕ) (carried : Bool) (at : ℕ)
+pub record Freezes (set : List ℕ) (left : List (RangeInclusive ℕ)) (t : List ℕ) (starts ends : List ℕ) (carried : Bool) (at : ℕ)
     : Type 0 where
   pub filling : IsFilling t at
   pub closed : AreClosed starts ends carried
@@ -65,9 +66,9 @@ below_rest : (starts ends : List ℕ) (at last : ℕ) (left : List (RangeInclusi
 below_rest starts ends at last [] b h = tt
 below_rest starts ends at last (r ∷ rs) b h = below_later starts ends at (last + 2) r.start b (omega arith)
 
-pub freezes_none : (set : List ℕ) (left : List (RangeInclusive ℕ)) (t : BitTables) (starts ends : List ℕ) (carried : Bool) (at : ℕ)
+pub freezes_none : (set : List ℕ) (left : List (RangeInclusive ℕ)) (t : List ℕ) (starts ends : List ℕ) (carried : Bool) (at : ℕ)
     → IsFilling t at → AreClosed starts ends carried → ((next : ℕ) → AreBelow starts ends at next)
-    → ((c : ℕ) → filled t (bits_of starts ends carried) at c ≡ false)
+    → ((c : ℕ) → c < code_point_limit → filled t (bits_of starts ends carried) at c ≡ false)
     → AreApart left → All IsOfCodePoints left → ((c : ℕ) → in_ranges left c ≡ holds set c)
     → Freezes set left t starts ends carried at
 freezes_none set left t starts ends carried at f closed below none apart within held = record {
@@ -76,10 +77,10 @@ freezes_none set left t starts ends carried at f closed below none apart within 
   apart = apart;
   within = within;
   below = below_first starts ends at left below;
-  held = λ c h. sym (rw (none c) (held c));
+  held = λ c h. sym (rw (none c h) (held c));
 }
 
-module _ (set : List ℕ) (left rest : List (RangeInclusive ℕ)) (r : RangeInclusive ℕ) (step : left ≡ r ∷ rest) (t : BitTables)
+module _ (set : List ℕ) (left rest : List (RangeInclusive ℕ)) (r : RangeInclusive ℕ) (step : left ≡ r ∷ rest) (t : List ℕ)
     (starts ends : List ℕ) (carried : Bool) (at : ℕ)
     (f : Freezes set left t starts ends carried at) where
   pub range_above : AreBelow starts ends at r.start
@@ -97,7 +98,7 @@ module _ (set : List ℕ) (left rest : List (RangeInclusive ℕ)) (r : RangeIncl
   pub range_within : r.end + 1 ≤ code_point_limit
   range_within = let w = inside 0 r (omega arith) in omega arith
 
-  pub freezes_more : (t1 : BitTables) (starts1 ends1 : List ℕ) (carried1 : Bool) (new start end : ℕ) → start ≡ r.start → end ≡ r.end + 1
+  pub freezes_more : (t1 : List ℕ) (starts1 ends1 : List ℕ) (carried1 : Bool) (new start end : ℕ) → start ≡ r.start → end ≡ r.end + 1
       → IsFilling t1 new → AreClosed starts1 ends1 carried1 → AreBelow starts1 ends1 new (end + 1)
       → ((c : ℕ) → c < code_point_limit → filled t1 (bits_of starts1 ends1 carried1) new c
       ≡ (filled t (bits_of starts ends carried) at c || between start end c))
@@ -116,24 +117,45 @@ module _ (set : List ℕ) (left rest : List (RangeInclusive ℕ)) (r : RangeIncl
         (ap (λ (n : ℕ). nat_lt c n) e ∙ through c r.end))))));
   }
 
-module _ (set : List ℕ) (left : List (RangeInclusive ℕ)) (t : BitTables) (starts ends : List ℕ) (carried : Bool) (at : ℕ) (new : BitTables)
-    (f : Freezes set left t starts ends carried at) (none : left ≡ []) (tables : AreTables new) (blocks : length new.index ≡ 4352)
-    (bits : (c : ℕ) → c < code_point_limit → has_bit new c ≡ filled t (bits_of starts ends carried) at c) where
-  all_bits : (c : ℕ) → c < code_point_limit → has_bit new c ≡ holds set c
+-- All ranges are filled.
+module _ (set : List ℕ) (left : List (RangeInclusive ℕ)) (t : List ℕ) (starts ends : List ℕ) (carried : Bool) (at : ℕ) (new : List ℕ)
+    (f : Freezes set left t starts ends carried at) (none : left ≡ []) (tables : AreTables new)
+    (bits : (c : ℕ) → c < code_point_limit → bit_in new c ≡ filled t (bits_of starts ends carried) at c) where
+  all_bits : (c : ℕ) → c < code_point_limit → bit_in new c ≡ holds set c
   all_bits c h = bits c h ∙ sym (f.held c h
       ∙ (ap (λ (rs : List (RangeInclusive ℕ)). filled t (bits_of starts ends carried) at c || in_ranges rs c) none
       ∙ or_false (filled t (bits_of starts ends carried) at c)))
 
-  pub frozen_all : IsValid set → (ascii : List Bool) → ((c : ℕ) → c < 128 → get_or ascii c false ≡ holds set c)
-      → (two_bytes : List ℕ) → ((c : ℕ) → c < 2048 → bit_among two_bytes c ≡ has_bit new c) → IsFrozen set ascii two_bytes new
-  frozen_all v ascii first two_bytes alike = record {
+  pub frozen_all : IsValid set → IsFrozenOf set new
+  frozen_all v = record {
     valid = v;
-    tables = tables;
-    blocks = blocks;
+    placed = tables.placed;
+    most = tables.most;
     bits = all_bits;
-    first = first;
-    short = λ c h. alike c h ∙ all_bits c (omega arith);
   }
+
+-- The words, with the bits that are repeated.
+pub frozen_owned : (set words : List ℕ) → IsFrozenOf set words → (ascii : List Bool)
+    → ((c : ℕ) → c < 128 → get_or ascii c false ≡ holds set c) → (two_bytes : List ℕ)
+    → ((c : ℕ) → c < 2048 → bit_among two_bytes c ≡ bit_in words c) → IsFrozen set ascii two_bytes words
+frozen_owned set words frozen ascii first two_bytes alike = record {
+  frozen = frozen;
+  first = first;
+  short = λ c h. alike c h ∙ frozen.bits c (omega arith);
+}
+
+-- The range of the two boundaries from index 2 * i on is the next of those that are left.
+pub next_range : (xs : List ℕ) (i : ℕ) → 2 * i + 1 < length xs → ranges_of (drop (2 * i) xs)
+    ≡ (record { start = get_or xs (2 * i) 0; end = get_or xs (2 * i + 1) 0 - 1; exhausted = false }) ∷ ranges_of (drop (2 * (i + 1)) xs)
+next_range xs i l =
+    let more : 2 * (i + 1) ≡ 2 * i + 1 + 1 = omega arith in
+    ap ranges_of (drop_more xs (2 * i) 0 (omega arith)
+    ∙ ap (λ (ys : List ℕ). get_or xs (2 * i) 0 ∷ ys) (drop_more xs (2 * i + 1) 0 l))
+    ∙ ap (λ (k : ℕ). (record { start = get_or xs (2 * i) 0; end = get_or xs (2 * i + 1) 0 - 1; exhausted = false }) ∷ ranges_of (drop k xs))
+    (sym more)
+
+pub no_range_left : (xs : List ℕ) (i : ℕ) → length xs ≤ 2 * i → ranges_of (drop (2 * i) xs) ≡ []
+no_range_left xs i l = ap ranges_of (drop_all (2 * i) xs l)
 
 -- ---- ASCII
 -- The ranges from n on have no number below n.

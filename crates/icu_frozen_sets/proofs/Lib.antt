@@ -9,6 +9,7 @@ pub mod FrozenWordLemmas
 pub mod LongestSpanLemmas
 pub mod MarkLemmas
 pub mod OneCharacter
+pub mod PlaceLemmas
 pub mod RunLemmas
 pub mod SameLengthLemmas
 pub mod SetLemmas

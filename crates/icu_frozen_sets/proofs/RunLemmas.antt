@@ -1,22 +1,14 @@
--- Runs of ones in the tables.
-use Rattle.std.proofs.Common.{◌≡◌, ◌∙◌, ℕ, ◌+◌, ◌-◌, ◌/◌, ◌%◌, ◌^◌, ◌<◌, ◌≤◌, length, get_or, refl, ap, sym, arith, true, false, inl, inr}
+-- Runs of ones in the words of a frozen set.
+use Rattle.std.proofs.Common.{◌≡◌, ◌∙◌, ℕ, ◌+◌, ◌-◌, ◌/◌, ◌%◌, ◌^◌, ◌<◌, ◌≤◌, List, get_or, refl, ap, sym, arith, true, false, inl, inr}
 use Rattle.std.specs.Int.{bit_at, trailing_ones, w64}
 use Rattle.std.specs.Prelude.{nat_eq}
 use Rattle.std.proofs.Math.Nat.{div-div-eq-div-mul, div-le_self}
 use Rattle.std.proofs.lemmas.Bool.{cases_lt}
 use lib.Count.{count_trailing_zeros}
-use Rattle.std.proofs.lemmas.List.{get_or_default}
 use Rattle.std.proofs.lemmas.Nat.{pow-add}
 use Rattle.std.proofs.lemmas.Nat.Bits.{bit_at_above, bit_at_ones, bit_at-trailing_ones}
-use Rattle.icu_frozen_sets.specs.CodePointBits.{BitTables, has_bit, word_with}
-use Rattle.icu_frozen_sets.specs.Inside.Filling.{AreTables}
-use Rattle.icu_frozen_sets.proofs.BlockLemmas.{bit_of_uniform, shared_word}
-
--- ---- a full block
-pub ones_of_full : (t : BitTables) (c k : ℕ) → AreTables t → get_or t.index (c / 256) 0 ≡ 4 → k / 256 ≡ c / 256 → has_bit t k ≡ true
-ones_of_full t c k a e q = bit_of_uniform true _ (k % 64)
-    (ap (λ (n : ℕ). get_or t.words (n + k / 64 % 4) 0) (ap (λ (b : ℕ). get_or t.index b 0) q ∙ e)
-    ∙ shared_word t true (k / 64 % 4) a (omega arith)) (omega arith)
+use Rattle.icu_frozen_sets.specs.FrozenWords.{bit_in, place_in}
+use Rattle.icu_frozen_sets.proofs.BlockLemmas.{bit_by_place, bit_of_uniform}
 
 -- ---- a word
 shifted : (n k i : ℕ) → bit_at (n / 2 ^ k) i ≡ bit_at n (k + i)
@@ -58,29 +50,27 @@ module _ (word s : ℕ) (fits : word < 2 ^ 64) where
   ]
 
 -- ---- the run of a code point
-module _ (t : BitTables) (c word run : ℕ) (there : word ≡ word_with t c) where
-  bit_here : (k i : ℕ) → k / 64 ≡ c / 64 → k % 64 ≡ i → has_bit t k ≡ nat_eq (bit_at word i) 1
+-- All words of its block are ones.
+pub ones_of_full : (t : List ℕ) (c k : ℕ) → ((j : ℕ) → j < 4 → get_or t (1088 + place_in t (c / 256) + j) 0 ≡ 2 ^ 64 - 1)
+    → k / 256 ≡ c / 256 → bit_in t k ≡ true
+ones_of_full t c k all q =
+    bit_by_place t k (place_in t (c / 256)) (ap (λ (b : ℕ). place_in t b) q)
+    ∙ bit_of_uniform true _ (k % 64) (all (k / 64 % 4) (omega arith)) (omega arith)
+
+module _ (t : List ℕ) (c word run : ℕ) (there : word ≡ get_or t (1088 + place_in t (c / 256) + c / 64 % 4) 0) where
+  bit_here : (k i : ℕ) → k / 64 ≡ c / 64 → k % 64 ≡ i → bit_in t k ≡ nat_eq (bit_at word i) 1
   bit_here k i q r =
       let b : k / 256 ≡ c / 256 = omega arith in
-      ap (λ (n : ℕ). nat_eq (bit_at (get_or t.words (get_or t.index n 0 + k / 64 % 4) 0) (k % 64)) 1) b
-      ∙ (ap (λ (n : ℕ). nat_eq (bit_at (get_or t.words (get_or t.index (c / 256) 0 + n % 4) 0) (k % 64)) 1) q
+      bit_by_place t k (place_in t (c / 256)) (ap (λ (n : ℕ). place_in t n) b)
+      ∙ (ap (λ (n : ℕ). nat_eq (bit_at (get_or t (1088 + place_in t (c / 256) + n % 4) 0) (k % 64)) 1) q
       ∙ (ap (λ (n : ℕ). nat_eq (bit_at n (k % 64)) 1) (sym there)
       ∙ ap (λ (n : ℕ). nat_eq (bit_at word n) 1) r))
 
   pub ones_of_word : ((i : ℕ) → i < run → (c % 64 + i < 64) × (bit_at word (c % 64 + i) ≡ 1))
-      → (k : ℕ) → c ≤ k → k < c + run → has_bit t k ≡ true
+      → (k : ℕ) → c ≤ k → k < c + run → bit_in t k ≡ true
   ones_of_word ones k l h =
       let o = ones (k - c) (omega arith) in
       bit_here k (c % 64 + (k - c)) (omega (arith, o.0)) (omega (arith, o.0)) ∙ ap (λ (n : ℕ). nat_eq n 1) o.1
 
-  pub stops_at_word : bit_at word (c % 64) ≡ 0 → has_bit t c ≡ false
+  pub stops_at_word : bit_at word (c % 64) ≡ 0 → bit_in t c ≡ false
   stops_at_word e = bit_here c (c % 64) refl refl ∙ ap (λ (n : ℕ). nat_eq n 1) e
-
--- The word that the code reads.
-pub word_read : (t : BitTables) (c first word : ℕ) → AreTables t → c / 256 < length t.index → first ≡ get_or t.index (c / 256) first
-    → word ≡ get_or t.words (first + c / 64 % 4) word → word ≡ word_with t c
-word_read t c first word a h f w =
-    let p = a.placed (c / 256) h in
-    let place : first ≡ get_or t.index (c / 256) 0 = f ∙ get_or_default t.index (c / 256) first 0 h in
-    w ∙ (get_or_default t.words (first + c / 64 % 4) word 0 (omega (arith, p, place))
-    ∙ ap (λ (n : ℕ). get_or t.words (n + c / 64 % 4) 0) place)

@@ -1,4 +1,3 @@
-pub mod CodePointBits
 pub mod FrozenView
 pub mod FrozenWords
 pub mod LongestSpans

@@ -1,12 +1,12 @@
-//! Filling the bits of a set, range by range.
+//! Filling the words of a frozen set, range by range.
 ghost use Rattle.std.specs.Prelude.{◌≡◌, ℕ, ◌+◌, ◌*◌, ◌/◌, ◌%◌, ◌^◌, ◌<◌, ◌≤◌, ◌||◌, ◌==◌, false, length, IfOk, OnOk};
 ghost use Rattle.std.specs.Int.{bit_at, from_bool};
 ghost use Rattle.icu_zerovec.specs.CodePoints.{code_point_limit};
 ghost use Rattle.icu_invlist.specs.InversionList.{between};
-ghost use Rattle.icu_frozen_sets.specs.CodePointBits.{has_bit};
+ghost use Rattle.icu_frozen_sets.specs.FrozenWords.{bit_in};
 ghost use Rattle.icu_frozen_sets.specs.Inside.Filling.{AreBelow, AreClosed, AreTables, IsFilling, bits_of, block_bit, filled, number};
 
-use crate::bits::{BLOCKS, CodePointBits};
+use crate::bits::{BLOCKS, FrozenWords};
 use icu_zerovec::MemoryError;
 use std::alloc::Global;
 
@@ -19,7 +19,7 @@ use std::alloc::Global;
 #[derive(Debug, Drop)]
 pub(crate) struct Filling {
     /// The blocks below `at`. All others are empty here.
-    bits: CodePointBits,
+    bits: FrozenWords,
     /// The starts of the ranges in block `at`.
     starts: [u64; 4],
     /// The ends of the ranges in block `at`. An end is the code point after the last one.
@@ -72,11 +72,11 @@ impl Filling {
         ensures filling { IfOk result (λ f. IsFilling f.bits f.at) }
         ensures closed { IfOk result (λ f. AreClosed f.starts f.ends f.carried) }
         ensures below { IfOk result (λ f. (next : ℕ) → AreBelow f.starts f.ends f.at next) }
-        ensures none { IfOk result (λ f. (c : ℕ)
+        ensures none { IfOk result (λ f. (c : ℕ) → c < code_point_limit
             → filled f.bits (bits_of f.starts f.ends f.carried) f.at c ≡ false) }
     {
         Ok(Filling {
-            bits: CodePointBits::new(alloc, ranges)?,
+            bits: FrozenWords::new(alloc, ranges)?,
             starts: [0; 4],
             ends: [0; 4],
             carried: false,
@@ -187,17 +187,16 @@ impl Filling {
         Ok(())
     }
 
-    /// Returns the bits of all code points.
+    /// Returns the words of the frozen set.
     ///
     /// # Errors
     /// Returns `MemoryError` if an allocation fails.
-    pub(crate) fn finish(mut self) -> Result<CodePointBits, MemoryError>
+    pub(crate) fn finish(mut self) -> Result<Vec<u64>, MemoryError>
         requires filling { IsFilling self.bits self.at }
         requires closed { AreClosed self.starts self.ends self.carried }
-        ensures tables { IfOk result (λ b. AreTables b) }
-        ensures blocks { IfOk result (λ b. length b.index ≡ BLOCKS) }
-        ensures bits { IfOk result (λ b. (c : ℕ) → c < code_point_limit
-            → has_bit b c
+        ensures tables { IfOk result (λ words. AreTables words.items) }
+        ensures bits { IfOk result (λ words. (c : ℕ) → c < code_point_limit
+            → bit_in words.items c
             ≡ filled self.bits (bits_of self.starts self.ends self.carried) self.at c) }
     {
         self.move_to(BLOCKS)?;
@@ -208,6 +207,6 @@ impl Filling {
             carried: _,
             at: _,
         } = self;
-        Ok(bits)
+        Ok(bits.into_words())
     }
 }

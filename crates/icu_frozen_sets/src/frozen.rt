@@ -1,5 +1,5 @@
 //! Frozen sets of code points, for many look-ups: a bit for each code point.
-ghost use Rattle.std.specs.Prelude.{◌≡◌, ℕ, ◌+◌, ◌*◌, ◌<◌, ◌≤◌, ◌↔◌, false, drop, length, slice_index, IfOk, IsTrue, nat_eq};
+ghost use Rattle.std.specs.Prelude.{◌≡◌, ℕ, ◌+◌, ◌*◌, ◌^◌, ◌<◌, ◌≤◌, ◌↔◌, false, drop, length, slice_index, IfOk, IsTrue, nat_eq};
 ghost use Rattle.std.specs.List.{take_while};
 ghost use Rattle.std.specs.Str.{IsCharBoundary, IsUtf8, chars, encode_utf8_all};
 ghost use Rattle.std.specs.Cmp.{partial_equiv_from_equiv};
@@ -8,25 +8,27 @@ ghost use mathlib.Core.Bool.{beq};
 ghost use mathlib.Core.List.{reverse};
 ghost use Rattle.icu_zerovec.specs.CodePoints.{code_point_limit};
 ghost use Rattle.icu_invlist.specs.InversionList.{IsValid, holds};
-ghost use Rattle.icu_frozen_sets.specs.CodePointBits.{AreTablesOf, has_bit};
+ghost use Rattle.icu_frozen_sets.specs.FrozenView.{view_words};
+ghost use Rattle.icu_frozen_sets.specs.FrozenWords.{IsFrozenOf, bit_in};
 ghost use Rattle.icu_frozen_sets.specs.Inside.Characters.{IsAsked};
-ghost use Rattle.icu_frozen_sets.specs.Inside.Filling.{AreTables, filled};
+ghost use Rattle.icu_frozen_sets.specs.Inside.Filling.{bit_among};
 
 use crate::ascii::ascii_of;
-use crate::bits::CodePointBits;
-use crate::filling::Filling;
+use crate::view::{FrozenView, PLACE_WORDS, bit_of_parts, contains, place_of, word};
+use crate::words::frozen_words;
 use icu_invlist::codepointinvlist::CodePointInversionList;
+use icu_utf::places::{number_of_four, place_of_three, place_of_two};
+use icu_zerovec::MemoryError;
 use icu_zerovec::ule::AsULE;
-use icu_zerovec::{CODE_POINT_LIMIT, MemoryError};
 use std::alloc::Global;
 use std::marker::Model;
 
 /// A set of code points for many look-ups, each of which takes two loads and no search (ICU: a
 /// frozen UnicodeSet).
 ///
-/// It stores the set and a bit for each code point, in blocks of 256. The bits take 9 kB, plus 32
-/// bytes for each range up to 142 ranges. If more blocks than that are neither empty nor full, they
-/// take at most 64 bytes for each such block.
+/// It stores the set and, in 64-bit words, a bit for each code point, in blocks of 256. The words
+/// take 9 kB, plus 32 bytes for each range up to 142 ranges. If more blocks than that are neither
+/// empty nor full, they take at most 64 bytes for each such block.
 ///
 /// ```
 /// let letters = FrozenCodePointSet::freeze(alloc, &set)?;
@@ -44,7 +46,8 @@ pub struct FrozenCodePointSet {
     /// The bits of the code points below 0x800, which have at most two bytes in UTF-8: one word for
     /// each lead byte.
     two_bytes: [u64; 32],
-    bits: CodePointBits,
+    /// The block offsets, four in a word, and then the words of the blocks.
+    words: Vec<u64>,
 }
 
 impl Model for FrozenCodePointSet {
@@ -55,19 +58,38 @@ impl Model for FrozenCodePointSet {
 
     ghost view = { λ a. a.set };
 
-    ghost invariant = { λ a. IsFrozen a.set a.ascii a.two_bytes a.bits };
+    ghost invariant = { λ a. IsFrozen a.set a.ascii a.two_bytes a.words.items };
 }
 
-/// A view of the tables of a frozen set. The set contains the code point `c` if bit `c % 64` of the
-/// word at `index[c / 256] + c / 64 % 4` is 1. Bit 0 is the lowest.
-#[derive(Clone, Copy, Debug)]
-pub struct FrozenTables<'a> {
-    /// For each of the 4,352 blocks of 256 code points, the index of the first of its four words.
-    /// Blocks may share their words.
-    pub index: &'a [u16],
-    /// Each word has the bits of 64 code points, lowest first. There are at most four words for
-    /// each block, plus eight.
-    pub words: &'a [u64],
+/// Writes four words to `out` from index `at` on.
+#[inline(always)]
+fn put_four(out: &mut [u64; 32], at: usize, table: &[u64], first: usize)
+    requires there { at + 4 ≤ 32 }
+    requires fits { first + 4 < 2 ^ 64 }
+    ensures written { (k : ℕ) → k < 4
+        → slice_index out.new (at + k) ≡ slice_index table.now (first + k) }
+    ensures before { (i : ℕ) → i < at → slice_index out.new i ≡ slice_index out.old i }
+{
+    out[at] = word(table, first);
+    out[at + 1] = word(table, first + 1);
+    out[at + 2] = word(table, first + 2);
+    out[at + 3] = word(table, first + 3);
+}
+
+/// Returns the bits of the first 2,048 code points, 64 in each word.
+fn first_words(table: &[u64]) -> [u64; 32]
+    ensures { (c : ℕ) → c < 2048 → bit_among result c ≡ bit_in table.now c }
+{
+    let mut words = [0; 32];
+    for k in 0..8 {
+        put_four(
+            &mut words,
+            4 * k,
+            table,
+            PLACE_WORDS + place_of(table, k as u32),
+        );
+    }
+    words
 }
 
 /// Constructors and copies.
@@ -83,17 +105,12 @@ impl FrozenCodePointSet {
     ) -> Result<FrozenCodePointSet, MemoryError>
         ensures ok { IfOk result (λ s. s ≡ set.now) }
     {
-        let ranges = set.iter_ranges();
-        let mut filling = Filling::new(alloc, ranges.len())?;
-        for range in ranges {
-            filling.add(*range.start(), *range.end() + 1)?;
-        }
-        let bits = filling.finish()?;
+        let words = frozen_words(alloc, set.as_inversion_list())?;
         Ok(FrozenCodePointSet {
             set: set.try_clone(alloc)?,
             ascii: ascii_of(set),
-            two_bytes: bits.first_words(),
-            bits,
+            two_bytes: first_words(&words),
+            words,
         })
     }
 
@@ -108,7 +125,7 @@ impl FrozenCodePointSet {
             set: self.set.try_clone(alloc)?,
             ascii: self.ascii,
             two_bytes: self.two_bytes,
-            bits: self.bits.try_clone(alloc)?,
+            words: Vec::from_slice(alloc, &self.words)?,
         })
     }
 }
@@ -123,31 +140,29 @@ impl FrozenCodePointSet {
         &self.set
     }
 
-    /// Returns a view of the bits of all code points as they are stored, for example to write them
-    /// to a file.
+    /// Returns the words of the frozen set, for example to write them to a file. The first 1,088
+    /// have the offsets of the 4,352 blocks of 256 code points, four in a word with the first one in
+    /// the lowest bits. Each of the others has the bits of 64 code points, lowest first. A block's
+    /// offset says at which of them its four words start.
+    ///
+    /// [`FrozenView::new`] makes them a frozen set again, without a copy.
     ///
     /// ```
-    /// let FrozenTables { index, words } = letters.tables();
-    /// // words[index[0] as usize + 1] >> 1 & 1 says whether letters.contains('A')
+    /// let words = letters.as_words();
+    /// // FrozenView::new(words).contains('A') is letters.contains('A')
     /// ```
-    pub fn tables(&self) -> FrozenTables<'_>
-        ensures { AreTablesOf self.now
-            (record { index = result.index.now; words = result.words.now }) }
+    pub fn as_words(&self) -> &[u64]
+        ensures { IsFrozenOf self.now result.now }
     {
-        FrozenTables {
-            index: self.bits.index(),
-            words: self.bits.words(),
-        }
+        &self.words
     }
 
-    /// Returns the bits of all code points.
+    /// Returns a view of the words of the frozen set.
     #[inline(always)]
-    pub(crate) fn bits(&self) -> &CodePointBits
-        ensures tables { AreTables result.now }
-        ensures blocks { length result.now.index ≡ 4352 }
-        ensures bits { (c : ℕ) → c < code_point_limit → has_bit result.now c ≡ holds self.now c }
+    pub fn as_view(&self) -> FrozenView<'_>
+        ensures { IsFrozenOf self.now (view_words result) }
     {
-        &self.bits
+        FrozenView::new(&self.words)
     }
 
     /// Returns true if the set contains the code point `c`. Returns false for any number above
@@ -157,7 +172,10 @@ impl FrozenCodePointSet {
         ensures held { result ≡ holds self.now c }
         ensures far { code_point_limit ≤ c → result ≡ false }
     {
-        c < CODE_POINT_LIMIT && self.bits.contains32(c)
+        if c < 0x800 {
+            return self.contains_short(c / 64, c % 64);
+        }
+        contains(&self.words, c)
     }
 
     /// Returns true if the set contains the character `c`.
@@ -184,34 +202,25 @@ impl FrozenCodePointSet {
     }
 
     /// Returns whether the set contains the first character of the bytes, and its length in bytes.
-    /// The payload of the lead and trail bytes is the position of the character's bit, so the
-    /// character is not decoded into a `char`.
     #[inline(always)]
     fn ask_first(&self, bytes: &[u8]) -> (bool, usize)
         requires utf8 { IsUtf8 bytes.now }
         requires more { 0 < length bytes.now }
         ensures { IsAsked self.now bytes.now 0 result.0 result.1 }
     {
-        let lead = u32::from(bytes[0]);
+        let lead = bytes[0];
         if lead < 0x80 {
             return (self.ascii[lead as usize], 1);
         }
         if lead < 0xE0 {
-            let second = u32::from(bytes[1]) % 64;
-            return (self.contains_short(lead % 32, second), 2);
+            let (upper, lower) = place_of_two(bytes);
+            return (self.contains_short(upper, lower), 2);
         }
-        // The last byte first: one bounds check is enough for all of them.
         if lead < 0xF0 {
-            let third = u32::from(bytes[2]) % 64;
-            let second = u32::from(bytes[1]) % 64;
-            let word = lead % 16 * 64 + second;
-            return (self.bits.contains_in(word, third), 3);
+            let (upper, lower) = place_of_three(bytes);
+            return (bit_of_parts(&self.words, upper, lower), 3);
         }
-        let fourth = u32::from(bytes[3]) % 64;
-        let third = u32::from(bytes[2]) % 64;
-        let second = u32::from(bytes[1]) % 64;
-        let word = lead % 8 * 4096 + second * 64 + third;
-        (self.bits.contains_in(word, fourth), 4)
+        (self.contains32(number_of_four(bytes)), 4)
     }
 
     /// Returns whether the set contains the character that starts at offset `start`, and the offset

@@ -1,11 +1,15 @@
 //! Whether a frozen set contains a range.
-ghost use Rattle.std.specs.Prelude.{◌≡◌, ◌<◌, ◌≤◌, ◌↔◌, min, IfSome, IsTrue};
+ghost use Rattle.std.specs.Prelude.{◌≡◌, ℕ, ◌+◌, ◌-◌, ◌^◌, ◌<◌, ◌≤◌, ◌++◌, ◌↔◌, List, true, false, min, slice_index, IfSome, IsTrue};
+ghost use Rattle.std.specs.Int.{bit_at};
 ghost use Rattle.std.specs.Range.{range_inclusive_start};
 ghost use Rattle.icu_zerovec.specs.CodePoints.{code_point_limit};
 ghost use Rattle.icu_invlist.specs.InversionList.{HoldsAll};
 ghost use Rattle.icu_invlist.specs.NamedCodePoints.{end_of_inclusive};
+ghost use Rattle.icu_frozen_sets.specs.FrozenView.{view_words};
+ghost use Rattle.icu_frozen_sets.specs.FrozenWords.{IsFrozenOf, bit_in, is_held};
 
 use crate::frozen::FrozenCodePointSet;
+use crate::view::{FULL_BLOCK, FrozenView, PLACE_WORDS, place_of, word};
 use icu_invlist::codepointinvlist::RangeOf;
 use icu_zerovec::CODE_POINT_LIMIT;
 use std::ops::RangeInclusive;
@@ -28,6 +32,91 @@ fn long_range(start: u32, end: u32) -> Option<RangeInclusive<char>>
     Some(RangeInclusive::new(char::from_u32(start)?, char::from_u32(end - 1)?))
 }
 
+/// Returns the number of consecutive ones in the word from bit `place` on.
+#[inline(always)]
+fn ones_from(word: u64, place: u32) -> u32
+    requires within { place < 64 }
+    ensures ones { (i : ℕ) → i < result
+        → (place + i < 64) × (bit_at word (place + i) ≡ 1) }
+    ensures stops { result ≡ 0 → bit_at word place ≡ 0 }
+{
+    (word >> place).trailing_ones()
+}
+
+/// Returns true if the block at this offset is full and has the offset that blocks that are full
+/// have.
+#[inline(always)]
+fn is_full(table: &[u64], place: usize) -> bool
+    requires { place < 2 ^ 16 }
+    ensures { result ≡ true → (k : ℕ) → k < 4
+        → slice_index table.now (1088 + place + k) ≡ 2 ^ 64 - 1 }
+{
+    if place as u64 != FULL_BLOCK {
+        return false;
+    }
+    let first = word(table, PLACE_WORDS + place);
+    let second = word(table, PLACE_WORDS + place + 1);
+    let third = word(table, PLACE_WORDS + place + 2);
+    let fourth = word(table, PLACE_WORDS + place + 3);
+    first == u64::MAX && second == u64::MAX && third == u64::MAX && fourth == u64::MAX
+}
+
+/// Returns the end of a run of ones that starts with the bit of the code point `c`, or `c` if that
+/// bit is 0. The run is cut off at the end of the word, or of the block if the block is full.
+#[inline(always)]
+fn past_ones(table: &[u64], c: u32) -> u32
+    requires within { c < CODE_POINT_LIMIT }
+    ensures order { c ≤ result }
+    ensures ones { (k : ℕ) → c ≤ k → k < result → bit_in table.now k ≡ true }
+    ensures stops { result ≡ c → bit_in table.now c ≡ false }
+{
+    let place = place_of(table, c / 256);
+    if is_full(table, place) {
+        return (c / 256 + 1) * 256;
+    }
+    let bits = word(table, PLACE_WORDS + place + (c / 64 % 4) as usize);
+    c + ones_from(bits, c % 64)
+}
+
+/// Returns true if the bits of all code points in `start..end` are 1.
+fn contains_all(table: &[u64], start: u32, end: u32) -> bool
+    requires { end ≤ CODE_POINT_LIMIT }
+    ensures { IsTrue result ↔ ((c : ℕ) → start ≤ c → c < end → bit_in table.now c ≡ true) }
+{
+    let mut next = start;
+    while next < end {
+        let past = past_ones(table, next);
+        if past == next {
+            return false;
+        }
+        next = past;
+    }
+    true
+}
+
+/// Ranges in a view of a frozen set.
+impl<'a> FrozenView<'a> {
+    /// Returns true if `range` is not empty and the set contains all code points in it, including
+    /// any surrogates between its start and its end.
+    ///
+    /// This tests 64 bits at a time, and 256 in a full block.
+    pub fn contains_range<R: RangeOf<char>>(self, range: R) -> bool
+        ensures exact { IsTrue result ↔ (R.start range < min (R.end range) code_point_limit)
+            × ((c : ℕ) → R.start range ≤ c → c < min (R.end range) code_point_limit
+            → is_held (view_words self.entry) c ≡ true) }
+        ensures set { (ends words rest : List ℕ) → IsFrozenOf ends words → view_words self.entry ≡ words ++ rest
+            → IsTrue result ↔ (R.start range < min (R.end range) code_point_limit)
+            × HoldsAll ends (R.start range) (min (R.end range) code_point_limit) }
+    {
+        let (start, end) = range.deconstruct();
+        let end = end.min(CODE_POINT_LIMIT);
+        if start >= end {
+            return false;
+        }
+        contains_all(self.words(), start, end)
+    }
+}
+
 /// Ranges in a frozen set.
 impl FrozenCodePointSet {
     /// Returns true if `range` is not empty and the set contains all code points in it, including
@@ -47,7 +136,7 @@ impl FrozenCodePointSet {
         }
         match long_range(start, end) {
             Some(range) => self.as_set().contains_range(range),
-            None => self.bits().contains_range(start, end),
+            None => contains_all(self.as_words(), start, end),
         }
     }
 }

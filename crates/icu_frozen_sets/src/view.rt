@@ -1,5 +1,5 @@
 //! A view of a frozen set in 64-bit words: look-ups, and spans of texts.
-ghost use Rattle.std.specs.Prelude.{◌≡◌, ℕ, ◌++◌, List, length, slice_index};
+ghost use Rattle.std.specs.Prelude.{◌≡◌, ℕ, ◌+◌, ◌*◌, ◌<◌, ◌++◌, List, length, slice_index};
 ghost use Rattle.std.specs.List.{take_while};
 ghost use Rattle.std.specs.Str.{IsCharBoundary, chars, encode_utf8_all};
 ghost use mathlib.Core.Bool.{beq};
@@ -14,6 +14,9 @@ use icu_zerovec::CODE_POINT_LIMIT;
 
 /// How many words the block offsets take.
 pub(crate) const PLACE_WORDS: usize = 1088;
+
+/// The offset of the full block in the words that are made here. That of the empty one is 0.
+pub(crate) const FULL_BLOCK: u64 = 4;
 
 /// Returns the word at this index, or 0 if there is none.
 #[inline(always)]
@@ -32,13 +35,25 @@ pub(crate) fn place_of(table: &[u64], block: u32) -> usize
     ((four >> (16 * (block % 4))) % 0x1_0000) as usize
 }
 
-/// Returns the bit of the code point.
+/// Returns the bit of the code point `64 * upper + lower`. One test says that all block offsets are
+/// there.
 #[inline(always)]
-fn bit_of(table: &[u64], c: u32) -> bool
-    ensures { result ≡ bit_in table.now c }
+pub(crate) fn bit_of_parts(table: &[u64], upper: u32, lower: u32) -> bool
+    requires upper { upper < 0x4400 }
+    requires lower { lower < 64 }
+    ensures { result ≡ bit_in table.now (64 * upper + lower) }
 {
-    let place = PLACE_WORDS + place_of(table, c / 256) + (c / 64 % 4) as usize;
-    (word(table, place) >> (c % 64)) & 1 == 1
+    if table.len() < PLACE_WORDS {
+        return false;
+    }
+    let (places, blocks) = table.split_at(PLACE_WORDS);
+    let four = places[(upper / 16) as usize];
+    let place = (four >> (16 * (upper / 4 % 4))) % 0x1_0000;
+    let at = place as usize + (upper % 4) as usize;
+    if at >= blocks.len() {
+        return false;
+    }
+    (blocks[at] >> lower) & 1 == 1
 }
 
 /// Returns whether the frozen set contains the code point.
@@ -46,7 +61,7 @@ fn bit_of(table: &[u64], c: u32) -> bool
 pub(crate) fn contains(table: &[u64], c: u32) -> bool
     ensures { result ≡ is_held table.now c }
 {
-    c < CODE_POINT_LIMIT && bit_of(table, c)
+    c < CODE_POINT_LIMIT && bit_of_parts(table, c / 64, c % 64)
 }
 
 /// A frozen set in 64-bit words, borrowed, for example from a file. It is `Copy`, like `&[u64]`.
@@ -56,6 +71,13 @@ pub(crate) fn contains(table: &[u64], c: u32) -> bool
 /// points, lowest first. A block's offset says at which of these words its four words start.
 ///
 /// Any words are accepted. Words that are missing count as 0, and words after the set are ignored.
+/// [`FrozenCodePointSet::as_words`](crate::frozen::FrozenCodePointSet::as_words) returns the words of
+/// a set.
+///
+/// ```
+/// let letters = FrozenView::new(words);
+/// // letters.span_utf8(b"ab\xFF", true) is 2
+/// ```
 ///
 /// # Contract
 /// In contracts, `view_words` is the list of its words. `is_held` says which code points they
@@ -73,6 +95,14 @@ impl<'a> FrozenView<'a> {
         ensures { view_words result ≡ words.now }
     {
         FrozenView { words }
+    }
+
+    /// Returns the words of the view.
+    #[inline(always)]
+    pub(crate) fn words(self) -> &'a [u64]
+        ensures { result.now ≡ view_words self.entry }
+    {
+        self.words
     }
 
     /// Returns true if the set contains the code point `c`. Returns false for any number above

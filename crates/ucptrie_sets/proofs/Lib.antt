@@ -1,5 +1,4 @@
 mod CellLemmas
-mod FrozenLemmas
 mod JsonLemmas
 mod RowLemmas
 mod SerializedLemmas

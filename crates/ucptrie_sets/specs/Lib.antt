@@ -1,4 +1,3 @@
-pub mod FrozenWords
 pub mod Rows
 pub mod SetSource
 pub mod SetToml

@@ -2,10 +2,9 @@
 use Rattle.std.specs.Prelude.{◌≡◌, ℕ, ◌+◌, ◌%◌, ◌==◌, List, [], ◌∷◌, ◌++◌, codes, length, max, if◌then◌else◌}
 use Rattle.icu_zerovec.specs.CodePoints.{code_point_limit}
 use Rattle.icu_invlist.specs.InversionList.{members_below, ranges_of}
-use Rattle.icu_frozen_sets.specs.CodePointBits.{AreTablesOf, BitTables}
+use Rattle.icu_frozen_sets.specs.FrozenWords.{IsFrozenOf}
 use Rattle.ucptab_table.specs.Patterns.{filled, named, number_text}
 use Rattle.ucptab_table.specs.declared.pattern.Number.TheVariants.{Decimal, Hexadecimal}
-use Rattle.ucptrie_sets.specs.FrozenWords.{AreWordsOf}
 
 -- ---- What the texts have in common
 
@@ -103,41 +102,37 @@ frozen_c name words =
 -- The text is the frozen set in C, with the words of the set.
 pub record IsFrozenC (name set text : List ℕ) : Type 0 where
   pub words : List ℕ
-  pub held : AreWordsOf set words
+  pub held : IsFrozenOf set words
   pub whole : text ≡ title set ++ frozen_c name words
 
 -- ---- A frozen set in Rust
 
--- What precedes the array of the indices.
-unfoldable pub frozen_rust_head : List ℕ → List ℕ
-frozen_rust_head name = named name
+-- What precedes the array of so many words.
+unfoldable pub frozen_rust_head : List ℕ → ℕ → List ℕ
+frozen_rust_head name count = filled name (Decimal count ∷ [])
     (codes "#[allow(dead_code, non_snake_case, clippy::module_inception)]\npub mod @ {\n"
-    ++ codes "    /// For each block of 256 code points, the index of the first of its four words.\n"
-    ++ codes "    #[rustfmt::skip]\n    pub static INDEX: [u16; 4352] = [\n")
-
--- What is between the indices and the array of so many words.
-unfoldable pub frozen_rust_words : ℕ → List ℕ
-frozen_rust_words count = filled [] (Decimal count ∷ [])
-    (codes "\n    ];\n\n    /// A bit for each code point of a block, 64 in each word.\n"
+    ++ codes "    /// The words of the frozen set, for `FrozenView` of `bekstaudi`. The first 1088 have four "
+    ++ codes "offsets\n    /// each, one for each block of 256 code points. The others have a bit for each "
+    ++ codes "code point of a\n    /// block, 64 in each word.\n"
     ++ codes "    #[rustfmt::skip]\n    pub static WORDS: [u64; %] = [\n")
 
--- The look-up in the tables.
+-- The look-up in the words.
 unfoldable pub frozen_rust_look_up : List ℕ
 frozen_rust_look_up =
     codes "\n    ];\n\n    /// Returns whether the set contains `c`, by two reads.\n"
     ++ codes "    pub fn contains(c: u32) -> bool {\n"
-    ++ codes "        let Some(&first) = INDEX.get((c >> 8) as usize) else {\n"
-    ++ codes "            return false;\n        };\n"
-    ++ codes "        let word = WORDS[usize::from(first) + (c >> 6 & 3) as usize];\n"
+    ++ codes "        if c > 0x10FFFF {\n            return false;\n        }\n"
+    ++ codes "        let block = WORDS[(c >> 10) as usize] >> ((c >> 8 & 3) * 16) & 0xFFFF;\n"
+    ++ codes "        let word = WORDS[1088 + block as usize + (c >> 6 & 3) as usize];\n"
     ++ codes "        (word >> (c & 63)) & 1 == 1\n    }\n}\n"
 
--- Tables in Rust: a module with them, and the look-up.
-abbrev pub frozen_rust : List ℕ → BitTables → List ℕ
-frozen_rust name tables = frozen_rust_head name ++ cells_from 0 tables.index
-    ++ frozen_rust_words (length tables.words) ++ cells_from 0 tables.words ++ frozen_rust_look_up
+-- Words in Rust: a module with them, and the look-up.
+abbrev pub frozen_rust : List ℕ → List ℕ → List ℕ
+frozen_rust name words =
+    frozen_rust_head name (length words) ++ cells_from 0 words ++ frozen_rust_look_up
 
--- The text is the frozen set in Rust, with the tables of the set.
+-- The text is the frozen set in Rust, with the words of the set.
 pub record IsFrozenRust (name set text : List ℕ) : Type 0 where
-  pub tables : BitTables
-  pub held : AreTablesOf set tables
-  pub whole : text ≡ title set ++ frozen_rust name tables
+  pub words : List ℕ
+  pub held : IsFrozenOf set words
+  pub whole : text ≡ title set ++ frozen_rust name words

@@ -1,12 +1,8 @@
 //! A set as source in C.
-ghost use Rattle.std.specs.Prelude.{◌≡◌, ◌+◌, ◌*◌, ◌≤◌, ◌++◌, IfOk, OnOk, length, string_bytes};
-ghost use Rattle.ucptrie_sets.specs.FrozenWords.{packed};
+ghost use Rattle.std.specs.Prelude.{◌≡◌, ◌++◌, IfOk, OnOk, string_bytes};
 ghost use Rattle.ucptrie_sets.specs.SetSource.{c_boundaries, c_head, c_search, c_text, frozen_c, frozen_c_head, frozen_c_look_up, IsFrozenC};
 
-use crate::source::{
-    INDEX_WORDS, frozen_of, push_boundaries, push_packed_indices, push_words, title_of,
-};
-use icu_frozen_sets::frozen::FrozenTables;
+use crate::source::{frozen_of, push_boundaries, push_words, title_of};
 use icu_invlist::codepointinvlist::CodePointInversionList;
 use std::alloc::{AllocError, Global};
 use ucptab_table::pattern::Number::Decimal;
@@ -136,15 +132,12 @@ fn push_look_up(text: &mut String, name: &str) -> Result<(), AllocError>
 }
 
 /// Appends an array with the words of a frozen set, and a look-up in it.
-fn push_frozen(text: &mut String, tables: FrozenTables<'_>, name: &str) -> Result<(), AllocError>
-    requires blocks { length tables.index.now ≡ 4352 }
-    requires most { length tables.words.now ≤ 8 + 4 * 4352 }
-    ensures { OnOk result (string_bytes text.new ≡ string_bytes text.old
-        ++ frozen_c name.now (packed 1088 tables.entry.index.now ++ tables.entry.words.now)) }
+fn push_frozen(text: &mut String, words: &[u64], name: &str) -> Result<(), AllocError>
+    ensures { OnOk result (string_bytes text.new
+        ≡ string_bytes text.old ++ frozen_c name.now words.now) }
 {
-    push_frozen_head(text, name, INDEX_WORDS + tables.words.len())?;
-    push_packed_indices(text, tables.index)?;
-    push_words(text, INDEX_WORDS, tables.words)?;
+    push_frozen_head(text, name, words.len())?;
+    push_words(text, words)?;
     push_look_up(text, name)
 }
 
@@ -158,6 +151,6 @@ pub(crate) fn frozen_c_text(
 {
     let frozen = frozen_of(alloc, set)?;
     let mut text = title_of(alloc, set)?;
-    push_frozen(&mut text, frozen.tables(), name)?;
+    push_frozen(&mut text, frozen.as_words(), name)?;
     Ok(text)
 }

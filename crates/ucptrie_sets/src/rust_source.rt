@@ -1,13 +1,12 @@
 //! A set as source in Rust.
-ghost use Rattle.std.specs.Prelude.{◌≡◌, ◌+◌, ◌*◌, ◌≤◌, ◌++◌, IfOk, OnOk, length, string_bytes};
-ghost use Rattle.ucptrie_sets.specs.SetSource.{frozen_rust, frozen_rust_head, frozen_rust_look_up, frozen_rust_words, IsFrozenRust, rust_head, rust_search, rust_text};
+ghost use Rattle.std.specs.Prelude.{◌≡◌, ◌++◌, IfOk, OnOk, string_bytes};
+ghost use Rattle.ucptrie_sets.specs.SetSource.{frozen_rust, frozen_rust_head, frozen_rust_look_up, IsFrozenRust, rust_head, rust_search, rust_text};
 
-use crate::source::{frozen_of, push_boundaries, push_indices, push_words, title_of};
-use icu_frozen_sets::frozen::FrozenTables;
+use crate::source::{frozen_of, push_boundaries, push_words, title_of};
 use icu_invlist::codepointinvlist::CodePointInversionList;
 use std::alloc::{AllocError, Global};
 use ucptab_table::pattern::Number::Decimal;
-use ucptab_table::pattern::{push_named, push_pattern};
+use ucptab_table::pattern::push_pattern;
 
 /// The search in the boundaries.
 const SEARCH: &str = "
@@ -61,58 +60,43 @@ pub(crate) fn rust_text(
     Ok(text)
 }
 
-/// The look-up in the tables.
+/// The look-up in the words.
 const LOOK_UP: &str = "
     ];
 
     /// Returns whether the set contains `c`, by two reads.
     pub fn contains(c: u32) -> bool {
-        let Some(&first) = INDEX.get((c >> 8) as usize) else {
+        if c > 0x10FFFF {
             return false;
-        };
-        let word = WORDS[usize::from(first) + (c >> 6 & 3) as usize];
+        }
+        let block = WORDS[(c >> 10) as usize] >> ((c >> 8 & 3) * 16) & 0xFFFF;
+        let word = WORDS[1088 + block as usize + (c >> 6 & 3) as usize];
         (word >> (c & 63)) & 1 == 1
     }
 }
 ";
 
-/// What precedes the indices. `@` is replaced by the name.
-const INDEX: &str = "\
+/// What precedes the words. `@` is replaced by the name, and `%` by their number.
+const WORDS: &str = "\
 #[allow(dead_code, non_snake_case, clippy::module_inception)]
 pub mod @ {
-    /// For each block of 256 code points, the index of the first of its four words.
-    #[rustfmt::skip]
-    pub static INDEX: [u16; 4352] = [
-";
-
-/// What precedes the words. `%` is replaced by their number.
-const WORDS: &str = "
-    ];
-
-    /// A bit for each code point of a block, 64 in each word.
+    /// The words of the frozen set, for `FrozenView` of `bekstaudi`. The first 1088 have four offsets
+    /// each, one for each block of 256 code points. The others have a bit for each code point of a
+    /// block, 64 in each word.
     #[rustfmt::skip]
     pub static WORDS: [u64; %] = [
 ";
 
-/// Appends what precedes the indices of a frozen set.
+/// Appends what precedes so many words of a frozen set.
 #[tactic(auto, unfolding(crate::specs::SetSource::frozen_rust_head))]
-fn push_frozen_head(text: &mut String, name: &str) -> Result<(), AllocError>
+fn push_frozen_head(text: &mut String, name: &str, count: usize) -> Result<(), AllocError>
     ensures { OnOk result (string_bytes text.new
-        ≡ string_bytes text.old ++ frozen_rust_head name.now) }
+        ≡ string_bytes text.old ++ frozen_rust_head name.now count) }
 {
-    push_named(text, INDEX, name)
+    push_pattern(text, WORDS, name, &[Decimal(count)])
 }
 
-/// Appends what is between the indices and so many words of a frozen set.
-#[tactic(auto, unfolding(crate::specs::SetSource::frozen_rust_words))]
-fn push_words_head(text: &mut String, count: usize) -> Result<(), AllocError>
-    ensures { OnOk result (string_bytes text.new
-        ≡ string_bytes text.old ++ frozen_rust_words count) }
-{
-    push_pattern(text, WORDS, "", &[Decimal(count)])
-}
-
-/// Appends the look-up in the tables of a frozen set.
+/// Appends the look-up in the words of a frozen set.
 #[tactic(auto, unfolding(crate::specs::SetSource::frozen_rust_look_up))]
 fn push_look_up(text: &mut String) -> Result<(), AllocError>
     ensures { OnOk result (string_bytes text.new ≡ string_bytes text.old ++ frozen_rust_look_up) }
@@ -120,21 +104,17 @@ fn push_look_up(text: &mut String) -> Result<(), AllocError>
     text.push_str(LOOK_UP)
 }
 
-/// Appends a module with the tables of a frozen set, and a look-up in them.
-fn push_frozen(text: &mut String, tables: FrozenTables<'_>, name: &str) -> Result<(), AllocError>
-    requires { length tables.words.now ≤ 8 + 4 * 4352 }
-    ensures { OnOk result (string_bytes text.new ≡ string_bytes text.old
-        ++ frozen_rust name.now
-        (record { index = tables.entry.index.now; words = tables.entry.words.now })) }
+/// Appends a module with the words of a frozen set, and a look-up in them.
+fn push_frozen(text: &mut String, words: &[u64], name: &str) -> Result<(), AllocError>
+    ensures { OnOk result (string_bytes text.new
+        ≡ string_bytes text.old ++ frozen_rust name.now words.now) }
 {
-    push_frozen_head(text, name)?;
-    push_indices(text, tables.index)?;
-    push_words_head(text, tables.words.len())?;
-    push_words(text, 0, tables.words)?;
+    push_frozen_head(text, name, words.len())?;
+    push_words(text, words)?;
     push_look_up(text)
 }
 
-/// Returns the frozen set in Rust: a module with its tables, and a look-up in them.
+/// Returns the frozen set in Rust: a module with its words, and a look-up in them.
 pub(crate) fn frozen_rust_text(
     alloc: Global,
     set: &CodePointInversionList<'_>,
@@ -144,6 +124,6 @@ pub(crate) fn frozen_rust_text(
 {
     let frozen = frozen_of(alloc, set)?;
     let mut text = title_of(alloc, set)?;
-    push_frozen(&mut text, frozen.tables(), name)?;
+    push_frozen(&mut text, frozen.as_words(), name)?;
     Ok(text)
 }

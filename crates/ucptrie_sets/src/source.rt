@@ -2,7 +2,6 @@
 ghost use Rattle.std.specs.Prelude.{◌≡◌, ◌+◌, ◌*◌, ◌^◌, ◌<◌, ◌≤◌, ◌++◌, IfOk, OnOk, length, string_bytes};
 ghost use Rattle.ucptab_table.specs.Patterns.{number_text};
 ghost use Rattle.ucptab_table.specs.declared.pattern.Number.TheVariants.{Hexadecimal};
-ghost use Rattle.ucptrie_sets.specs.FrozenWords.{packed, word_at};
 ghost use Rattle.ucptrie_sets.specs.SetSource.{cells_from, gap, title};
 
 use icu_frozen_sets::frozen::FrozenCodePointSet;
@@ -13,9 +12,6 @@ use ucptab_table::pattern::push_pattern;
 
 /// How many cells a line has.
 const CELLS_IN_LINE: usize = 8;
-
-/// How many words the indices of a frozen set take, four in each.
-pub(crate) const INDEX_WORDS: usize = 1088;
 
 /// The first line of source. Each `%` is replaced by a number.
 const TITLE: &str = "// Made by ucptrie: a set of % code points in % ranges.\n";
@@ -90,49 +86,13 @@ pub(crate) fn push_boundaries(
     Ok(())
 }
 
-/// Appends indices of 16 bits.
-pub(crate) fn push_indices(text: &mut String, indices: &[u16]) -> Result<(), AllocError>
+/// Appends words of 64 bits.
+pub(crate) fn push_words(text: &mut String, words: &[u64]) -> Result<(), AllocError>
     ensures { OnOk result (string_bytes text.new
-        ≡ string_bytes text.old ++ cells_from 0 indices.now) }
-{
-    for (i, index) in indices.iter().enumerate() {
-        push_cell(text, i, u64::from(*index))?;
-    }
-    Ok(())
-}
-
-/// Appends words of 64 bits. They are the cells of an array from the cell `start` on.
-pub(crate) fn push_words(text: &mut String, start: usize, words: &[u64]) -> Result<(), AllocError>
-    requires { start + length words.now < 2 ^ 64 }
-    ensures { OnOk result (string_bytes text.new
-        ≡ string_bytes text.old ++ cells_from start words.now) }
+        ≡ string_bytes text.old ++ cells_from 0 words.now) }
 {
     for (i, word) in words.iter().enumerate() {
-        push_cell(text, start + i, *word)?;
-    }
-    Ok(())
-}
-
-/// Returns the word of the four indices of 16 bits from `first` on, the first one in the lowest
-/// bits.
-fn word_at(indices: &[u16], first: usize) -> u64
-    requires { first + 4 ≤ length indices.now }
-    ensures { result ≡ word_at indices.now first }
-{
-    let (a, b) = (u64::from(indices[first]), u64::from(indices[first + 1]));
-    let (c, d) = (u64::from(indices[first + 2]), u64::from(indices[first + 3]));
-    a + 0x1_0000 * (b + 0x1_0000 * (c + 0x1_0000 * d))
-}
-
-/// Appends the indices of a frozen set in words of 64 bits, four in each, the first one in the
-/// lowest bits.
-pub(crate) fn push_packed_indices(text: &mut String, indices: &[u16]) -> Result<(), AllocError>
-    requires { length indices.now ≡ 4352 }
-    ensures { OnOk result (string_bytes text.new
-        ≡ string_bytes text.old ++ cells_from 0 (packed 1088 indices.now)) }
-{
-    for i in 0..INDEX_WORDS {
-        push_cell(text, i, word_at(indices, 4 * i))?;
+        push_cell(text, i, *word)?;
     }
     Ok(())
 }

@@ -32,11 +32,13 @@
 
 pub use crate::constant::InvalidStaticSet;
 #[cfg(feature = "alloc")]
-pub use crate::icu_frozen_sets::frozen::{FrozenCodePointSet, FrozenTables};
+pub use crate::icu_frozen_sets::frozen::FrozenCodePointSet;
 #[cfg(feature = "alloc")]
 pub use crate::icu_frozen_sets::spans::{Span, Spans};
 #[cfg(feature = "alloc")]
 pub use crate::icu_frozen_sets::text_sets::FrozenCodePointSetAndStrings;
+#[cfg(feature = "alloc")]
+pub use crate::icu_frozen_sets::view::FrozenView;
 #[cfg(feature = "alloc")]
 pub use crate::icu_invlist::codepointinvlist::CodePointInversionListBuilder;
 #[cfg(feature = "json")]

@@ -1,10 +1,10 @@
--- Tables during filling, from the first code point on. The current block is separate, as the starts
--- and the ends of the ranges in it: one bit marks each.
+-- The words of a frozen set while they are filled, from the first code point on. The current block is
+-- separate, as the starts and the ends of the ranges in it: one bit marks each.
 use Rattle.std.specs.Prelude.{ℕ, ◌+◌, ◌-◌, ◌*◌, ◌/◌, ◌%◌, ◌^◌, ◌<◌, ◌≤◌, ◌≡◌, ◌≢◌, List, length, slice_index, slice_index_or, Bool, false, ◌==◌, if◌then◌else◌}
 use Rattle.std.specs.Int.{bit_at, from_bool}
 use Rattle.icu_zerovec.specs.CodePoints.{code_point_limit}
-use Rattle.icu_invlist.specs.InversionList.{IsValid, holds}
-use Rattle.icu_frozen_sets.specs.CodePointBits.{BitTables, has_bit}
+use Rattle.icu_invlist.specs.InversionList.{holds}
+use Rattle.icu_frozen_sets.specs.FrozenWords.{IsFrozenOf, bit_in, place_in}
 
 -- Whether the bit of c is 1 in the words of its block.
 abbrev pub block_bit : List ℕ → ℕ → Bool
@@ -19,31 +19,29 @@ abbrev pub IsUniform : List ℕ → Bool → Type 0
 IsUniform block value =
     (k : ℕ) → k < 4 → slice_index block k ≡ (if value then 2 ^ 64 - 1 else 0)
 
--- The words have the four words of each block in the index, and start with those of the empty and
--- of the full block. There are at most four words for each block, plus eight.
-pub record AreTables (t : BitTables) : Type 0 where
-  pub least : 8 ≤ length t.words
-  pub most : length t.words ≤ 8 + 4 * length t.index
-  pub placed : (b : ℕ) → b < length t.index → slice_index t.index b + 4 ≤ length t.words
-  pub none : (k : ℕ) → k < 4 → slice_index t.words k ≡ 0
-  pub all : (k : ℕ) → k < 4 → slice_index t.words (4 + k) ≡ 2 ^ 64 - 1
+-- The four words of each block are there. The blocks start with the words of the empty and of the
+-- full block. There are at most four words for each block, and eight more.
+pub record AreTables (table : List ℕ) : Type 0 where
+  pub least : 1096 ≤ length table
+  pub most : length table ≤ 1096 + 4 * 4352
+  pub placed : (b : ℕ) → b < 4352 → 1088 + place_in table b + 4 ≤ length table
+  pub none : (k : ℕ) → k < 4 → slice_index table (1088 + k) ≡ 0
+  pub all : (k : ℕ) → k < 4 → slice_index table (1092 + k) ≡ 2 ^ 64 - 1
 
--- In the new tables, block `at` has these bits. Nothing else changes.
-pub record SetsBlock (old new : BitTables) (at : ℕ) (bits : ℕ → Bool) : Type 0 where
+-- In the new words, block `at` has these bits. Nothing else changes.
+pub record SetsBlock (old new : List ℕ) (at : ℕ) (bits : ℕ → Bool) : Type 0 where
   pub tables : AreTables new
-  pub blocks : length new.index ≡ length old.index
-  pub few : length new.words ≤ length old.words + 4
-  pub others : (b : ℕ) → b ≢ at → slice_index new.index b ≡ slice_index old.index b
-  pub kept : (c : ℕ) → c / 256 ≢ at → c / 256 < length old.index → has_bit new c ≡ has_bit old c
-  pub set : (c : ℕ) → c / 256 ≡ at → has_bit new c ≡ bits c
+  pub few : length new ≤ length old + 4
+  pub others : (b : ℕ) → b ≢ at → b < 4352 → place_in new b ≡ place_in old b
+  pub kept : (c : ℕ) → c / 256 ≢ at → c < code_point_limit → bit_in new c ≡ bit_in old c
+  pub set : (c : ℕ) → c / 256 ≡ at → bit_in new c ≡ bits c
 
--- The tables have the blocks below `at`. All others are empty.
-pub record IsFilling (t : BitTables) (at : ℕ) : Type 0 where
-  pub tables : AreTables t
-  pub blocks : length t.index ≡ 4352
-  pub few : length t.words ≤ 8 + 4 * at
+-- The words have the blocks below `at`. All others are empty.
+pub record IsFilling (table : List ℕ) (at : ℕ) : Type 0 where
+  pub tables : AreTables table
+  pub few : length table ≤ 1096 + 4 * at
   pub within : at ≤ 4352
-  pub empty : (b : ℕ) → at ≤ b → slice_index t.index b ≡ 0
+  pub empty : (b : ℕ) → at ≤ b → b < 4352 → place_in table b ≡ 0
 
 -- Four words as one number, whose bit k is bit k % 64 of word k / 64.
 unfoldable pub number : List ℕ → ℕ
@@ -67,16 +65,12 @@ pub record AreBelow (starts ends : List ℕ) (at next : ℕ) : Type 0 where
   pub of_ends : number ends < 2 ^ (next - at * 256)
 
 -- The bit of c if block `at` has these bits.
-unfoldable pub filled : BitTables → ℕ → ℕ → ℕ → Bool
-filled t block at c = if c / 256 == at then bit_at block (c % 256) == 1 else has_bit t c
+unfoldable pub filled : List ℕ → ℕ → ℕ → ℕ → Bool
+filled table block at c = if c / 256 == at then bit_at block (c % 256) == 1 else bit_in table c
 
--- The tables have a bit for each code point, which is 1 if and only if the set contains it. `ascii`
--- and `two_bytes` repeat the bits of ASCII and of the code points below 0x800.
-pub record IsFrozen (ends : List ℕ) (ascii : List Bool) (two_bytes : List ℕ) (t : BitTables)
-    : Type 0 where
-  pub valid : IsValid ends
-  pub tables : AreTables t
-  pub blocks : length t.index ≡ 4352
-  pub bits : (c : ℕ) → c < code_point_limit → has_bit t c ≡ holds ends c
+-- The words are the frozen set with these boundaries. `ascii` and `two_bytes` repeat the bits of
+-- ASCII and of the code points below 0x800.
+pub record IsFrozen (ends : List ℕ) (ascii : List Bool) (two_bytes table : List ℕ) : Type 0 where
+  pub frozen : IsFrozenOf ends table
   pub first : (c : ℕ) → c < 128 → slice_index_or ascii c false ≡ holds ends c
   pub short : (c : ℕ) → c < 2048 → bit_among two_bytes c ≡ holds ends c

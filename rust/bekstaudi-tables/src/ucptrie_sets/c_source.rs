@@ -5,11 +5,8 @@ use crate::support::AllocError;
 use crate::support::prelude::*;
 use crate::ucptab_table::pattern::Number::Decimal;
 use crate::ucptab_table::pattern::{push_named, push_pattern};
-use crate::ucptrie_sets::source::{
-    INDEX_WORDS, frozen_of, push_boundaries, push_packed_indices, push_words, title_of,
-};
+use crate::ucptrie_sets::source::{frozen_of, push_boundaries, push_words, title_of};
 use bekstaudi::codepointinvlist::CodePointInversionList;
-use bekstaudi::codepointinvlist::FrozenTables;
 
 /// What precedes the boundaries. `@` is replaced by the name, and `%` by a number.
 const BOUNDARIES: &str = "
@@ -112,10 +109,9 @@ fn push_look_up(text: &mut String, name: &str) -> Result<(), AllocError> {
 }
 
 /// Appends an array with the words of a frozen set, and a look-up in it.
-fn push_frozen(text: &mut String, tables: FrozenTables<'_>, name: &str) -> Result<(), AllocError> {
-    push_frozen_head(text, name, INDEX_WORDS + tables.words.len())?;
-    push_packed_indices(text, tables.index)?;
-    push_words(text, INDEX_WORDS, tables.words)?;
+fn push_frozen(text: &mut String, words: &[u64], name: &str) -> Result<(), AllocError> {
+    push_frozen_head(text, name, words.len())?;
+    push_words(text, words)?;
     push_look_up(text, name)
 }
 
@@ -126,6 +122,6 @@ pub(crate) fn frozen_c_text(
 ) -> Result<String, AllocError> {
     let frozen = frozen_of(set)?;
     let mut text = title_of(set)?;
-    push_frozen(&mut text, frozen.tables(), name)?;
+    push_frozen(&mut text, frozen.as_words(), name)?;
     Ok(text)
 }

@@ -4,10 +4,9 @@ use crate::host::*;
 use crate::support::AllocError;
 use crate::support::prelude::*;
 use crate::ucptab_table::pattern::Number::Decimal;
-use crate::ucptab_table::pattern::{push_named, push_pattern};
-use crate::ucptrie_sets::source::{frozen_of, push_boundaries, push_indices, push_words, title_of};
+use crate::ucptab_table::pattern::push_pattern;
+use crate::ucptrie_sets::source::{frozen_of, push_boundaries, push_words, title_of};
 use bekstaudi::codepointinvlist::CodePointInversionList;
-use bekstaudi::codepointinvlist::FrozenTables;
 
 /// The search in the boundaries.
 const SEARCH: &str = "
@@ -51,70 +50,57 @@ pub(crate) fn rust_text(
     Ok(text)
 }
 
-/// The look-up in the tables.
+/// The look-up in the words.
 const LOOK_UP: &str = "
     ];
 
     /// Returns whether the set contains `c`, by two reads.
     pub fn contains(c: u32) -> bool {
-        let Some(&first) = INDEX.get((c >> 8) as usize) else {
+        if c > 0x10FFFF {
             return false;
-        };
-        let word = WORDS[usize::from(first) + (c >> 6 & 3) as usize];
+        }
+        let block = WORDS[(c >> 10) as usize] >> ((c >> 8 & 3) * 16) & 0xFFFF;
+        let word = WORDS[1088 + block as usize + (c >> 6 & 3) as usize];
         (word >> (c & 63)) & 1 == 1
     }
 }
 ";
 
-/// What precedes the indices. `@` is replaced by the name.
-const INDEX: &str = "\
+/// What precedes the words. `@` is replaced by the name, and `%` by their number.
+const WORDS: &str = "\
 #[allow(dead_code, non_snake_case, clippy::module_inception)]
 pub mod @ {
-    /// For each block of 256 code points, the index of the first of its four words.
-    #[rustfmt::skip]
-    pub static INDEX: [u16; 4352] = [
-";
-
-/// What precedes the words. `%` is replaced by their number.
-const WORDS: &str = "
-    ];
-
-    /// A bit for each code point of a block, 64 in each word.
+    /// The words of the frozen set, for `FrozenView` of `bekstaudi`. The first 1088 have four offsets
+    /// each, one for each block of 256 code points. The others have a bit for each code point of a
+    /// block, 64 in each word.
     #[rustfmt::skip]
     pub static WORDS: [u64; %] = [
 ";
 
-/// Appends what precedes the indices of a frozen set.
-fn push_frozen_head(text: &mut String, name: &str) -> Result<(), AllocError> {
-    push_named(text, INDEX, name)
+/// Appends what precedes so many words of a frozen set.
+fn push_frozen_head(text: &mut String, name: &str, count: usize) -> Result<(), AllocError> {
+    push_pattern(text, WORDS, name, &[Decimal(count)])
 }
 
-/// Appends what is between the indices and so many words of a frozen set.
-fn push_words_head(text: &mut String, count: usize) -> Result<(), AllocError> {
-    push_pattern(text, WORDS, "", &[Decimal(count)])
-}
-
-/// Appends the look-up in the tables of a frozen set.
+/// Appends the look-up in the words of a frozen set.
 fn push_look_up(text: &mut String) -> Result<(), AllocError> {
     text.try_push_str(LOOK_UP)
 }
 
-/// Appends a module with the tables of a frozen set, and a look-up in them.
-fn push_frozen(text: &mut String, tables: FrozenTables<'_>, name: &str) -> Result<(), AllocError> {
-    push_frozen_head(text, name)?;
-    push_indices(text, tables.index)?;
-    push_words_head(text, tables.words.len())?;
-    push_words(text, 0, tables.words)?;
+/// Appends a module with the words of a frozen set, and a look-up in them.
+fn push_frozen(text: &mut String, words: &[u64], name: &str) -> Result<(), AllocError> {
+    push_frozen_head(text, name, words.len())?;
+    push_words(text, words)?;
     push_look_up(text)
 }
 
-/// Returns the frozen set in Rust: a module with its tables, and a look-up in them.
+/// Returns the frozen set in Rust: a module with its words, and a look-up in them.
 pub(crate) fn frozen_rust_text(
     set: &CodePointInversionList<'_>,
     name: &str,
 ) -> Result<String, AllocError> {
     let frozen = frozen_of(set)?;
     let mut text = title_of(set)?;
-    push_frozen(&mut text, frozen.tables(), name)?;
+    push_frozen(&mut text, frozen.as_words(), name)?;
     Ok(text)
 }

@@ -1,5 +1,6 @@
-//! A bit for each code point, in two stages, so that each look-up takes two loads.
+//! Writing the words of a frozen set: the offset of each block, and the words of each.
 
+use crate::icu_frozen_sets::view::{FULL_BLOCK, PLACE_WORDS};
 use crate::icu_zerovec::{CODE_POINT_LIMIT, MemoryError};
 use crate::support::prelude::*;
 
@@ -14,26 +15,14 @@ const TWO_BLOCKS: [u64; 8] = [0, 0, 0, 0, u64::MAX, u64::MAX, u64::MAX, u64::MAX
 /// empty nor full, and a set rarely has more such blocks than ranges.
 const ROOM: usize = 142;
 
-/// The index of the first word of the empty block.
-const EMPTY_BLOCK: u16 = 0;
+/// Four times the offset of the full block, in one word.
+const FOUR_FULL: u64 = 0x0004_0004_0004_0004;
 
-/// The index of the first word of the full block.
-const FULL_BLOCK: u16 = 4;
-
-/// A bit for each code point, in blocks of 256. All empty blocks share their words, and so do all
+/// The words of a frozen set while it is filled. All empty blocks share their words, and so do all
 /// full blocks. Each other block has four words of its own.
 #[derive(Debug)]
-pub(crate) struct CodePointBits {
-    /// For each block, the index of its first word.
-    index: Vec<u16>,
-    /// Each word has the bits of 64 code points, lowest first.
+pub(crate) struct FrozenWords {
     words: Vec<u64>,
-}
-
-/// Returns the index of the full block if `value` is true, and of the empty block otherwise.
-#[inline(always)]
-fn shared_place(value: bool) -> u16 {
-    if value { FULL_BLOCK } else { EMPTY_BLOCK }
 }
 
 /// Returns true if all words of the block equal `word`.
@@ -42,152 +31,84 @@ fn is_all(block: &[u64; 4], word: u64) -> bool {
     block[0] == word && block[1] == word && block[2] == word && block[3] == word
 }
 
-/// Writes four words to `out` from index `at` on.
+/// Writes the offset of block `at`, which is 0 before.
 #[inline(always)]
-fn put_four(out: &mut [u64], at: usize, words: &[u64]) {
-    out[at..at + 4].copy_from_slice(words);
+fn put_place(words: &mut [u64], at: usize, place: u64) {
+    words[at / 4] += place << (16 * (at % 4));
 }
 
-/// Returns the number of consecutive ones in the word from bit `place` on.
-#[inline(always)]
-fn ones_from(word: u64, place: u32) -> u32 {
-    (word >> place).trailing_ones()
-}
-
-/// Makes the blocks from `from` to before `to` full.
+/// Makes the blocks from `from` to before `to` full. They are empty before.
 #[inline]
-fn fill(index: &mut [u16], from: usize, to: usize) {
-    index[from..to].fill(FULL_BLOCK);
+fn fill(words: &mut [u64], from: usize, to: usize) {
+    let mut next = from;
+    while next < to {
+        if next % 4 == 0 && to - next >= 4 {
+            words[next / 4] = FOUR_FULL;
+            next += 4;
+        } else {
+            put_place(words, next, FULL_BLOCK);
+            next += 1;
+        }
+    }
 }
 
-impl CodePointBits {
-    /// Returns tables in which all blocks are empty, with capacity for the blocks of a set of
+impl FrozenWords {
+    /// Returns words in which all blocks are empty, with capacity for the blocks of a set of
     /// `ranges` ranges.
     ///
     /// # Errors
     /// Returns `MemoryError` if an allocation fails.
     #[inline]
-    pub(crate) fn new(ranges: usize) -> Result<CodePointBits, MemoryError> {
-        let index = Vec::from_elem(EMPTY_BLOCK, BLOCKS as usize)?;
-        let room = TWO_BLOCKS.len() + 4 * ranges.min(ROOM);
+    pub(crate) fn new(ranges: usize) -> Result<FrozenWords, MemoryError> {
+        let room = PLACE_WORDS + TWO_BLOCKS.len() + 4 * ranges.min(ROOM);
         let mut words = Vec::with_room(room)?;
+        words.try_resize(PLACE_WORDS, 0)?;
         words.try_extend_from_slice(&TWO_BLOCKS)?;
-        Ok(CodePointBits { index, words })
+        Ok(FrozenWords { words })
     }
 
-    /// Returns the index of each block's first word.
+    /// Returns the words.
     #[inline]
-    pub(crate) fn index(&self) -> &[u16] {
-        &self.index
-    }
-
-    /// Returns the words. Each has the bits of 64 code points, lowest first.
-    #[inline]
-    pub(crate) fn words(&self) -> &[u64] {
-        &self.words
-    }
-
-    /// Returns the bit of the code point `c`, whose block must be in the tables.
-    #[inline(always)]
-    pub(crate) fn contains32(&self, c: u32) -> bool {
-        self.contains_in(c / 64, c % 64)
-    }
-
-    /// Returns the bit of the code point `64 * word + place`. In UTF-8, `place` is the payload of
-    /// the last trail byte, and `word` that of the bytes before it.
-    #[inline(always)]
-    pub(crate) fn contains_in(&self, word: u32, place: u32) -> bool {
-        let first = self.index[(word / 4) as usize];
-        let bits = self.words[first as usize + (word % 4) as usize];
-        (bits >> place) & 1 == 1
-    }
-
-    /// Returns the end of a run of ones that starts with the bit of the code point `c`, or `c` if
-    /// that bit is 0.
-    ///
-    /// The run is cut off at the end of the word, or of the block if the block is full.
-    #[inline(always)]
-    fn past_ones(&self, c: u32) -> u32 {
-        let first = self.index[(c / 256) as usize];
-        if first == FULL_BLOCK {
-            return (c / 256 + 1) * 256;
-        }
-        let bits = self.words[first as usize + (c / 64 % 4) as usize];
-        c + ones_from(bits, c % 64)
-    }
-
-    /// Returns true if the bits of all code points in `start..end` are 1.
-    #[inline]
-    pub(crate) fn contains_range(&self, start: u32, end: u32) -> bool {
-        let mut next = start;
-        while next < end {
-            let past = self.past_ones(next);
-            if past == next {
-                return false;
-            }
-            next = past;
-        }
-        true
-    }
-
-    /// Returns the bits of the first 2,048 code points, 64 in each word. Their blocks must be in
-    /// the tables.
-    #[inline]
-    pub(crate) fn first_words(&self) -> [u64; 32] {
-        let mut words = [0; 32];
-        for k in 0..8 {
-            let first = self.index[k] as usize;
-            put_four(&mut words, 4 * k, &self.words[first..first + 4]);
-        }
+    pub(crate) fn into_words(self) -> Vec<u64> {
+        let FrozenWords { words } = self;
         words
     }
 
-    /// Makes block `at` full if `value` is true, and empty otherwise.
+    /// Makes block `at` full. It is empty before.
     #[inline(always)]
-    fn set_shared(&mut self, at: usize, value: bool) {
-        self.index[at] = shared_place(value);
+    fn set_full(&mut self, at: usize) {
+        put_place(&mut self.words, at, FULL_BLOCK);
     }
 
-    /// Gives block `at` four words of its own.
+    /// Gives block `at` four words of its own. It is empty before.
     #[inline(always)]
     fn set_own(&mut self, at: usize, block: &[u64; 4]) -> Result<(), MemoryError> {
-        self.index[at] = self.words.len() as u16;
+        let place = self.words.len() - PLACE_WORDS;
         self.words.try_extend_from_slice(block)?;
+        put_place(&mut self.words, at, place as u64);
         Ok(())
     }
 
-    /// Sets the words of block `at`. An empty or full block shares its words with the others of its
-    /// kind.
+    /// Sets the words of block `at`, which is empty before. An empty or full block shares its words
+    /// with the others of its kind.
     ///
     /// # Errors
-    /// Returns `MemoryError` if an allocation fails. The tables must not be used after that.
+    /// Returns `MemoryError` if an allocation fails. The words must not be used after that.
     #[inline(always)]
     pub(crate) fn set_block(&mut self, at: usize, block: &[u64; 4]) -> Result<(), MemoryError> {
         if is_all(block, 0) {
-            self.set_shared(at, false);
             return Ok(());
         }
         if is_all(block, u64::MAX) {
-            self.set_shared(at, true);
+            self.set_full(at);
             return Ok(());
         }
         self.set_own(at, block)
     }
 
-    /// Makes the blocks from `from` to before `to` full.
+    /// Makes the blocks from `from` to before `to` full. They are empty before.
     #[inline]
     pub(crate) fn fill_blocks(&mut self, from: usize, to: usize) {
-        fill(&mut self.index, from, to);
-    }
-
-    /// Returns a copy.
-    ///
-    /// # Errors
-    /// Returns `MemoryError` if an allocation fails.
-    #[inline]
-    pub(crate) fn try_clone(&self) -> Result<CodePointBits, MemoryError> {
-        let index = Vec::from_slice(&self.index)?;
-        let words = Vec::from_slice(&self.words)?;
-        Ok(CodePointBits { index, words })
+        fill(&mut self.words, from, to);
     }
 }

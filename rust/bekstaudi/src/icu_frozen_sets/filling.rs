@@ -1,6 +1,6 @@
-//! Filling the bits of a set, range by range.
+//! Filling the words of a frozen set, range by range.
 
-use crate::icu_frozen_sets::bits::{BLOCKS, CodePointBits};
+use crate::icu_frozen_sets::bits::{BLOCKS, FrozenWords};
 use crate::icu_zerovec::MemoryError;
 use crate::support::prelude::*;
 
@@ -13,7 +13,7 @@ use crate::support::prelude::*;
 #[derive(Debug)]
 pub(crate) struct Filling {
     /// The blocks below `at`. All others are empty here.
-    bits: CodePointBits,
+    bits: FrozenWords,
     /// The starts of the ranges in block `at`.
     starts: [u64; 4],
     /// The ends of the ranges in block `at`. An end is the code point after the last one.
@@ -56,7 +56,7 @@ impl Filling {
     #[inline]
     pub(crate) fn new(ranges: usize) -> Result<Filling, MemoryError> {
         Ok(Filling {
-            bits: CodePointBits::new(ranges)?,
+            bits: FrozenWords::new(ranges)?,
             starts: [0; 4],
             ends: [0; 4],
             carried: false,
@@ -115,12 +115,12 @@ impl Filling {
         Ok(())
     }
 
-    /// Returns the bits of all code points.
+    /// Returns the words of the frozen set.
     ///
     /// # Errors
     /// Returns `MemoryError` if an allocation fails.
     #[inline]
-    pub(crate) fn finish(mut self) -> Result<CodePointBits, MemoryError> {
+    pub(crate) fn finish(mut self) -> Result<Vec<u64>, MemoryError> {
         self.move_to(BLOCKS)?;
         let Filling {
             bits,
@@ -129,6 +129,6 @@ impl Filling {
             carried: _,
             at: _,
         } = self;
-        Ok(bits)
+        Ok(bits.into_words())
     }
 }

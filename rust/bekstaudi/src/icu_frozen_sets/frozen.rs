@@ -1,19 +1,22 @@
 //! Frozen sets of code points, for many look-ups: a bit for each code point.
 
 use crate::icu_frozen_sets::ascii::ascii_of;
-use crate::icu_frozen_sets::bits::CodePointBits;
-use crate::icu_frozen_sets::filling::Filling;
+use crate::icu_frozen_sets::view::{
+    FrozenView, PLACE_WORDS, bit_of_parts, contains, place_of, word,
+};
+use crate::icu_frozen_sets::words::frozen_words;
 use crate::icu_invlist::codepointinvlist::CodePointInversionList;
+use crate::icu_utf::places::{number_of_four, place_of_three, place_of_two};
+use crate::icu_zerovec::MemoryError;
 use crate::icu_zerovec::ule::AsULE;
-use crate::icu_zerovec::{CODE_POINT_LIMIT, MemoryError};
 use crate::support::prelude::*;
 
 /// A set of code points for many look-ups, each of which takes two loads and no search (ICU: a
 /// frozen UnicodeSet).
 ///
-/// It stores the set and a bit for each code point, in blocks of 256. The bits take 9 kB, plus 32
-/// bytes for each range up to 142 ranges. If more blocks than that are neither empty nor full, they
-/// take at most 64 bytes for each such block.
+/// It stores the set and, in 64-bit words, a bit for each code point, in blocks of 256. The words
+/// take 9 kB, plus 32 bytes for each range up to 142 ranges. If more blocks than that are neither
+/// empty nor full, they take at most 64 bytes for each such block.
 ///
 /// ```
 /// use bekstaudi::codepointinvlist::{CodePointInversionList, FrozenCodePointSet};
@@ -34,19 +37,32 @@ pub struct FrozenCodePointSet {
     /// The bits of the code points below 0x800, which have at most two bytes in UTF-8: one word for
     /// each lead byte.
     two_bytes: [u64; 32],
-    bits: CodePointBits,
+    /// The block offsets, four in a word, and then the words of the blocks.
+    words: Vec<u64>,
 }
 
-/// A view of the tables of a frozen set. The set contains the code point `c` if bit `c % 64` of the
-/// word at `index[c / 256] + c / 64 % 4` is 1. Bit 0 is the lowest.
-#[derive(Clone, Copy, Debug, PartialEq, Eq, Hash)]
-pub struct FrozenTables<'a> {
-    /// For each of the 4,352 blocks of 256 code points, the index of the first of its four words.
-    /// Blocks may share their words.
-    pub index: &'a [u16],
-    /// Each word has the bits of 64 code points, lowest first. There are at most four words for
-    /// each block, plus eight.
-    pub words: &'a [u64],
+/// Writes four words to `out` from index `at` on.
+#[inline(always)]
+fn put_four(out: &mut [u64; 32], at: usize, table: &[u64], first: usize) {
+    out[at] = word(table, first);
+    out[at + 1] = word(table, first + 1);
+    out[at + 2] = word(table, first + 2);
+    out[at + 3] = word(table, first + 3);
+}
+
+/// Returns the bits of the first 2,048 code points, 64 in each word.
+#[inline]
+fn first_words(table: &[u64]) -> [u64; 32] {
+    let mut words = [0; 32];
+    for k in 0..8 {
+        put_four(
+            &mut words,
+            4 * k,
+            table,
+            PLACE_WORDS + place_of(table, k as u32),
+        );
+    }
+    words
 }
 
 /// Constructors and copies.
@@ -56,18 +72,14 @@ impl FrozenCodePointSet {
     ///
     /// # Errors
     /// Returns `MemoryError` if an allocation fails.
+    #[inline]
     pub fn try_freeze(set: &CodePointInversionList<'_>) -> Result<FrozenCodePointSet, MemoryError> {
-        let ranges = set.iter_ranges();
-        let mut filling = Filling::new(ranges.len())?;
-        for range in ranges {
-            filling.add(*range.start(), *range.end() + 1)?;
-        }
-        let bits = filling.finish()?;
+        let words = frozen_words(set.as_inversion_list())?;
         Ok(FrozenCodePointSet {
             set: set.try_clone()?,
             ascii: ascii_of(set),
-            two_bytes: bits.first_words(),
-            bits,
+            two_bytes: first_words(&words),
+            words,
         })
     }
 
@@ -81,7 +93,7 @@ impl FrozenCodePointSet {
             set: self.set.try_clone()?,
             ascii: self.ascii,
             two_bytes: self.two_bytes,
-            bits: self.bits.try_clone()?,
+            words: Vec::from_slice(&self.words)?,
         })
     }
 }
@@ -95,30 +107,32 @@ impl FrozenCodePointSet {
         &self.set
     }
 
-    /// Returns a view of the bits of all code points as they are stored, for example to write them
-    /// to a file.
+    /// Returns the words of the frozen set, for example to write them to a file. The first 1,088
+    /// have the offsets of the 4,352 blocks of 256 code points, four in a word with the first one in
+    /// the lowest bits. Each of the others has the bits of 64 code points, lowest first. A block's
+    /// offset says at which of them its four words start.
+    ///
+    /// [`FrozenView::new`] makes them a frozen set again, without a copy.
     ///
     /// ```
-    /// use bekstaudi::codepointinvlist::{FrozenCodePointSet, FrozenTables};
+    /// use bekstaudi::codepointinvlist::{FrozenCodePointSet, FrozenView};
     ///
     /// let letters = FrozenCodePointSet::freeze(&('A'..='Z').collect());
-    /// let FrozenTables { index, words } = letters.tables();
-    /// let contains = |c: usize| words[usize::from(index[c / 256]) + c / 64 % 4] >> (c % 64) & 1 == 1;
-    /// assert!(contains(0x41) && !contains(0x61));
+    /// let words = letters.as_words();
+    /// let view = FrozenView::new(words);
+    /// assert!(view.contains('A') && !view.contains('a'));
     /// ```
     #[must_use]
     #[inline]
-    pub fn tables(&self) -> FrozenTables<'_> {
-        FrozenTables {
-            index: self.bits.index(),
-            words: self.bits.words(),
-        }
+    pub fn as_words(&self) -> &[u64] {
+        &self.words
     }
 
-    /// Returns the bits of all code points.
+    /// Returns a view of the words of the frozen set.
     #[inline(always)]
-    pub(crate) fn bits(&self) -> &CodePointBits {
-        &self.bits
+    #[must_use]
+    pub fn as_view(&self) -> FrozenView<'_> {
+        FrozenView::new(&self.words)
     }
 
     /// Returns true if the set contains the code point `c`. Returns false for any number above
@@ -126,7 +140,10 @@ impl FrozenCodePointSet {
     #[inline(always)]
     #[must_use]
     pub fn contains32(&self, c: u32) -> bool {
-        c < CODE_POINT_LIMIT && self.bits.contains32(c)
+        if c < 0x800 {
+            return self.contains_short(c / 64, c % 64);
+        }
+        contains(&self.words, c)
     }
 
     /// Returns true if the set contains the character `c`.
@@ -148,30 +165,21 @@ impl FrozenCodePointSet {
     }
 
     /// Returns whether the set contains the first character of the bytes, and its length in bytes.
-    /// The payload of the lead and trail bytes is the position of the character's bit, so the
-    /// character is not decoded into a `char`.
     #[inline(always)]
     fn ask_first(&self, bytes: &[u8]) -> (bool, usize) {
-        let lead = u32::from(bytes[0]);
+        let lead = bytes[0];
         if lead < 0x80 {
             return (self.ascii[lead as usize], 1);
         }
         if lead < 0xE0 {
-            let second = u32::from(bytes[1]) % 64;
-            return (self.contains_short(lead % 32, second), 2);
+            let (upper, lower) = place_of_two(bytes);
+            return (self.contains_short(upper, lower), 2);
         }
-        // The last byte first: one bounds check is enough for all of them.
         if lead < 0xF0 {
-            let third = u32::from(bytes[2]) % 64;
-            let second = u32::from(bytes[1]) % 64;
-            let word = lead % 16 * 64 + second;
-            return (self.bits.contains_in(word, third), 3);
+            let (upper, lower) = place_of_three(bytes);
+            return (bit_of_parts(&self.words, upper, lower), 3);
         }
-        let fourth = u32::from(bytes[3]) % 64;
-        let third = u32::from(bytes[2]) % 64;
-        let second = u32::from(bytes[1]) % 64;
-        let word = lead % 8 * 4096 + second * 64 + third;
-        (self.bits.contains_in(word, fourth), 4)
+        (self.contains32(number_of_four(bytes)), 4)
     }
 
     /// Returns whether the set contains the character that starts at offset `start`, and the offset

@@ -13,8 +13,8 @@
 //! - `same_length`: tests the characters of a short span
 //! - `two_byte`, `ascii_blocks`, `three_byte`: test those of a long span, by the length of their bytes
 //! - `ascii`: which ASCII characters a set contains
-//! - `filling`: filling the bits of a set, range by range
-//! - `bits`: a bit for each code point, in two stages
+//! - `words`: [`frozen_words`](words::frozen_words), the words of a frozen set from boundaries
+//! - `filling`: fills these words, range by range; `bits`: writes the offset and the words of a block
 
 use crate::support::prelude::*;
 mod ascii;
@@ -33,3 +33,4 @@ pub mod text_sets;
 mod three_byte;
 mod two_byte;
 pub mod view;
+pub mod words;

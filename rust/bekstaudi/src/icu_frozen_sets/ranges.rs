@@ -1,6 +1,7 @@
 //! Whether a frozen set contains a range.
 
 use crate::icu_frozen_sets::frozen::FrozenCodePointSet;
+use crate::icu_frozen_sets::view::{FULL_BLOCK, FrozenView, PLACE_WORDS, place_of, word};
 use crate::icu_invlist::codepointinvlist::RangeOf;
 use crate::icu_zerovec::CODE_POINT_LIMIT;
 use crate::support::prelude::*;
@@ -22,6 +23,70 @@ fn long_range(start: u32, end: u32) -> Option<RangeInclusive<char>> {
     ))
 }
 
+/// Returns the number of consecutive ones in the word from bit `place` on.
+#[inline(always)]
+fn ones_from(word: u64, place: u32) -> u32 {
+    (word >> place).trailing_ones()
+}
+
+/// Returns true if the block at this offset is full and has the offset that blocks that are full
+/// have.
+#[inline(always)]
+fn is_full(table: &[u64], place: usize) -> bool {
+    if place as u64 != FULL_BLOCK {
+        return false;
+    }
+    let first = word(table, PLACE_WORDS + place);
+    let second = word(table, PLACE_WORDS + place + 1);
+    let third = word(table, PLACE_WORDS + place + 2);
+    let fourth = word(table, PLACE_WORDS + place + 3);
+    first == u64::MAX && second == u64::MAX && third == u64::MAX && fourth == u64::MAX
+}
+
+/// Returns the end of a run of ones that starts with the bit of the code point `c`, or `c` if that
+/// bit is 0. The run is cut off at the end of the word, or of the block if the block is full.
+#[inline(always)]
+fn past_ones(table: &[u64], c: u32) -> u32 {
+    let place = place_of(table, c / 256);
+    if is_full(table, place) {
+        return (c / 256 + 1) * 256;
+    }
+    let bits = word(table, PLACE_WORDS + place + (c / 64 % 4) as usize);
+    c + ones_from(bits, c % 64)
+}
+
+/// Returns true if the bits of all code points in `start..end` are 1.
+#[inline]
+fn contains_all(table: &[u64], start: u32, end: u32) -> bool {
+    let mut next = start;
+    while next < end {
+        let past = past_ones(table, next);
+        if past == next {
+            return false;
+        }
+        next = past;
+    }
+    true
+}
+
+/// Ranges in a view of a frozen set.
+impl<'a> FrozenView<'a> {
+    /// Returns true if `range` is not empty and the set contains all code points in it, including
+    /// any surrogates between its start and its end.
+    ///
+    /// This tests 64 bits at a time, and 256 in a full block.
+    #[must_use]
+    #[inline]
+    pub fn contains_range<R: core::ops::RangeBounds<char>>(self, range: R) -> bool {
+        let (start, end) = range.deconstruct();
+        let end = end.min(CODE_POINT_LIMIT);
+        if start >= end {
+            return false;
+        }
+        contains_all(self.words(), start, end)
+    }
+}
+
 /// Ranges in a frozen set.
 impl FrozenCodePointSet {
     /// Returns true if `range` is not empty and the set contains all code points in it, including
@@ -39,7 +104,7 @@ impl FrozenCodePointSet {
         }
         match long_range(start, end) {
             Some(range) => self.as_set().contains_range(range),
-            None => self.bits().contains_range(start, end),
+            None => contains_all(self.as_words(), start, end),
         }
     }
 }

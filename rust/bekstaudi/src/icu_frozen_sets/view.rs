@@ -8,6 +8,9 @@ use crate::support::prelude::*;
 /// How many words the block offsets take.
 pub(crate) const PLACE_WORDS: usize = 1088;
 
+/// The offset of the full block in the words that are made here. That of the empty one is 0.
+pub(crate) const FULL_BLOCK: u64 = 4;
+
 /// Returns the word at this index, or 0 if there is none.
 #[inline(always)]
 pub(crate) fn word(table: &[u64], place: usize) -> u64 {
@@ -21,17 +24,27 @@ pub(crate) fn place_of(table: &[u64], block: u32) -> usize {
     ((four >> (16 * (block % 4))) % 0x1_0000) as usize
 }
 
-/// Returns the bit of the code point.
+/// Returns the bit of the code point `64 * upper + lower`. One test says that all block offsets are
+/// there.
 #[inline(always)]
-fn bit_of(table: &[u64], c: u32) -> bool {
-    let place = PLACE_WORDS + place_of(table, c / 256) + (c / 64 % 4) as usize;
-    (word(table, place) >> (c % 64)) & 1 == 1
+pub(crate) fn bit_of_parts(table: &[u64], upper: u32, lower: u32) -> bool {
+    if table.len() < PLACE_WORDS {
+        return false;
+    }
+    let (places, blocks) = table.split_at(PLACE_WORDS);
+    let four = places[(upper / 16) as usize];
+    let place = (four >> (16 * (upper / 4 % 4))) % 0x1_0000;
+    let at = place as usize + (upper % 4) as usize;
+    if at >= blocks.len() {
+        return false;
+    }
+    (blocks[at] >> lower) & 1 == 1
 }
 
 /// Returns whether the frozen set contains the code point.
 #[inline(always)]
 pub(crate) fn contains(table: &[u64], c: u32) -> bool {
-    c < CODE_POINT_LIMIT && bit_of(table, c)
+    c < CODE_POINT_LIMIT && bit_of_parts(table, c / 64, c % 64)
 }
 
 /// A frozen set in 64-bit words, borrowed, for example from a file. It is `Copy`, like `&[u64]`.
@@ -41,6 +54,18 @@ pub(crate) fn contains(table: &[u64], c: u32) -> bool {
 /// points, lowest first. A block's offset says at which of these words its four words start.
 ///
 /// Any words are accepted. Words that are missing count as 0, and words after the set are ignored.
+/// [`FrozenCodePointSet::as_words`](crate::icu_frozen_sets::frozen::FrozenCodePointSet::as_words) returns the words of
+/// a set.
+///
+/// ```
+/// use bekstaudi::codepointinvlist::{FrozenCodePointSet, FrozenView};
+///
+/// let letters = FrozenCodePointSet::freeze(&('a'..='z').collect());
+/// let words: Vec<u64> = letters.as_words().to_vec();
+/// let view = FrozenView::new(&words);
+/// assert_eq!(view.span_utf8(b"ab\xFF", true), 2);
+/// assert_eq!(view.span_utf16(&[0x61, 0xD800], true), 1);
+/// ```
 #[derive(Clone, Copy, Debug)]
 pub struct FrozenView<'a> {
     words: &'a [u64],
@@ -53,6 +78,12 @@ impl<'a> FrozenView<'a> {
     #[must_use]
     pub fn new(words: &'a [u64]) -> FrozenView<'a> {
         FrozenView { words }
+    }
+
+    /// Returns the words of the view.
+    #[inline(always)]
+    pub(crate) fn words(self) -> &'a [u64] {
+        self.words
     }
 
     /// Returns true if the set contains the code point `c`. Returns false for any number above

@@ -1,12 +1,12 @@
-use Rattle.icu_frozen_sets.specs.CodePointBits.{AreTablesOf}
+use Rattle.std.proofs.Common.{◌≡◌}
+use Rattle.icu_frozen_sets.specs.FrozenWords.{IsFrozenOf}
 use Rattle.ucptrie_sets.proofs.rust_source.frozen_rust_text.Goals as goal
 
 pub returns : goal.returns
 returns c =
-    let held : AreTablesOf c.args.set.now (record { index = c.tables.result.index.now; words = c.tables.result.words.now }) =
-    rw c.in_ok-frozen.ensures at c.tables.ensures in
+    let held : IsFrozenOf c.args.set.now c.as_words.result.now = rw c.in_ok-frozen.ensures at c.as_words.ensures in
     record {
-      tables = record { index = c.tables.result.index.now; words = c.tables.result.words.now };
+      words = c.as_words.result.now;
       held = held;
       whole = simp c.in_ok-text.ensures at c.in_ok-push_frozen.ensures;
     }

@@ -1,5 +1,4 @@
-use Rattle.std.proofs.Common.{◌≡◌, ◌∙◌, ℕ, ◌+◌, ◌-◌, ◌^◌, ◌%◌, ap, arith}
-use Rattle.icu_frozen_sets.specs.CodePointBits.{BitTables}
+use Rattle.std.proofs.Common.{◌≡◌, ◌∙◌, ℕ, ◌+◌, ◌-◌, ◌^◌, ◌%◌, ap, arith, List}
 use Rattle.icu_frozen_sets.specs.Inside.Filling.{bits_of, filled}
 use Rattle.icu_frozen_sets.proofs.FillingLemmas.{added_far}
 use Rattle.icu_frozen_sets.proofs.MarkLemmas.{bits_below, carried_below, carried_bits, carried_closed, far_fits, far_number}
@@ -25,7 +24,7 @@ returns-clause-bits c = λ k h.
     let same : bits_of m.starts c.mark-2.new.words m.carried ≡ last =
     rw (b.carried) (carried_bits m.starts c.mark-2.new.words c.args.end b.starts (omega (arith, c.mark-2.ensures, b.ends))) in
     let block = bits_of s.starts s.ends s.carried in
-    ap (λ (n : ℕ). filled m.bits n m.at k) same ∙ (ap (λ (t : BitTables). filled t last m.at k) b.bits
+    ap (λ (n : ℕ). filled m.bits n m.at k) same ∙ (ap (λ (t : List ℕ). filled t last m.at k) b.bits
     ∙ (ap (λ (at : ℕ). filled c.fill_blocks.new.self last at k) b.at
     ∙ added_far s.bits c.set_block.new.self c.fill_blocks.new.self block s.at c.args.start c.args.end c.difference-block.result
     r.filling r.here r.later (bits_below s.starts s.ends s.carried s.at c.args.start r.closed r.below r.here)

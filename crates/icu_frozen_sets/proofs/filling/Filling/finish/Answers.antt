@@ -4,7 +4,7 @@ use Rattle.icu_frozen_sets.proofs.FillingLemmas.{filled_else}
 use Rattle.icu_frozen_sets.proofs.filling.Filling.finish.Goals as goal
 
 pub returns-clause-bits : goal.returns-clause-bits
-returns-clause-bits c = λ k h.
+returns-clause-bits c = rw (c.into_words.ensures) (λ k h.
     let m = c.move_to.new.self in
     sym (filled_else m.bits (bits_of m.starts m.ends m.carried) 4352 k (λ q. omega (arith, q, h)))
-    ∙ c.in_ok-move_to.ensures.same k h
+    ∙ c.in_ok-move_to.ensures.same k h)

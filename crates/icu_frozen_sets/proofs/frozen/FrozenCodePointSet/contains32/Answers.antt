@@ -1,9 +1,16 @@
-use Rattle.std.proofs.Common.{◌∙◌, sym}
-use Rattle.std.proofs.lemmas.Bool.{le-ltb}
-use Rattle.icu_invlist.proofs.CallerLemmas.{not_past_limit}
+use Rattle.std.proofs.Common.{◌∙◌, ℕ, ap, arith}
+use Rattle.std.proofs.lemmas.Bool.{and_left, le-ltb}
+use Rattle.icu_invlist.specs.InversionList.{holds}
+use Rattle.icu_frozen_sets.proofs.FrozenWordLemmas.{held_in}
 use Rattle.icu_frozen_sets.proofs.frozen.FrozenCodePointSet.contains32.Goals as goal
 
-pub returns-else-c-lt-CODE_POINT_LIMIT-clause-held : goal.returns-else-c-lt-CODE_POINT_LIMIT-clause-held
-returns-else-c-lt-CODE_POINT_LIMIT-clause-held c =
-    le-ltb c.args.c 0x110000 c.if-c-lt-CODE_POINT_LIMIT.false
-    ∙ sym (rw (← c.self.view_is) (not_past_limit c.self.inside.set c.args.c c.self.invariant.valid c.if-c-lt-CODE_POINT_LIMIT.false))
+pub returns-then-c-lt2048-clause-held : goal.returns-then-c-lt2048-clause-held
+returns-then-c-lt2048-clause-held c = c.contains_short.ensures ∙ ap (λ (n : ℕ). holds c.args.self.now n) (omega arith)
+
+pub returns-clause-held : goal.returns-clause-held
+returns-clause-held c =
+    let s = c.self.inside in
+    rw (← c.self.view_is) ((rw (c.deref.ensures.value) at c.contains.ensures) ∙ held_in s.set s.words.items c.self.invariant.frozen c.args.c)
+
+pub returns-clause-far : goal.returns-clause-far
+returns-clause-far c = λ l. c.contains.ensures ∙ and_left _ _ (le-ltb c.args.c 0x110000 l)

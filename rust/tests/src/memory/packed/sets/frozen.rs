@@ -1,8 +1,9 @@
 //! Frozen sets: that they are made and return what the set returns, and failed allocations.
 
 use super::points::{expect_listed, set_of};
-use crate::icu_frozen_sets::frozen::{FrozenCodePointSet, FrozenTables};
+use crate::icu_frozen_sets::frozen::FrozenCodePointSet;
 use crate::icu_frozen_sets::spans::Spans;
+use crate::icu_frozen_sets::view::FrozenView;
 use crate::icu_invlist::codepointinvlist::CodePointInversionList;
 use crate::memory::packed::support::{expect, expect_same, tell};
 use crate::refusals::{each_refused, none_asked, say};
@@ -306,38 +307,165 @@ fn try_clone_of_frozen_refused() {
     });
 }
 
-/// Returns true if all entries of the index equal `place`.
-fn are_all(index: &[u16], place: u16) -> bool {
-    for found in index {
-        if *found != place {
-            return false;
-        }
-    }
-    true
+/// Returns the block offset at index `block` of the words of a frozen set.
+fn place_of(words: &[u64], block: usize) -> usize {
+    (words[block / 4] >> (16 * (block % 4)) & 0xFFFF) as usize
 }
 
 /// The letters are bits 1 to 26 of both halves of the second word of the first block. All later
 /// blocks are empty.
 ///
-/// Calls: `FrozenCodePointSet::tables`.
+/// Calls: `FrozenCodePointSet::as_words`, `FrozenCodePointSet::as_view`.
 #[test]
-fn frozen_tables_quiet() {
+fn frozen_words_quiet() {
     none_asked(|| {
         let Some(frozen) = frozen_of(&LETTERS) else {
             return;
         };
         say("call");
-        let FrozenTables { index, words } = frozen.tables();
-        let letters = words.get(usize::from(index[0]) + 1).copied();
+        let words = frozen.as_words();
+        let letters = words.get(1088 + place_of(words, 0) + 1).copied();
         let empty = [
-            words[usize::from(index[1])],
-            words[usize::from(index[4351])],
+            words[1088 + place_of(words, 1)],
+            words[1088 + place_of(words, 4351)],
         ];
-        let shared = are_all(&index[1..], index[1]);
+        let view = frozen.as_view();
+        let held = [view.contains('A'), view.contains('1')];
         say("done");
-        expect_same(index.len(), 4352, "blocks");
+        expect_same(words.len(), 1088 + 12, "words");
         expect_same(letters, Some(0x07FF_FFFE_07FF_FFFE), "the word");
         expect_same(empty, [0, 0], "words of empty blocks");
-        expect(shared, "empty blocks share their words");
+        expect_same(held, [true, false], "A, and 1");
+    });
+}
+
+/// Bytes, and the offsets at which their last spans inside and outside the ASCII letters start. An
+/// ill-formed sequence ends both.
+static BYTES_BACK: [(&[u8], [usize; 2]); 7] = [
+    (b"", [0, 0]),
+    (b"1ab", [1, 3]),
+    (b"ab1", [3, 2]),
+    (b"a\xFFbc", [2, 4]),
+    (b"ab\xFF", [3, 3]),
+    (b"\xA9\xC3\xA9", [3, 1]),
+    (b"1\xED\xA0\x80", [4, 4]),
+];
+
+/// Units, and how many are in their spans inside and outside a block of Han and U+10000. An unpaired
+/// surrogate is a code point of its own.
+static UNITS: [(&[u16], [usize; 2]); 6] = [
+    (&[], [0, 0]),
+    (&[0x6F22, 0x5B57, 0x61], [2, 0]),
+    (&[0x6F22, 0xD800, 0xDC00, 0x61], [3, 0]),
+    (&[0xD800, 0xDC01, 0x6F22], [0, 2]),
+    (&[0xD800, 0x6F22], [0, 1]),
+    (&[0x61, 0xDC00, 0xD800], [0, 3]),
+];
+
+/// The same spans by a frozen set and by a view of its words.
+///
+/// Calls: `FrozenCodePointSet::span_utf8`, `FrozenCodePointSet::span_back_utf8`,
+/// `FrozenCodePointSet::span_utf16`, `FrozenView::new`, `FrozenView::span_utf8`,
+/// `FrozenView::span_back_utf8`, `FrozenView::span_utf16`.
+#[test]
+fn spans_of_bytes_quiet() {
+    none_asked(|| {
+        let Some(letters) = frozen_of(&LETTERS) else {
+            return;
+        };
+        let Some(others) = frozen_of(&[0x4E00, 0xA000, 0x1_0000, 0x1_0001]) else {
+            return;
+        };
+        say("call");
+        let view = FrozenView::new(letters.as_words());
+        for (bytes, want) in BYTES.iter() {
+            let found = [view.span_utf8(bytes, true), view.span_utf8(bytes, false)];
+            expect_same(found, *want, "held, and not held");
+            let found = [
+                letters.span_utf8(bytes, true),
+                letters.span_utf8(bytes, false),
+            ];
+            expect_same(found, *want, "of the set");
+        }
+        for (bytes, want) in BYTES_BACK.iter() {
+            let found = [
+                view.span_back_utf8(bytes, true),
+                view.span_back_utf8(bytes, false),
+            ];
+            expect_same(found, *want, "from the end");
+            let found = [
+                letters.span_back_utf8(bytes, true),
+                letters.span_back_utf8(bytes, false),
+            ];
+            expect_same(found, *want, "from the end, of the set");
+        }
+        let view = FrozenView::new(others.as_words());
+        for (units, want) in UNITS.iter() {
+            let found = [view.span_utf16(units, true), view.span_utf16(units, false)];
+            expect_same(found, *want, "of units");
+            let found = [
+                others.span_utf16(units, true),
+                others.span_utf16(units, false),
+            ];
+            expect_same(found, *want, "of units, of the set");
+        }
+        say("done");
+    });
+}
+
+/// A view returns what its set returns. It accepts any words.
+///
+/// Calls: `FrozenView::new`, `FrozenView::contains`, `FrozenView::contains32`, `FrozenView::span`,
+/// `FrozenView::span_back`, `FrozenView::contains_range`.
+#[test]
+fn views_quiet() {
+    none_asked(|| {
+        for (ends, rows) in SPANS.iter() {
+            let Some(frozen) = frozen_of(ends) else {
+                return;
+            };
+            say("call");
+            let view = FrozenView::new(frozen.as_words());
+            for (text, want) in rows.iter() {
+                let found = [
+                    view.span(text, true),
+                    view.span(text, false),
+                    view.span_back(text, true),
+                    view.span_back(text, false),
+                ];
+                expect_same(found, *want, text);
+            }
+            let held = [
+                view.contains32(ends[0]),
+                view.contains32(ends[0] - 1),
+                view.contains32(ends[1]),
+                view.contains32(0x11_0000),
+            ];
+            say("done");
+            expect_same(held, [true, false, false, false], "around the first range");
+        }
+        let Some(frozen) = frozen_of(&RUNS) else {
+            return;
+        };
+        say("call");
+        let view = FrozenView::new(frozen.as_words());
+        let ranges = [
+            view.contains_range('\u{3F0}'..'\u{E000}'),
+            view.contains_range('\u{43F}'..='\u{541}'),
+            view.contains_range('\u{10000}'..),
+            view.contains_range('\u{3EF}'..='\u{541}'),
+            view.contains_range('B'..'B'),
+            view.contains_range('\u{FFFF}'..),
+        ];
+        let none = FrozenView::new(&[]);
+        let cut = FrozenView::new(&frozen.as_words()[..1]);
+        let of_few = [
+            none.contains('A'),
+            none.contains_range('A'..='B'),
+            cut.contains('\u{10FFFF}'),
+        ];
+        say("done");
+        expect_same(ranges, [true, true, true, false, false, false], "ranges");
+        expect_same(of_few, [false; 3], "of missing words");
     });
 }

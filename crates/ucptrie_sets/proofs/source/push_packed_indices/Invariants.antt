@@ -1,9 +1,0 @@
-use Rattle.std.proofs.Common.{◌≡◌, ◌++◌, drop, string_bytes}
-use Rattle.ucptrie_sets.specs.FrozenWords.{packed}
-use Rattle.ucptrie_sets.specs.SetSource.{cells_from}
-use Rattle.ucptrie_sets.proofs.source.push_packed_indices.Given as goal
-
--- the text so far and the words that are left give the whole
-abbrev pub invariant-loop-i : goal.invariant-loop-i
-invariant-loop-i l = string_bytes l.text ++ cells_from l.i (drop l.i (packed 1088 l.indices))
-    ≡ string_bytes l.initial.text ++ cells_from 0 (packed 1088 l.indices)
