@@ -54,43 +54,36 @@ uint32_t bks_version(void);
 
 /* ---- Types ----------------------------------------------------------------------------------- */
 
-/** What bks_trie_open returns. If there are several faults, it reports the first in this order. */
-enum bks_status {
+/** Why a function fails. bks_trie_open returns BKS_OK or one of the positive numbers: the first that applies, in this
+ * order. The others return a negative number instead of a count; their output buffers are then unchanged. */
+enum bks_error {
     BKS_OK = 0,
-    BKS_SHORT = 1,           /**< fewer than the 16 bytes of a header */
-    BKS_SIGNATURE = 2,       /**< the signature is not that of a trie */
-    BKS_SWAPPED = 3,         /**< a trie of a big-endian machine */
-    BKS_UNKNOWN_TYPE = 4,    /**< the type is neither fast nor small */
-    BKS_UNKNOWN_WIDTH = 5,   /**< the values have none of the widths 8, 16 and 32 bits */
-    BKS_RESERVED = 6,        /**< a reserved bit is not 0 */
-    BKS_OTHER_WIDTH = 7,     /**< thrown by bekstaudi.hpp. Not returned: bks_trie_open accepts any
-                                width */
-    BKS_CUT_OFF = 8,         /**< fewer bytes than the index and the data take */
-    BKS_CELL = 9,            /**< reserved, not returned: a cell that is not a value */
-    BKS_EMPTY_DATA = 10,     /**< the data is empty */
-    BKS_NULL_VALUE = 11,     /**< reserved, not returned: the null value is not a value */
-    BKS_SHORT_INDEX = 12,    /**< fewer index cells than blocks below the fast limit */
-    BKS_SHORT_DATA = 13,     /**< a block below the fast limit ends after the data */
-    BKS_UNKNOWN_NUMBER = 14  /**< reserved, not returned: for tries in other forms */
-};
+    BKS_SHORT = 1,            /**< fewer than the 16 bytes of a header */
+    BKS_SIGNATURE = 2,        /**< the signature is not that of a trie */
+    BKS_SWAPPED = 3,          /**< a trie of a big-endian machine */
+    BKS_UNKNOWN_TYPE = 4,     /**< the type is neither fast nor small */
+    BKS_UNKNOWN_WIDTH = 5,    /**< the values have none of the widths 8, 16 and 32 bits */
+    BKS_RESERVED = 6,         /**< a reserved bit is not 0 */
+    BKS_OTHER_WIDTH = 7,      /**< only in exceptions of bekstaudi.hpp: bks_trie_open accepts any width */
+    BKS_CUT_OFF = 8,          /**< fewer bytes than the index and the data take */
+    BKS_EMPTY_DATA = 10,      /**< the data is empty */
+    BKS_SHORT_INDEX = 12,     /**< fewer index cells than blocks below the fast limit */
+    BKS_SHORT_DATA = 13,      /**< a block below the fast limit ends after the data */
 
-/** What a function returns instead of a count. Its output buffer is then unchanged. */
-enum bks_refusal {
-    BKS_NO_MEMORY = -1,  /**< an allocation failed */
-    BKS_NO_TRIE = -2,    /**< the trie was not made by bks_trie_open, or the units are not a trie */
-    BKS_NO_TEXT = -3,    /**< the text is not UTF-8; of spans and of the keys at its start: not at
-                            its start. To find where, call bks_set_span(NULL, 0, text, size, false):
-                            it returns the offset of the first ill-formed sequence, or BKS_NO_TEXT
-                            if that is 0 */
-    BKS_NO_KEY = -4,     /**< no key of a unit trie is a prefix of the text */
-    BKS_NO_FORM = -5,    /**< the type or the width does not exist */
-    BKS_WIDE_VALUE = -6, /**< a value has more bits than the width */
-    BKS_TOO_LARGE = -7,  /**< the trie would be too large, or a listing has 2^63 entries or bytes */
-    BKS_NO_ENTRIES = -8, /**< the numbers of keys and of values differ, or the keys need more units
-                            than there are */
-    BKS_LONG_KEY = -9,   /**< a key has more than 65,535 units */
-    BKS_SAME_KEY = -10,  /**< two entries have the same key */
-    BKS_NO_SET = -11     /**< bks_set_test returns false for a list of boundaries */
+    BKS_NO_MEMORY = -1,       /**< an allocation failed */
+    BKS_INVALID_TRIE = -2,    /**< the trie was not made by bks_trie_open, or the units are not a trie */
+    BKS_INVALID_UTF8 = -3,    /**< the text is not UTF-8; of spans and of the keys at its start: not at its start. To
+                                   find where, call bks_set_span(NULL, 0, text, size, false): it returns the offset
+                                   of the first ill-formed sequence, or BKS_INVALID_UTF8 if that is 0 */
+    BKS_NO_KEY = -4,          /**< no key of a unit trie is a prefix of the text */
+    BKS_INVALID_FORMAT = -5,  /**< the type or the width does not exist */
+    BKS_WIDE_VALUE = -6,      /**< a value has more bits than the width */
+    BKS_TOO_LARGE = -7,       /**< the trie would be too large, or a listing has 2^63 entries or bytes */
+    BKS_INVALID_ENTRIES = -8, /**< the numbers of keys and of values differ, or the keys need more units than there
+                                   are */
+    BKS_LONG_KEY = -9,        /**< a key has more than 65,535 units */
+    BKS_SAME_KEY = -10,       /**< two entries have the same key */
+    BKS_INVALID_SET = -11     /**< bks_set_test returns false for a list of boundaries */
 };
 
 /** A trie, passed by value: copy it and drop it as you like. Its cells are in the bytes that it was
@@ -189,7 +182,7 @@ typedef struct bks_word {
  *     the trie is used
  * @param size how many bytes there are
  * @param trie receives the trie
- * @return BKS_OK, or the first fault in the order of enum bks_status
+ * @return BKS_OK, or the first fault in the order of enum bks_error
  *
  * ICU: ucptrie_openFromBinary. */
 uint32_t bks_trie_open(const void *bytes, size_t size, bks_trie *trie);
@@ -279,7 +272,7 @@ size_t bks_trie32_get_many(const bks_trie *trie, const uint32_t *points, size_t 
  * @param size how many bytes the text has
  * @param values receives the values
  * @param room how many values fit
- * @return how many characters there are, never more than `size`; or BKS_NO_TEXT if the text is not
+ * @return how many characters there are, never more than `size`; or BKS_INVALID_UTF8 if the text is not
  *     UTF-8, and `values` is then unchanged */
 int64_t bks_trie8_get_utf8(const bks_trie *trie, const char *text, size_t size, uint8_t *values,
                            size_t room);
@@ -294,7 +287,7 @@ int64_t bks_trie8_get_utf8(const bks_trie *trie, const char *text, size_t size, 
  * @param size how many bytes the text has
  * @param values receives the values
  * @param room how many values fit
- * @return how many characters there are, never more than `size`; or BKS_NO_TEXT if the text is not
+ * @return how many characters there are, never more than `size`; or BKS_INVALID_UTF8 if the text is not
  *     UTF-8, and `values` is then unchanged */
 int64_t bks_trie16_get_utf8(const bks_trie *trie, const char *text, size_t size, uint16_t *values,
                             size_t room);
@@ -309,7 +302,7 @@ int64_t bks_trie16_get_utf8(const bks_trie *trie, const char *text, size_t size,
  * @param size how many bytes the text has
  * @param values receives the values
  * @param room how many values fit
- * @return how many characters there are, never more than `size`; or BKS_NO_TEXT if the text is not
+ * @return how many characters there are, never more than `size`; or BKS_INVALID_UTF8 if the text is not
  *     UTF-8, and `values` is then unchanged */
 int64_t bks_trie32_get_utf8(const bks_trie *trie, const char *text, size_t size, uint32_t *values,
                             size_t room);
@@ -480,7 +473,7 @@ size_t bks_trie_ranges(const bks_trie *trie, uint32_t c, bks_range *ranges, size
  * @param value the value
  * @param ends receives the boundaries
  * @param room how many boundaries fit
- * @return how many boundaries there are, also if more than `room`; or BKS_NO_MEMORY or BKS_NO_TRIE,
+ * @return how many boundaries there are, also if more than `room`; or BKS_NO_MEMORY or BKS_INVALID_TRIE,
  *     and `ends` is then unchanged */
 int64_t bks_trie_set(const bks_trie *trie, uint32_t value, uint32_t *ends, size_t room);
 
@@ -493,7 +486,7 @@ int64_t bks_trie_set(const bks_trie *trie, uint32_t value, uint32_t *ends, size_
  * The bytes are in `bytes` if all of them fit; otherwise `bytes` is unchanged. So pass
  * bks_trie_bound bytes, or call it first with room 0, or again with more.
  *
- * If no trie is built, it returns the first of these that applies: BKS_NO_FORM; BKS_WIDE_VALUE, for
+ * If no trie is built, it returns the first of these that applies: BKS_INVALID_FORMAT; BKS_WIDE_VALUE, for
  * the value of any row, the default or the error value; BKS_TOO_LARGE; BKS_NO_MEMORY, which may
  * come before BKS_TOO_LARGE. With up to 256 rows, no trie has too many blocks.
  *
@@ -505,7 +498,7 @@ int64_t bks_trie_set(const bks_trie *trie, uint32_t value, uint32_t *ends, size_
  * @param width how many bytes a value takes: 1, 2 or 4
  * @param bytes receives the trie
  * @param room how many bytes fit
- * @return how many bytes the trie takes, also if more than `room`; or one of enum bks_refusal
+ * @return how many bytes the trie takes, also if more than `room`; or one of enum bks_error
  *
  * ICU: umutablecptrie_setRange for each row, umutablecptrie_buildImmutable and ucptrie_toBinary. */
 int64_t bks_trie_build(const bks_row *rows, size_t count, uint32_t default_value,
@@ -551,7 +544,7 @@ bool bks_set_contains(const uint32_t *ends, size_t count, uint32_t c);
  *
  * @param ends the boundaries of the set
  * @param count how many boundaries there are
- * @return a number of code points, or BKS_NO_SET
+ * @return a number of code points, or BKS_INVALID_SET
  *
  * ICU: uset_size. */
 int64_t bks_set_size(const uint32_t *ends, size_t count);
@@ -560,7 +553,7 @@ int64_t bks_set_size(const uint32_t *ends, size_t count);
  * outside it.
  *
  * It ends at a character boundary. An ill-formed sequence ends it too. So spans with true and false
- * in turn reach the end of the text, or BKS_NO_TEXT at its first ill-formed sequence; skip a byte
+ * in turn reach the end of the text, or BKS_INVALID_UTF8 at its first ill-formed sequence; skip a byte
  * to go on. It reads at most the four bytes after the span, and none outside the text. Unspecified
  * (but memory-safe) if bks_set_test returns false.
  *
@@ -569,7 +562,7 @@ int64_t bks_set_size(const uint32_t *ends, size_t count);
  * @param text the text in UTF-8, which need not end with NUL
  * @param size how many bytes the text has
  * @param held true: characters in the set; false: characters outside it
- * @return a number of bytes; or BKS_NO_TEXT, exactly if the text is not empty and does not start
+ * @return a number of bytes; or BKS_INVALID_UTF8, exactly if the text is not empty and does not start
  *     with a character
  *
  * ICU: uset_spanUTF8. */
@@ -587,7 +580,7 @@ int64_t bks_set_span(const uint32_t *ends, size_t count, const char *text, size_
  * @param text the text in UTF-8, which need not end with NUL
  * @param size how many bytes the text has
  * @param held true: characters in the set; false: characters outside it
- * @return an offset in bytes; or BKS_NO_TEXT, exactly if the text is not empty and does not end
+ * @return an offset in bytes; or BKS_INVALID_UTF8, exactly if the text is not empty and does not end
  *     with a character
  *
  * ICU: uset_spanBackUTF8. */
@@ -622,7 +615,7 @@ size_t bks_set_span_utf16(const uint32_t *ends, size_t count, const uint16_t *te
  * @param b_count how many there are
  * @param ends receives the boundaries
  * @param room how many boundaries fit
- * @return how many boundaries there are, never more than a_count + b_count; or BKS_NO_SET, and
+ * @return how many boundaries there are, never more than a_count + b_count; or BKS_INVALID_SET, and
  *     `ends` is then unchanged
  *
  * ICU: uset_addAll. */
@@ -639,7 +632,7 @@ int64_t bks_set_union(const uint32_t *a, size_t a_count, const uint32_t *b, size
  * @param b_count how many there are
  * @param ends receives the boundaries
  * @param room how many boundaries fit
- * @return how many boundaries there are, never more than a_count + b_count; or BKS_NO_SET, and
+ * @return how many boundaries there are, never more than a_count + b_count; or BKS_INVALID_SET, and
  *     `ends` is then unchanged
  *
  * ICU: uset_retainAll. */
@@ -656,7 +649,7 @@ int64_t bks_set_intersection(const uint32_t *a, size_t a_count, const uint32_t *
  * @param b_count how many there are
  * @param ends receives the boundaries
  * @param room how many boundaries fit
- * @return how many boundaries there are, never more than a_count + b_count; or BKS_NO_SET, and
+ * @return how many boundaries there are, never more than a_count + b_count; or BKS_INVALID_SET, and
  *     `ends` is then unchanged
  *
  * ICU: uset_removeAll. */
@@ -673,7 +666,7 @@ int64_t bks_set_difference(const uint32_t *a, size_t a_count, const uint32_t *b,
  * @param b_count how many there are
  * @param ends receives the boundaries
  * @param room how many boundaries fit
- * @return how many boundaries there are, never more than a_count + b_count; or BKS_NO_SET, and
+ * @return how many boundaries there are, never more than a_count + b_count; or BKS_INVALID_SET, and
  *     `ends` is then unchanged
  *
  * ICU: uset_complementAll. */
@@ -718,7 +711,7 @@ int64_t bks_set_from_points(const uint32_t *points, size_t count, uint32_t *ends
  * @param count how many boundaries there are
  * @param complement receives the boundaries
  * @param room how many boundaries fit
- * @return how many boundaries there are, never more than count + 2; or BKS_NO_SET, and `complement`
+ * @return how many boundaries there are, never more than count + 2; or BKS_INVALID_SET, and `complement`
  *     is then unchanged
  *
  * ICU: uset_complement. */
@@ -781,7 +774,7 @@ enum { BKS_FROZEN_MOST = 18504 };
  * @param table receives the words
  * @param room how many words fit
  * @return how many 64-bit words the frozen set takes, at most BKS_FROZEN_MOST, also if more than
- *     `room`; or BKS_NO_MEMORY or BKS_NO_SET
+ *     `room`; or BKS_NO_MEMORY or BKS_INVALID_SET
  *
  * ICU: uset_freeze. */
 int64_t bks_set_freeze(const uint32_t *ends, size_t count, uint64_t *table, size_t room);
@@ -804,7 +797,7 @@ bool bks_frozen_contains(const uint64_t *table, size_t count, uint32_t c);
  * or all outside it.
  *
  * It ends at a character boundary. An ill-formed sequence ends it too. So spans with true and false
- * in turn reach the end of the text, or BKS_NO_TEXT at its first ill-formed sequence; skip a byte
+ * in turn reach the end of the text, or BKS_INVALID_UTF8 at its first ill-formed sequence; skip a byte
  * to go on. It reads at most the nine bytes after the span, and none outside the text. A long span
  * is tested eight bytes at a time. Any words are accepted: see bks_frozen_contains.
  *
@@ -813,7 +806,7 @@ bool bks_frozen_contains(const uint64_t *table, size_t count, uint32_t c);
  * @param text the text in UTF-8, which need not end with NUL
  * @param size how many bytes the text has
  * @param held true: characters in the set; false: characters outside it
- * @return a number of bytes; or BKS_NO_TEXT, exactly if the text is not empty and does not start
+ * @return a number of bytes; or BKS_INVALID_UTF8, exactly if the text is not empty and does not start
  *     with a character
  *
  * ICU: uset_spanUTF8 of a frozen set. */
@@ -832,7 +825,7 @@ int64_t bks_frozen_span(const uint64_t *table, size_t count, const char *text, s
  * @param text the text in UTF-8, which need not end with NUL
  * @param size how many bytes the text has
  * @param held true: characters in the set; false: characters outside it
- * @return an offset in bytes; or BKS_NO_TEXT, exactly if the text is not empty and does not end
+ * @return an offset in bytes; or BKS_INVALID_UTF8, exactly if the text is not empty and does not end
  *     with a character
  *
  * ICU: uset_spanBackUTF8 of a frozen set. */
@@ -897,7 +890,7 @@ int64_t bks_units_longest(const void *units, size_t size, const uint16_t *text, 
  * @param text the text in UTF-8, which need not end with NUL
  * @param text_size how many bytes the text has
  * @param value receives the key's value. It is unchanged on an error
- * @return how many bytes of the text the key takes; BKS_NO_KEY if no key is a prefix; BKS_NO_TEXT,
+ * @return how many bytes of the text the key takes; BKS_NO_KEY if no key is a prefix; BKS_INVALID_UTF8,
  *     exactly if the text is not empty and does not start with a character */
 int64_t bks_units_longest_utf8(const void *units, size_t size, const char *text, size_t text_size,
                                int32_t *value);
@@ -934,7 +927,7 @@ bool bks_units_value(const void *units, size_t size, const bks_cursor *cursor, i
  *
  * @param units the bytes of the unit trie, at any address
  * @param size how many bytes it has
- * @return a number of entries, at most 2^63 - 1; BKS_NO_TRIE if the units are not a trie; or
+ * @return a number of entries, at most 2^63 - 1; BKS_INVALID_TRIE if the units are not a trie; or
  *     BKS_NO_MEMORY */
 int64_t bks_units_count(const void *units, size_t size);
 
@@ -972,7 +965,7 @@ int64_t bks_units_list(const void *units, size_t size, bks_word *words, size_t w
  * The bytes are in `units` if all of them fit; otherwise `units` is unchanged: call it first with
  * room 0, or again with more.
  *
- * If no unit trie is built, it returns the first of these that applies: BKS_NO_ENTRIES, if
+ * If no unit trie is built, it returns the first of these that applies: BKS_INVALID_ENTRIES, if
  * lengths_count is not values_count, or the lengths add up to more than keys_count; BKS_LONG_KEY;
  * BKS_SAME_KEY; BKS_TOO_LARGE, if 2 U + 16 E is above 0x7FFFFFFF; BKS_NO_MEMORY, which may come
  * before the last two.
@@ -985,7 +978,7 @@ int64_t bks_units_list(const void *units, size_t size, bks_word *words, size_t w
  * @param values_count how many values there are
  * @param units receives the bytes of the unit trie
  * @param room how many bytes fit
- * @return how many bytes the unit trie takes, also if more than `room`; or one of enum bks_refusal
+ * @return how many bytes the unit trie takes, also if more than `room`; or one of enum bks_error
  *
  * ICU: UCharsTrieBuilder::add for each entry, and buildUnicodeString. */
 int64_t bks_units_build(const uint16_t *keys, size_t keys_count, const size_t *lengths,
@@ -1012,8 +1005,8 @@ bool bks_units_get_utf8(const void *units, size_t size, const char *key, size_t 
  * The bytes are in `units` if all of them fit; otherwise `units` is unchanged: call it first with
  * room 0, or again with more.
  *
- * If no unit trie is built, it returns the first of these that applies: BKS_NO_ENTRIES, if
- * lengths_count is not values_count, or the lengths add up to more than keys_size; BKS_NO_TEXT, if
+ * If no unit trie is built, it returns the first of these that applies: BKS_INVALID_ENTRIES, if
+ * lengths_count is not values_count, or the lengths add up to more than keys_size; BKS_INVALID_UTF8, if
  * a key is not UTF-8 on its own; BKS_LONG_KEY; BKS_SAME_KEY; BKS_TOO_LARGE; BKS_NO_MEMORY, which
  * may come before the last three.
  *
@@ -1025,7 +1018,7 @@ bool bks_units_get_utf8(const void *units, size_t size, const char *key, size_t 
  * @param values_count how many values there are
  * @param units receives the bytes of the unit trie
  * @param room how many bytes fit
- * @return how many bytes the unit trie takes, also if more than `room`; or one of enum bks_refusal
+ * @return how many bytes the unit trie takes, also if more than `room`; or one of enum bks_error
  *
  * ICU: UCharsTrieBuilder::add for each entry, and buildUnicodeString. */
 int64_t bks_units_build_utf8(const char *keys, size_t keys_size, const size_t *lengths,
@@ -1060,7 +1053,7 @@ size_t bks_units_prefixes(const void *units, size_t size, const uint16_t *text, 
  * @param text_size how many bytes the text has
  * @param found receives the keys, with lengths in bytes
  * @param room how many keys fit
- * @return how many keys there are, also if more than `room`; or BKS_NO_TEXT, exactly if the text is
+ * @return how many keys there are, also if more than `room`; or BKS_INVALID_UTF8, exactly if the text is
  *     not empty and does not start with a character, and `found` is then unchanged */
 int64_t bks_units_prefixes_utf8(const void *units, size_t size, const char *text, size_t text_size,
                                 bks_prefix *found, size_t room);
@@ -1122,7 +1115,7 @@ int64_t bks_units_unique(const void *units, size_t size, const bks_cursor *curso
  * @param texts receives the texts, one after another
  * @param texts_room how many bytes fit
  * @param texts_size receives how many bytes their texts take
- * @return how many entries it wrote; or BKS_NO_TEXT or BKS_NO_MEMORY, and nothing is then written
+ * @return how many entries it wrote; or BKS_INVALID_UTF8 or BKS_NO_MEMORY, and nothing is then written
  *
  * ICU: UCharsTrie::Iterator of a trie that is not at its root. */
 int64_t bks_units_list_below(const void *units, size_t size, const char *prefix, size_t prefix_size,
@@ -1147,7 +1140,7 @@ int64_t bks_units_list_below(const void *units, size_t size, const char *prefix,
  * @param bytes a trie in ICU's binary form, at any address. It has to stay there, unchanged, while
  *     the trie is used
  * @param size how many bytes there are
- * @return BKS_OK, or the first fault in the order of enum bks_status
+ * @return BKS_OK, or the first fault in the order of enum bks_error
  *
  * ICU: ucptrie_openFromBinary. */
 static inline uint32_t bks_open(bks_trie *trie, const void *bytes, size_t size) {

@@ -41,26 +41,26 @@
 namespace bekstaudi {
 
 /// Thrown if the bytes are not a trie of this width. status() is the first fault.
-class trie_refused : public std::invalid_argument {
+class invalid_trie : public std::invalid_argument {
 public:
-    explicit trie_refused(bks_status status)
+    explicit invalid_trie(bks_error status)
         : std::invalid_argument("bekstaudi: the bytes are not a trie of this width"), status_(status) {}
-    bks_status status() const noexcept { return status_; }
+    bks_error status() const noexcept { return status_; }
 
 private:
-    bks_status status_;
+    bks_error status_;
 };
 
 /// Thrown if the numbers are not the boundaries of a set.
-class set_refused : public std::invalid_argument {
+class invalid_set : public std::invalid_argument {
 public:
     using std::invalid_argument::invalid_argument;
 };
 
 /// Thrown if the part of a text that is read is not UTF-8.
-class text_refused : public std::invalid_argument {
+class invalid_utf8 : public std::invalid_argument {
 public:
-    text_refused() : std::invalid_argument("bekstaudi: the text is not UTF-8") {}
+    invalid_utf8() : std::invalid_argument("bekstaudi: the text is not UTF-8") {}
 };
 
 /// Consecutive items of a container or an array, like std::span<const T> of C++20, with only what is
@@ -108,9 +108,9 @@ using if_temporary =
 inline std::size_t answered(std::int64_t answer) {
     if (answer >= 0) return static_cast<std::size_t>(answer);
     if (answer == BKS_NO_MEMORY) throw std::bad_alloc();
-    if (answer == BKS_NO_TEXT) throw text_refused();
-    if (answer == BKS_NO_TRIE) throw set_refused("bekstaudi: no trie");
-    throw set_refused("bekstaudi: no set"); // BKS_NO_SET
+    if (answer == BKS_INVALID_UTF8) throw invalid_utf8();
+    if (answer == BKS_INVALID_TRIE) throw invalid_set("bekstaudi: no trie");
+    throw invalid_set("bekstaudi: no set"); // BKS_INVALID_SET
 }
 
 /// Returns the units of a text in UTF-16, as C has them.
@@ -172,12 +172,12 @@ public:
     /// Makes the empty set.
     code_point_set() = default;
 
-    /// Makes the set with these boundaries: {0x41, 0x5B} is A to Z. Throws set_refused if they are
+    /// Makes the set with these boundaries: {0x41, 0x5B} is A to Z. Throws invalid_set if they are
     /// not the boundaries of a set.
     explicit code_point_set(view<std::uint32_t> ends)
         : ends_(ends.data(), ends.data() + ends.size()) {
         if (!bks_set_test(ends.data(), ends.size()))
-            throw set_refused("bekstaudi: the numbers are not the boundaries of a set");
+            throw invalid_set("bekstaudi: the numbers are not the boundaries of a set");
     }
     code_point_set(std::initializer_list<std::uint32_t> ends)
         : code_point_set(view<std::uint32_t>(ends.begin(), ends.size())) {}
@@ -311,7 +311,7 @@ public:
     }
 
     /// Returns the longest prefix of a text in UTF-8 whose characters are all in the set or, if
-    /// `held` is false, all outside it. An ill-formed sequence ends it. Throws text_refused if the
+    /// `held` is false, all outside it. An ill-formed sequence ends it. Throws invalid_utf8 if the
     /// text is not empty and does not start with a character.
     std::string_view span(std::string_view text, bool held = true) const {
         view<char> bytes(text);
@@ -320,7 +320,7 @@ public:
     }
 
     /// Returns the longest suffix of a text in UTF-8 whose characters are all in the set or, if
-    /// `held` is false, all outside it. An ill-formed sequence ends it. Throws text_refused if the
+    /// `held` is false, all outside it. An ill-formed sequence ends it. Throws invalid_utf8 if the
     /// text is not empty and does not end with a character.
     std::string_view span_back(std::string_view text, bool held = true) const {
         view<char> bytes(text);
@@ -460,7 +460,7 @@ public:
     bool contains(std::uint32_t c) const noexcept { return bks_frozen_has(words_.data(), c); }
 
     /// Returns the longest prefix of a text in UTF-8 whose characters are all in the set or, if
-    /// `held` is false, all outside it. An ill-formed sequence ends it. Throws text_refused if the
+    /// `held` is false, all outside it. An ill-formed sequence ends it. Throws invalid_utf8 if the
     /// text is not empty and does not start with a character.
     std::string_view span(std::string_view text, bool held = true) const {
         view<char> bytes(text);
@@ -469,7 +469,7 @@ public:
     }
 
     /// Returns the longest suffix of a text in UTF-8 whose characters are all in the set or, if
-    /// `held` is false, all outside it. An ill-formed sequence ends it. Throws text_refused if the
+    /// `held` is false, all outside it. An ill-formed sequence ends it. Throws invalid_utf8 if the
     /// text is not empty and does not end with a character.
     std::string_view span_back(std::string_view text, bool held = true) const {
         view<char> bytes(text);
@@ -515,12 +515,12 @@ public:
     /// Makes a trie without cells, whose values are all 0.
     trie() = default;
 
-    /// Opens the trie at the start of the bytes. Throws trie_refused if there is none, or one of
+    /// Opens the trie at the start of the bytes. Throws invalid_trie if there is none, or one of
     /// another width (BKS_OTHER_WIDTH).
     trie(const void *bytes, std::size_t size) {
-        auto status = static_cast<bks_status>(bks_open(&trie_, bytes ? bytes : "", size));
+        auto status = static_cast<bks_error>(bks_open(&trie_, bytes ? bytes : "", size));
         if (status == BKS_OK && trie_.width != sizeof(Value)) status = BKS_OTHER_WIDTH;
-        if (status != BKS_OK) throw trie_refused(status);
+        if (status != BKS_OK) throw invalid_trie(status);
     }
     template <class C, class = decltype(std::data(std::declval<const C &>())),
               class = std::enable_if_t<!std::is_same_v<C, trie>>>
@@ -675,22 +675,22 @@ private:
 };
 
 /// Thrown by build if no trie can be built from the rows.
-class row_refused : public std::invalid_argument {
+class invalid_row : public std::invalid_argument {
 public:
-    explicit row_refused(bks_refusal refusal)
-        : std::invalid_argument(refusal == BKS_WIDE_VALUE
+    explicit invalid_row(bks_error error)
+        : std::invalid_argument(error == BKS_WIDE_VALUE
                                     ? "bekstaudi: a value has more bits than the trie's"
                                     : "bekstaudi: the trie of these rows would be too large"),
-          refusal_(refusal) {}
+          error_(error) {}
     /// Returns BKS_WIDE_VALUE if a value has more bits than the trie's, or BKS_TOO_LARGE.
-    bks_refusal refusal() const noexcept { return refusal_; }
+    bks_error error() const noexcept { return error_; }
 
 private:
-    bks_refusal refusal_;
+    bks_error error_;
 };
 
 /// Returns the bytes of a trie built from the rows in ICU's binary form, as bks_trie_build writes
-/// them. Throws row_refused.
+/// them. Throws invalid_row.
 template <class Value>
 std::vector<std::uint8_t> build(view<bks_row> rows, std::uint32_t default_value = 0,
                                 std::uint32_t error_value = 0, bks_type type = BKS_FAST) {
@@ -699,7 +699,7 @@ std::vector<std::uint8_t> build(view<bks_row> rows, std::uint32_t default_value 
         std::int64_t size = bks_trie_build(rows.data(), rows.size(), default_value, error_value,
                                            type, sizeof(Value), bytes.data(), bytes.size());
         if (size == BKS_NO_MEMORY) throw std::bad_alloc();
-        if (size < 0) throw row_refused(static_cast<bks_refusal>(size));
+        if (size < 0) throw invalid_row(static_cast<bks_error>(size));
         bool fits = static_cast<std::size_t>(size) <= bytes.size();
         bytes.resize(static_cast<std::size_t>(size));
         if (fits) return bytes;
@@ -713,16 +713,16 @@ std::vector<std::uint8_t> build(std::initializer_list<bks_row> rows,
 }
 
 /// Thrown if no unit trie can be built from the entries.
-class entries_refused : public std::invalid_argument {
+class invalid_entries : public std::invalid_argument {
 public:
-    explicit entries_refused(bks_refusal refusal)
-        : std::invalid_argument("bekstaudi: no unit trie of these entries"), refusal_(refusal) {}
-    /// Returns BKS_LONG_KEY; BKS_SAME_KEY if two entries have the same key; BKS_NO_TEXT if a key is
+    explicit invalid_entries(bks_error error)
+        : std::invalid_argument("bekstaudi: no unit trie of these entries"), error_(error) {}
+    /// Returns BKS_LONG_KEY; BKS_SAME_KEY if two entries have the same key; BKS_INVALID_UTF8 if a key is
     /// not UTF-8 or not UTF-32; BKS_WIDE_VALUE if a value is not a signed 32-bit number; or BKS_TOO_LARGE.
-    bks_refusal refusal() const noexcept { return refusal_; }
+    bks_error error() const noexcept { return error_; }
 
 private:
-    bks_refusal refusal_;
+    bks_error error_;
 };
 
 /// A map from keys of 16-bit units to numbers (ICU: UCharsTrie). The units, two bytes each, have to
@@ -747,7 +747,7 @@ public:
 
     /// Returns the units of a trie built from entries in any order, as bks_units_build and
     /// bks_units_build_utf8 write them. The entries are a map, or any other range of pairs of a text
-    /// and an integer. Throws entries_refused.
+    /// and an integer. Throws invalid_entries.
     template <class Entries>
     static std::vector<std::uint8_t> build(const Entries &entries) {
         using key_of = std::tuple_element_t<0, std::decay_t<decltype(*std::begin(entries))>>;
@@ -760,7 +760,7 @@ public:
             const auto units = text_of(key);
             keys.append(units);
             lengths.push_back(units.size());
-            if (!is_of_32_bits(value)) throw entries_refused(BKS_WIDE_VALUE);
+            if (!is_of_32_bits(value)) throw invalid_entries(BKS_WIDE_VALUE);
             values.push_back(static_cast<std::int32_t>(value));
         }
         view<std::size_t> sizes(lengths);
@@ -775,7 +775,7 @@ public:
                                    sizes.size(), numbers.data(), numbers.size(), bytes.data(),
                                    bytes.size());
         if (size == BKS_NO_MEMORY) throw std::bad_alloc();
-        if (size < 0) throw entries_refused(static_cast<bks_refusal>(size));
+        if (size < 0) throw invalid_entries(static_cast<bks_error>(size));
         bytes.resize(static_cast<std::size_t>(size));
         return bytes;
     }
@@ -818,7 +818,7 @@ public:
 
     /// Returns the entries whose keys start with a UTF-8 text, in unit order, each key whole, as in
     /// entries(). A few untrusted units can have very many entries: call count() first. Throws
-    /// text_refused if the text is not UTF-8.
+    /// invalid_utf8 if the text is not UTF-8.
     std::vector<std::pair<std::string, std::int32_t>> entries(std::string_view prefix) const {
         std::vector<std::pair<std::string, std::int32_t>> all;
         std::vector<bks_word> words(64);
@@ -829,7 +829,7 @@ public:
             std::int64_t answer = bks_units_list_below(
                 units_.data(), units_.size(), start.data(), start.size(), all.size(), words.data(),
                 words.size(), texts.data(), texts.size(), &size);
-            if (answer == BKS_NO_TEXT) throw text_refused();
+            if (answer == BKS_INVALID_UTF8) throw invalid_utf8();
             if (answer < 0) throw std::bad_alloc();
             std::size_t count = static_cast<std::size_t>(answer);
             for (std::size_t i = 0; i < count; i++)
@@ -863,13 +863,13 @@ public:
 
     /// Returns the longest key that is a prefix of a UTF-8 text, or nothing if no key is. Reads no
     /// more of the text than some key continues with. An ill-formed sequence ends the text. Throws
-    /// text_refused if the text is not empty and does not start with a character.
+    /// invalid_utf8 if the text is not empty and does not start with a character.
     std::optional<match> longest(std::string_view text) const {
         std::int32_t value = 0;
         view<char> bytes(text);
         std::int64_t size = bks_units_longest_utf8(units_.data(), units_.size(), bytes.data(),
                                                    bytes.size(), &value);
-        if (size == BKS_NO_TEXT) throw text_refused();
+        if (size == BKS_INVALID_UTF8) throw invalid_utf8();
         if (size < 0) return std::nullopt;
         return match{static_cast<std::size_t>(size), value};
     }
@@ -901,7 +901,7 @@ public:
 
     /// Returns all keys that are prefixes of a UTF-8 text, the shortest first. A key that ends within
     /// a character does not count. Reads no more of the text than some key continues with. An
-    /// ill-formed sequence ends the text. Throws text_refused if the text is not empty and does not
+    /// ill-formed sequence ends the text. Throws invalid_utf8 if the text is not empty and does not
     /// start with a character.
     std::vector<match> prefixes(std::string_view text) const {
         view<char> bytes(text);
@@ -989,7 +989,7 @@ private:
     static std::u16string_view text_of(std::u16string_view key) noexcept { return key; }
     static std::u16string text_of(std::u32string_view key) {
         std::optional<std::u16string> units = detail::utf16_of(key);
-        if (!units) throw entries_refused(BKS_NO_TEXT);
+        if (!units) throw invalid_entries(BKS_INVALID_UTF8);
         return *std::move(units);
     }
 #ifdef __cpp_lib_char8_t
@@ -1028,7 +1028,7 @@ private:
         std::size_t count = 0;
         for (;;) {
             std::int64_t answer = call(found.data(), found.size());
-            if (answer < 0) throw text_refused();
+            if (answer < 0) throw invalid_utf8();
             count = static_cast<std::size_t>(answer);
             if (count <= found.size()) break;
             found.resize(count);

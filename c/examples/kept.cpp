@@ -20,7 +20,7 @@ static void print_kept(const bekstaudi::frozen_set &kept, std::string_view text)
             std::string_view piece = kept.span(text);
             text.remove_prefix(piece.size());
             std::cout << piece;
-        } catch (const bekstaudi::text_refused &) {
+        } catch (const bekstaudi::invalid_utf8 &) {
             text.remove_prefix(1);  // the text does not start with a character
         }
     }

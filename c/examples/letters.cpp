@@ -12,7 +12,7 @@ static void print_words(const bekstaudi::frozen_set &letters, std::string_view t
             std::string_view word = letters.span(text);
             text.remove_prefix(word.size());
             if (!word.empty()) std::cout << word << '\n';
-        } catch (const bekstaudi::text_refused &) {
+        } catch (const bekstaudi::invalid_utf8 &) {
             text.remove_prefix(1);  // the text does not start with a character
         }
     }

@@ -172,7 +172,7 @@ static void refusals(void) {
     for (uint32_t width = 0; width < 9; width++)
         for (uint32_t type = 0; type < 4; type++) {
             bool known = type < 2 && (width == 1 || width == 2 || width == 4);
-            int64_t refused = !known ? BKS_NO_FORM : width == 1 ? BKS_WIDE_VALUE : 0;
+            int64_t refused = !known ? BKS_INVALID_FORMAT : width == 1 ? BKS_WIDE_VALUE : 0;
             int64_t row = bks_trie_build(&wide, 1, 0, 0, type, width, bytes, sizeof bytes);
             int64_t none = bks_trie_build(&wide, 0, 0x100, 0, type, width, bytes, sizeof bytes);
             int64_t error = bks_trie_build(&wide, 0, 0, 0x100, type, width, bytes, sizeof bytes);
@@ -183,7 +183,7 @@ static void refusals(void) {
     CHECK(bks_trie_build(&wide, 0, 0xFFFF, 0xFFFF, BKS_FAST, 2, bytes, 0) > 0);
     CHECK(bks_trie_build(&wide, 0, 0x10000, 0, BKS_FAST, 2, bytes, 0) == BKS_WIDE_VALUE);
     CHECK(bks_trie_build(&wide, 0, UINT32_MAX, UINT32_MAX, BKS_SMALL, 4, bytes, 0) > 0);
-    CHECK(bks_trie_build(&wide, 0, 0, 0, UINT32_MAX, UINT32_MAX, bytes, 0) == BKS_NO_FORM);
+    CHECK(bks_trie_build(&wide, 0, 0, 0, UINT32_MAX, UINT32_MAX, bytes, 0) == BKS_INVALID_FORMAT);
     for (uint32_t c = 0; c < CODE_POINTS; c++) {
         rows[c].first = rows[c].last = c;
         rows[c].value = c;

@@ -77,9 +77,9 @@ static void refused(void) {
         size_t count, values;
         int64_t answer;
     } rows[] = {
-        {3, two, 2, 3, BKS_NO_ENTRIES},     {3, three, 3, 2, BKS_NO_ENTRIES},
-        {2, three, 3, 3, BKS_NO_ENTRIES},   {70000, huge, 3, 3, BKS_NO_ENTRIES},
-        {65535, huge, 1, 1, BKS_NO_ENTRIES}, {3, huge + 2, 1, 1, BKS_NO_ENTRIES},
+        {3, two, 2, 3, BKS_INVALID_ENTRIES},     {3, three, 3, 2, BKS_INVALID_ENTRIES},
+        {2, three, 3, 3, BKS_INVALID_ENTRIES},   {70000, huge, 3, 3, BKS_INVALID_ENTRIES},
+        {65535, huge, 1, 1, BKS_INVALID_ENTRIES}, {3, huge + 2, 1, 1, BKS_INVALID_ENTRIES},
         {3, three, 3, 3, BKS_SAME_KEY},     {70000, huge, 1, 1, BKS_LONG_KEY},
         {70000, huge, 2, 2, BKS_LONG_KEY},
     };
@@ -105,9 +105,9 @@ static void texts_refused(void) {
         size_t count, values;
         int64_t answer;
     } rows[] = {
-        {"\xC3\xA9", 2, half, 2, 2, BKS_NO_TEXT}, {"\xC3\xA9", 2, half, 2, 1, BKS_NO_ENTRIES},
-        {"\xC3\xA9", 1, half, 2, 2, BKS_NO_ENTRIES}, {"\xC3\xA9\xFF", 3, two, 1, 1, 6},
-        {"\xC3\xA9\xFF", 3, two, 2, 2, BKS_NO_TEXT}, {"aa", 2, half, 2, 2, BKS_SAME_KEY},
+        {"\xC3\xA9", 2, half, 2, 2, BKS_INVALID_UTF8}, {"\xC3\xA9", 2, half, 2, 1, BKS_INVALID_ENTRIES},
+        {"\xC3\xA9", 1, half, 2, 2, BKS_INVALID_ENTRIES}, {"\xC3\xA9\xFF", 3, two, 1, 1, 6},
+        {"\xC3\xA9\xFF", 3, two, 2, 2, BKS_INVALID_UTF8}, {"aa", 2, half, 2, 2, BKS_SAME_KEY},
         {many, sizeof many, huge, 1, 1, BKS_LONG_KEY}, {many, sizeof many, huge, 3, 3, BKS_LONG_KEY},
         {many, sizeof many, same + 1, 3, 3, BKS_SAME_KEY},
     };
@@ -118,7 +118,7 @@ static void texts_refused(void) {
     }
     CHECK(bks_units_build_utf8(many, sizeof many, longest, 2, values, 2, bytes, MOST) > MOST);
     many[65537] = '\xFF'; /* a later key that is not UTF-8 comes before a long one */
-    CHECK(bks_units_build_utf8(many, sizeof many, same, 3, values, 3, bytes, MOST) == BKS_NO_TEXT);
+    CHECK(bks_units_build_utf8(many, sizeof many, same, 3, values, 3, bytes, MOST) == BKS_INVALID_UTF8);
     memcpy(many, "\xE4\xB8\x96", 3);
     for (size_t i = 0; i < MOST; i++) CHECK(bytes[i] == STAYS);
 }
@@ -132,7 +132,7 @@ static int64_t listed(const char *said, bks_word *words, size_t room, char *text
     moved[n] = 0x61; /* an odd last byte is no unit */
     int64_t count = bks_units_list(moved, n + 1, words, room, texts, MOST, size);
     int64_t counted = bks_units_count(moved, n + 1);
-    CHECK(counted == count || counted == BKS_NO_TRIE);
+    CHECK(counted == count || counted == BKS_INVALID_TRIE);
     released(moved, n + 1);
     return count;
 }
@@ -162,8 +162,8 @@ static int64_t counted(const char *said) {
 
 static void counts(void) {
     CHECK(counted("") == 0 && counted("8007") == 1 && counted("30 61 B0 62 8002") == 2);
-    CHECK(counted("30") == BKS_NO_TRIE && counted("30 61") == BKS_NO_TRIE);
-    CHECK(counted("30 61 FFFF") == BKS_NO_TRIE && counted("1 62 8001 61 8002") == BKS_NO_TRIE);
+    CHECK(counted("30") == BKS_INVALID_TRIE && counted("30 61") == BKS_INVALID_TRIE);
+    CHECK(counted("30 61 FFFF") == BKS_INVALID_TRIE && counted("1 62 8001 61 8002") == BKS_INVALID_TRIE);
     CHECK(counted("1 61 8001 62 8002") == 2);
 }
 
@@ -193,9 +193,9 @@ static void doubled(void) {
     CHECK(size == sizeof texts && words[1].start == LEVELS && words[1].value == 5);
     CHECK(memcmp(texts + LEVELS, "aaaaaaaaaaab", LEVELS) == 0);
     CHECK(bks_units_count(units, sizeof units) == 1 << LEVELS);
-    CHECK(levels(40, true) == (int64_t)1 << 40 && levels(40, false) == BKS_NO_TRIE);
+    CHECK(levels(40, true) == (int64_t)1 << 40 && levels(40, false) == BKS_INVALID_TRIE);
     CHECK(levels(62, true) == (int64_t)1 << 62 && levels(63, true) == INT64_MAX);
-    CHECK(levels(80, true) == INT64_MAX && levels(80, false) == BKS_NO_TRIE);
+    CHECK(levels(80, true) == INT64_MAX && levels(80, false) == BKS_INVALID_TRIE);
 }
 
 /* Pages below a prefix: a text that does not fit, the last entry, and a trie of 2^60 entries. */
@@ -213,7 +213,7 @@ static void pages(void) {
     CHECK(bks_units_list_below(three, n, "a", 1, 2, words, 3, texts, 9, &size) == 0 && size == 0);
     CHECK(bks_units_list_below(three, n, "b", 1, 0, words, 3, texts, 9, &size) == 0 && size == 0);
     size = STAYS;
-    CHECK(bks_units_list_below(three, n, "\xE4\xB8", 2, 0, words, 3, texts, 9, &size) == BKS_NO_TEXT);
+    CHECK(bks_units_list_below(three, n, "\xE4\xB8", 2, 0, words, 3, texts, 9, &size) == BKS_INVALID_UTF8);
     CHECK(size == STAYS);
     for (size_t k = 0; k < 60; k++) {
         static const uint16_t level[] = {1, 'a', 1, 'b'};

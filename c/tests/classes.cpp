@@ -65,7 +65,7 @@ static void refused(const bekstaudi::view<uint8_t> &bytes, size_t width) {
     auto status_of = [](auto open) {
         try {
             open();
-        } catch (const bekstaudi::trie_refused &fault) {
+        } catch (const bekstaudi::invalid_trie &fault) {
             return fault.status();
         }
         return BKS_OK;
@@ -159,10 +159,10 @@ static void spans() {
     CHECK(letters.span("Stra\xC3\x9F" "e 7") == "Stra\xC3\x9F" "e");
     CHECK(letters.span("7 a", false) == "7 " && letters.span("").empty());
     CHECK(letters.span(std::string_view()).empty());
-    CHECK(letters.span("a\xFF") == "a" && throws<bekstaudi::text_refused>([&] { letters.span("\xFF" "a"); }));
+    CHECK(letters.span("a\xFF") == "a" && throws<bekstaudi::invalid_utf8>([&] { letters.span("\xFF" "a"); }));
     CHECK(letters.span_back("7 Stra\xC3\x9F" "e") == "Stra\xC3\x9F" "e" && letters.span_back("a7", false) == "7");
     CHECK(letters.span_back("").empty() && letters.span_back(std::string_view()).empty());
-    CHECK(letters.span_back("\xFF" "a") == "a" && throws<bekstaudi::text_refused>([&] { letters.span_back("a\xFF"); }));
+    CHECK(letters.span_back("\xFF" "a") == "a" && throws<bekstaudi::invalid_utf8>([&] { letters.span_back("a\xFF"); }));
     CHECK(letters.span(u"a\u00DF7") == u"a\u00DF" && letters.span(u"7\xD800" "a", false) == u"7\xD800");
     CHECK(letters.span(std::u16string_view()).empty() && letters.span(u"").empty());
     for (size_t size = 0; size < 600; size++)
@@ -176,9 +176,9 @@ static void spans() {
     const std::string before = std::string(100, ' ') + std::string(200, 'a') + "\xFF";
     CHECK(letters.span(before, false).size() == 100);
     CHECK(letters.span(std::string_view(before).substr(100)).size() == 200);
-    CHECK(throws<bekstaudi::text_refused>([&] { letters.span(std::string_view(before).substr(300)); }));
+    CHECK(throws<bekstaudi::invalid_utf8>([&] { letters.span(std::string_view(before).substr(300)); }));
     for (std::initializer_list<uint32_t> ends : {std::initializer_list<uint32_t>{1}, {2, 1}, {0, 0x110001}})
-        CHECK(throws<bekstaudi::set_refused>([&] { code_point_set set(ends); }));
+        CHECK(throws<bekstaudi::invalid_set>([&] { code_point_set set(ends); }));
 }
 
 /* Texts in UTF-32 and of char8_t give what the same texts in UTF-8 and UTF-16 give. */
@@ -204,7 +204,7 @@ static void texts_of_all_kinds() {
     CHECK(!tries[U"b"] && !tries[U"a\x110000"] && tries.longest(U"a\U0001F600!")->size == 2);
     CHECK(tries.longest(U"a\U0001F601")->value == 1 && tries.longest(U"\x110000")->value == 7);
     CHECK(tries.prefixes(U"a\U0001F600").size() == 3 && tries.prefixes(U"").size() == 1);
-    CHECK(throws<bekstaudi::entries_refused>(
+    CHECK(throws<bekstaudi::invalid_entries>(
         [&] { bekstaudi::unit_trie::build(std::map<std::u32string, int>{{U"\x110000", 1}}); }));
 #ifdef __cpp_lib_char8_t
     CHECK(set.span(u8"a\u00E9!") == u8"a\u00E9" && frozen.span(u8"a\u00E9!") == u8"a\u00E9");
@@ -257,8 +257,8 @@ static void frozen_sets() {
                 CHECK(copy.span(text, held) == set.span(text, held) && copy.span_back(text, held) == set.span_back(text, held));
         for (std::u16string_view text : {u"A\u00DF" u"d", u"dA", u"\xD800", u"\U0001F600" u"A"})
             CHECK(copy.span(text) == set.span(text) && copy.span(text, false) == set.span(text, false));
-        CHECK(throws<bekstaudi::text_refused>([&] { copy.span("\xFF" "A"); }));
-        CHECK(throws<bekstaudi::text_refused>([&] { copy.span_back("A\xFF"); }));
+        CHECK(throws<bekstaudi::invalid_utf8>([&] { copy.span("\xFF" "A"); }));
+        CHECK(throws<bekstaudi::invalid_utf8>([&] { copy.span_back("A\xFF"); }));
         refusing = true;
         bool told = throws<std::bad_alloc>([&] { bekstaudi::frozen_set refused(set); });
         refusing = false;
@@ -278,7 +278,7 @@ static void unit_tries() {
     CHECK(pair.longest("\xF0\x9F\x98\x80!")->size == 4 && pair.longest(u"\xD83D\xDE00")->value == 2);
     CHECK(!pair.longest("\xF0\x9F\x98\x81") && pair.longest(u"\xD83D\xDE01")->size == 1);
     CHECK(words.longest("a\xFF")->size == 1 && words.longest("ab\xC3")->value == 100);
-    CHECK(throws<bekstaudi::text_refused>([&] { words.longest("\xFF" "a"); }));
+    CHECK(throws<bekstaudi::invalid_utf8>([&] { words.longest("\xFF" "a"); }));
     bekstaudi::unit_trie::cursor cursor(words);
     CHECK(!cursor.value() && cursor.step(u'a') == BKS_INTERMEDIATE_VALUE && cursor.value() == 1);
     CHECK(cursor.step(u'b') == BKS_FINAL_VALUE && cursor.value() == 100);
@@ -295,7 +295,7 @@ static void unit_tries() {
     CHECK(are(pair.prefixes("\xF0\x9F\x98\x80"), {{4, 2}}));
     CHECK(are(pair.prefixes(u"\xD83D\xDE00"), {{1, 1}, {2, 2}}));
     CHECK(are(words.prefixes("a\xFF"), {{1, 1}}) && are(words.prefixes("ab\xC3"), {{1, 1}, {2, 100}}));
-    CHECK(throws<bekstaudi::text_refused>([&] { words.prefixes("\xFF" "a"); }));
+    CHECK(throws<bekstaudi::invalid_utf8>([&] { words.prefixes("\xFF" "a"); }));
     bekstaudi::unit_trie::cursor next(words);
     CHECK(next.next_units() == std::vector<char16_t>{u'a'} && !next.unique_value());
     CHECK(next.step(u'a') && next.next_units() == std::vector<char16_t>{u'b'} && !next.unique_value());
@@ -332,7 +332,7 @@ static void unit_tries_built() {
     CHECK(!bekstaudi::unit_trie("0", 2).count());
     CHECK(trie.entries("") == wanted && trie.entries("b").empty());
     CHECK((trie.entries("a") == entries{{"a", 1}, {"ab", 2}} && trie.entries("ab") == entries{{"ab", 2}}));
-    CHECK(throws<bekstaudi::text_refused>([&] { trie.entries("\xFF"); }));
+    CHECK(throws<bekstaudi::invalid_utf8>([&] { trie.entries("\xFF"); }));
     std::map<std::string, int> many;
     for (int i = 0; i < 3000; i++) many[std::string(size_t(i % 40), 'x') + std::to_string(i)] = i;
     const std::vector<uint8_t> of_many = bekstaudi::unit_trie::build(many);
@@ -345,7 +345,7 @@ static void unit_tries_built() {
     CHECK(root.next_units().size() == 300 && root.next_units()[299] == 299 && root.unique_value() == 5);
     CHECK(bekstaudi::unit_trie::build(std::map<std::u16string, uint64_t>{{u"a", INT32_MAX}}).size() > 0);
     for (int64_t wide : {int64_t{1} << 40, int64_t{INT32_MIN} - 1})
-        CHECK(throws<bekstaudi::entries_refused>(
+        CHECK(throws<bekstaudi::invalid_entries>(
             [&] { bekstaudi::unit_trie::build(std::map<std::u16string, int64_t>{{u"a", wide}}); }));
     CHECK(bekstaudi::unit_trie::build(std::map<std::u16string, int32_t>()).empty());
     CHECK(bekstaudi::unit_trie(nullptr, 0).entries().empty());
@@ -353,8 +353,8 @@ static void unit_tries_built() {
         const std::vector<std::pair<std::u16string_view, int>> twice = {{u"a", 1}, {key, 2}};
         try {
             bekstaudi::unit_trie::build(twice);
-        } catch (const bekstaudi::entries_refused &fault) {
-            return static_cast<int>(fault.refusal());
+        } catch (const bekstaudi::invalid_entries &fault) {
+            return static_cast<int>(fault.error());
         }
         return 0;
     };
@@ -367,7 +367,7 @@ static void unit_tries_built() {
     for (const auto &text : texts) CHECK(bekstaudi::unit_trie(by_utf8)[text.first] == text.second);
     CHECK(!bekstaudi::unit_trie(by_utf8)["A"] && !bekstaudi::unit_trie(by_utf8)["A\u00DF\u4E16\U0001F600!"]);
     for (const char *bad : {"\x80", "\xC1\x80", "\xC3", "\xC3(", "\xE0\x9F\xBF", "\xED\xA0\x80", "\xE4\xB8", "\xF0\x8F\xBF\xBF", "\xF4\x90\x80\x80", "\xF5\x80\x80\x80", "\xFF"})
-        CHECK(throws<bekstaudi::entries_refused>(
+        CHECK(throws<bekstaudi::invalid_entries>(
             [&] { bekstaudi::unit_trie::build(std::map<std::string, int>{{bad, 1}}); }));
     CHECK(refusal_of(std::u16string(65536, u'a')) == BKS_LONG_KEY);
 }
@@ -395,8 +395,8 @@ static void rows_refused() {
     auto refusal_of = [](auto build) {
         try {
             build();
-        } catch (const bekstaudi::row_refused &fault) {
-            return static_cast<int>(fault.refusal());
+        } catch (const bekstaudi::invalid_row &fault) {
+            return static_cast<int>(fault.error());
         }
         return 0;
     };

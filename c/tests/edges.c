@@ -20,7 +20,7 @@ static void is_no_trie(const bks_trie *trie) {
         CHECK(bks_get8(trie, c) == 0 && bks_get16(trie, c) == 0 && bks_get32(trie, c) == 0);
         CHECK(!bks_trie_range(trie, c).found && bks_trie_ranges(trie, c, ranges, 4) == 0);
     }
-    CHECK(!bks_trie_is_coherent(trie) && bks_trie_set(trie, 0, ends, 4) == BKS_NO_TRIE);
+    CHECK(!bks_trie_is_coherent(trie) && bks_trie_set(trie, 0, ends, 4) == BKS_INVALID_TRIE);
 }
 
 /* The trie has the same values at each address modulo 8. */
@@ -165,7 +165,7 @@ static void damage(uint8_t *bytes, size_t size, const uint8_t *whole, uint32_t *
         bytes[below(limit < size ? limit : (uint32_t)size)] ^= (uint8_t)(1 + below(255));
     }
     uint32_t status = bks_open(&trie, bytes, size);
-    CHECK(status <= BKS_UNKNOWN_NUMBER);
+    CHECK(status <= BKS_SHORT_DATA);
     seen[status]++;
     if (status == BKS_OK)
         ask(&trie);
@@ -174,7 +174,7 @@ static void damage(uint8_t *bytes, size_t size, const uint8_t *whole, uint32_t *
 }
 
 int main(int count, char **words) {
-    uint32_t seen[BKS_UNKNOWN_NUMBER + 1] = {0};
+    uint32_t seen[BKS_SHORT_DATA + 1] = {0};
     CHECK(count >= 3);
     for (int i = 2; i < count; i++) {
         size_t size;
@@ -188,7 +188,7 @@ int main(int count, char **words) {
         for (int n = atoi(words[1]); n > 0; n--) damage(copy, size, bytes, seen);
     }
     printf("damaged tries, by what was told of them:");
-    for (size_t i = 0; i <= BKS_UNKNOWN_NUMBER; i++) printf(" %u", seen[i]);
+    for (size_t i = 0; i <= BKS_SHORT_DATA; i++) printf(" %u", seen[i]);
     printf("\n");
     return 0;
 }

@@ -103,8 +103,8 @@ static void refused(void) {
         {1, 2, 3, 3}, {1, 2, 2, 3}, {2, 1, 3, 4}, {1, 2, 3, 0x110001}, {1, 1, 3, 4}, {0, 9, 8, 9}};
     memset(room, 0x77, sizeof room);
     for (size_t i = 0; i < sizeof lists / sizeof lists[0]; i++)
-        CHECK(bks_set_freeze(lists[i], 4, room, BKS_FROZEN_MOST) == BKS_NO_SET);
-    CHECK(bks_set_freeze(lists[0], 3, room, BKS_FROZEN_MOST) == BKS_NO_SET);
+        CHECK(bks_set_freeze(lists[i], 4, room, BKS_FROZEN_MOST) == BKS_INVALID_SET);
+    CHECK(bks_set_freeze(lists[0], 3, room, BKS_FROZEN_MOST) == BKS_INVALID_SET);
     for (size_t i = 0; i < BKS_FROZEN_MOST; i++) CHECK(room[i] == 0x7777777777777777);
 }
 
@@ -130,16 +130,16 @@ static void ill_formed(void) {
                 size_t back = end;
                 for (size_t k = 0; k < after; k++) end += write_utf8(k ? 0x1F600 : 0xDF, bytes + end);
                 char *text = (char *)memcpy(before_closed_page(end), bytes, end);
-                int64_t first = before ? (int64_t)front : BKS_NO_TEXT, last = after ? (int64_t)back : BKS_NO_TEXT;
+                int64_t first = before ? (int64_t)front : BKS_INVALID_UTF8, last = after ? (int64_t)back : BKS_INVALID_UTF8;
                 CHECK(bks_frozen_span(room, (size_t)size, text, end, true) == first);
                 CHECK(bks_set_span(all, 2, text, end, true) == first);
                 CHECK(bks_set_span(NULL, 0, text, end, false) == first);
-                CHECK(bks_frozen_span(room, (size_t)size, text, end, false) == (before ? 0 : BKS_NO_TEXT));
-                CHECK(bks_set_span(all, 2, text, end, false) == (before ? 0 : BKS_NO_TEXT));
+                CHECK(bks_frozen_span(room, (size_t)size, text, end, false) == (before ? 0 : BKS_INVALID_UTF8));
+                CHECK(bks_set_span(all, 2, text, end, false) == (before ? 0 : BKS_INVALID_UTF8));
                 CHECK(bks_frozen_span_back(room, (size_t)size, text, end, true) == last);
                 CHECK(bks_set_span_back(all, 2, text, end, true) == last);
-                CHECK(bks_frozen_span_back(room, (size_t)size, text, end, false) == (after ? (int64_t)end : BKS_NO_TEXT));
-                CHECK(bks_set_span_back(all, 2, text, end, false) == (after ? (int64_t)end : BKS_NO_TEXT));
+                CHECK(bks_frozen_span_back(room, (size_t)size, text, end, false) == (after ? (int64_t)end : BKS_INVALID_UTF8));
+                CHECK(bks_set_span_back(all, 2, text, end, false) == (after ? (int64_t)end : BKS_INVALID_UTF8));
                 released(text, end);
             }
     }

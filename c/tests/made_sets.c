@@ -169,7 +169,7 @@ static void no_sets(void) {
         bks_set_nth(x, n, sample[below(9)], &found);
         memset(out, 0x55, sizeof out);
         int64_t count = bks_set_complement(x, n, out, 10);
-        CHECK((count == BKS_NO_SET) == !bks_set_test(x, n));
+        CHECK((count == BKS_INVALID_SET) == !bks_set_test(x, n));
         for (size_t i = count < 0 ? 0 : (size_t)count; i < 10; i++) CHECK(out[i] == 0x55555555);
         released(x, 4 * n);
         released(y, 4 * m);

@@ -16,7 +16,7 @@ static void zeros(void) {
         CHECK(!bks_trie_range(&trie, c).found);
     }
     CHECK(bks_trie_ranges(&trie, 0, NULL, 0) == 0 && !bks_trie_is_coherent(&trie));
-    CHECK(bks_trie_set(&trie, 0, NULL, 0) == BKS_NO_TRIE);
+    CHECK(bks_trie_set(&trie, 0, NULL, 0) == BKS_INVALID_TRIE);
     CHECK(bks_trie32_get_many(&trie, letters, 2, &value, 1) == 1 && value == 0);
     CHECK(bks_trie32_get_utf8(&trie, "A", 1, &value, 1) == 1 && value == 0);
     value = 77;

@@ -32,7 +32,7 @@ static void forward(const char *member, size_t times, size_t other, size_t after
     for (size_t i = 0; i < times; i++) memcpy(text + i * part, member, part);
     memset(text + size, '-', after);
     memcpy(text + size, others[other], strlen(others[other]));
-    CHECK(span(text, size + after + PAST, frozen) == (times > 0 || other < CHARACTERS ? (int64_t)size : BKS_NO_TEXT));
+    CHECK(span(text, size + after + PAST, frozen) == (times > 0 || other < CHARACTERS ? (int64_t)size : BKS_INVALID_UTF8));
     released(text, size + after);
 }
 

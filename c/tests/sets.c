@@ -77,18 +77,18 @@ static void refused(void) {
     uint32_t ends[4] = {7, 7, 7, 7}, good[2] = {1, 2};
     for (size_t i = 0; i < sizeof lists / sizeof lists[0]; i++) {
         CHECK(!bks_set_test(lists[i], 4));
-        CHECK(bks_set_union(lists[i], 4, good, 2, ends, 4) == BKS_NO_SET);
-        CHECK(bks_set_intersection(good, 2, lists[i], 4, ends, 4) == BKS_NO_SET);
-        CHECK(bks_set_difference(good, 2, lists[i], 4, ends, 4) == BKS_NO_SET);
-        CHECK(bks_set_symmetric_difference(lists[i], 4, lists[i], 4, ends, 4) == BKS_NO_SET);
-        CHECK(bks_set_size(lists[i], 4) == BKS_NO_SET);
+        CHECK(bks_set_union(lists[i], 4, good, 2, ends, 4) == BKS_INVALID_SET);
+        CHECK(bks_set_intersection(good, 2, lists[i], 4, ends, 4) == BKS_INVALID_SET);
+        CHECK(bks_set_difference(good, 2, lists[i], 4, ends, 4) == BKS_INVALID_SET);
+        CHECK(bks_set_symmetric_difference(lists[i], 4, lists[i], 4, ends, 4) == BKS_INVALID_SET);
+        CHECK(bks_set_size(lists[i], 4) == BKS_INVALID_SET);
         int64_t any = bks_set_span(lists[i], 4, "a", 1, true);
-        CHECK(any >= 0 && any <= 1 && bks_set_span(lists[i], 4, "\x80", 1, true) == BKS_NO_TEXT);
+        CHECK(any >= 0 && any <= 1 && bks_set_span(lists[i], 4, "\x80", 1, true) == BKS_INVALID_UTF8);
     }
     CHECK(!bks_set_test(good, 1) && bks_set_test(good, 0) && ends[0] == 7 && ends[3] == 7);
-    CHECK(bks_set_span(good, 2, "\x80", 1, true) == BKS_NO_TEXT);
-    CHECK(bks_set_span(good, 2, "\xED\xA0\x80", 3, true) == BKS_NO_TEXT);
-    CHECK(bks_set_span(good, 2, "\xC0\x80", 2, false) == BKS_NO_TEXT);
+    CHECK(bks_set_span(good, 2, "\x80", 1, true) == BKS_INVALID_UTF8);
+    CHECK(bks_set_span(good, 2, "\xED\xA0\x80", 3, true) == BKS_INVALID_UTF8);
+    CHECK(bks_set_span(good, 2, "\xC0\x80", 2, false) == BKS_INVALID_UTF8);
     CHECK(bks_set_span(good, 2, "", 0, true) == 0);
 }
 

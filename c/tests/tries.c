@@ -63,8 +63,8 @@ static void texts(const bks_trie *trie) {
     CHECK(of_text(trie, text, 0, values, 3) == 0);
     copied_pieces(trie, text, size, points, count, count);
     copied_pieces(trie, text, size, points, count, 100);
-    CHECK(of_text(trie, "ab\xFF", 3, values, 3) == BKS_NO_TEXT);
-    CHECK(of_text(trie, "\xED\xB0\x80", 3, values, 3) == BKS_NO_TEXT);
+    CHECK(of_text(trie, "ab\xFF", 3, values, 3) == BKS_INVALID_UTF8);
+    CHECK(of_text(trie, "\xED\xB0\x80", 3, values, 3) == BKS_INVALID_UTF8);
 }
 
 /* Bytes, and how many ill-formed parts these are: tables 3-8 to 3-11 of the Unicode Standard 15,

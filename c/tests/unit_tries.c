@@ -51,7 +51,7 @@ typedef struct match {
     int64_t count;
 } match;
 
-static const match no_text = {BKS_NO_TEXT, STAYS, BKS_NO_TEXT};
+static const match no_text = {BKS_INVALID_UTF8, STAYS, BKS_INVALID_UTF8};
 
 /* A text in UTF-8, which may be ill-formed, before a closed page. */
 static void finds(const void *units, size_t size, const char *text, size_t bytes, match wanted) {
@@ -216,14 +216,14 @@ static void ill_formed(void) {
         {"30 61 B0 62 8064", "ab\xE2\x82", {2, 100, 2}},
         {"30 61 B0 62 8064", "abc\xF0\x9F\x98", {2, 100, 2}},
         {"30 61 B0 62 8064", "b\xFF", {BKS_NO_KEY, STAYS, 0}},
-        {"30 61 B0 62 8064", "\xFF" "ab", {BKS_NO_TEXT, STAYS, BKS_NO_TEXT}},
-        {"30 61 B0 62 8064", "\x80", {BKS_NO_TEXT, STAYS, BKS_NO_TEXT}},
-        {"30 61 B0 62 8064", "\xC3", {BKS_NO_TEXT, STAYS, BKS_NO_TEXT}},
-        {"30 61 B0 62 8064", "\xED\xA0\xBD", {BKS_NO_TEXT, STAYS, BKS_NO_TEXT}},
+        {"30 61 B0 62 8064", "\xFF" "ab", {BKS_INVALID_UTF8, STAYS, BKS_INVALID_UTF8}},
+        {"30 61 B0 62 8064", "\x80", {BKS_INVALID_UTF8, STAYS, BKS_INVALID_UTF8}},
+        {"30 61 B0 62 8064", "\xC3", {BKS_INVALID_UTF8, STAYS, BKS_INVALID_UTF8}},
+        {"30 61 B0 62 8064", "\xED\xA0\xBD", {BKS_INVALID_UTF8, STAYS, BKS_INVALID_UTF8}},
         {"8007", "a\xFF", {0, 7, 1}},
-        {"8007", "\xFF", {BKS_NO_TEXT, STAYS, BKS_NO_TEXT}},
+        {"8007", "\xFF", {BKS_INVALID_UTF8, STAYS, BKS_INVALID_UTF8}},
         {"", "a\xFF", {BKS_NO_KEY, STAYS, 0}},
-        {"", "\xFF", {BKS_NO_TEXT, STAYS, BKS_NO_TEXT}},
+        {"", "\xFF", {BKS_INVALID_UTF8, STAYS, BKS_INVALID_UTF8}},
     };
     for (size_t i = 0; i < sizeof texts / sizeof texts[0]; i++) {
         uint8_t units[16];
@@ -245,7 +245,7 @@ static void at_each_position(void) {
         int32_t value = STAYS;
         int64_t longest = bks_units_longest_utf8(units, size, text + i, LONG - i, &value);
         int64_t count = bks_units_prefixes_utf8(units, size, text + i, LONG - i, NULL, 0);
-        if (i == LONG - 1) CHECK(longest == BKS_NO_TEXT && count == BKS_NO_TEXT);
+        if (i == LONG - 1) CHECK(longest == BKS_INVALID_UTF8 && count == BKS_INVALID_UTF8);
         else if (i % 3 > 0) CHECK(longest == BKS_NO_KEY && count == 0);
         else CHECK(longest == 2 && value == 100 && count == 2);
     }

@@ -12,13 +12,13 @@ static int64_t room_for(size_t ranges, boundaries *found) {
     return found->made ? (int64_t)room : (PyErr_NoMemory(), -1);
 }
 
-/* Returns the memory that so many boundaries do not need. A count below 0 is an `enum bks_refusal`. Returns
+/* Returns the memory that so many boundaries do not need. A count below 0 is an `enum bks_error`. Returns
  * 0, or -1 with an exception set. */
 static int fit(int64_t count, boundaries *found) {
     if (count < 0) {
         PyMem_Free(found->made);
         found->made = NULL;
-        return raise_refusal(count), -1;
+        return raise_error(count), -1;
     }
     uint32_t *smaller = PyMem_Realloc(found->made, ((size_t)count + 1) * sizeof *smaller);
     if (smaller) found->ends = found->made = smaller;
@@ -26,7 +26,7 @@ static int fit(int64_t count, boundaries *found) {
     return 0;
 }
 
-/* Raises NoSet for the first number above 0x10FFFF. Returns 0, or -1 with an exception set. */
+/* Raises InvalidSet for the first number above 0x10FFFF. Returns 0, or -1 with an exception set. */
 static int test_points(const numbers *given) {
     const uint32_t *points = given->copy;
     uint32_t highest = 0;
@@ -78,7 +78,7 @@ static int read_range(PyObject *given, Py_ssize_t index, bks_interval *range) {
     if (last < 0) return -1;
     *range = (bks_interval){(uint32_t)first, (uint32_t)last};
     if (first <= last) return 0;
-    raise_message("NoSet", PyUnicode_FromFormat("pairs[%zd]: the range 0x%x..=0x%x ends before it starts", index,
+    raise_message("InvalidSet", PyUnicode_FromFormat("pairs[%zd]: the range 0x%x..=0x%x ends before it starts", index,
                                                 (int)first, (int)last));
     return -1;
 }

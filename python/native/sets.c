@@ -43,10 +43,10 @@ static int read_end(PyObject *all, Py_ssize_t index, uint32_t *ends) {
     int64_t number = code_point(given);
     if (number == POINT_ERROR) return -1;
     if (number == POINT_OUTSIDE || number > 0x110000)
-        raise_message("NoSet", PyUnicode_FromFormat("ends[%zd]: expected a number from 0 to 0x110000, found %S", index,
+        raise_message("InvalidSet", PyUnicode_FromFormat("ends[%zd]: expected a number from 0 to 0x110000, found %S", index,
                                                     given));
     else if (index && number <= ends[index - 1])
-        raise_message("NoSet", PyUnicode_FromFormat("ends[%zd]: expected more than %u, found %S", index,
+        raise_message("InvalidSet", PyUnicode_FromFormat("ends[%zd]: expected more than %u, found %S", index,
                                                     ends[index - 1], given));
     ends[index] = (uint32_t)number;
     return PyErr_Occurred() ? -1 : 0;
@@ -67,7 +67,7 @@ static PyObject *set_new(PyTypeObject *type, PyObject *args, PyObject *keywords)
     Py_DECREF(all);
     if (is_set) return (PyObject *)set_owning(type, ends, (size_t)count);
     PyMem_Free(ends);
-    return is_read ? raise_message("NoSet", PyUnicode_FromFormat("ends: expected an even count, found %zd", count)) : NULL;
+    return is_read ? raise_message("InvalidSet", PyUnicode_FromFormat("ends: expected an even count, found %zd", count)) : NULL;
 }
 
 /* The set of boundaries that are packed as uint32_t. */
@@ -80,7 +80,7 @@ static PyObject *set_from_bytes(PyTypeObject *type, PyObject *args) {
     memcpy(ends, PyBytes_AsString(packed), count * sizeof *ends);
     if (bks_set_test(ends, count)) return (PyObject *)set_owning(type, ends, count);
     PyMem_Free(ends);
-    return raise_error("NoSet", NULL);
+    return raise_error("InvalidSet", NULL);
 }
 
 static PyObject *set_from_points(PyTypeObject *type, PyObject *given) {
@@ -98,13 +98,13 @@ static int freeze(code_point_set *self) {
     uint64_t nothing[1];
     if (self->table) return 0;
     int64_t count = bks_set_freeze(self->ends, self->count, nothing, 0);
-    if (count < 0) return raise_refusal(count), -1;
+    if (count < 0) return raise_error(count), -1;
     PyObject *words = PyBytes_FromStringAndSize(NULL, (Py_ssize_t)(count * (int64_t)sizeof *self->table));
     uint64_t *table = words ? (uint64_t *)(void *)PyBytes_AsString(words) : NULL;
     int64_t written = table ? bks_set_freeze(self->ends, self->count, table, (size_t)count) : 0;
     if (!table || written != count) {
         Py_XDECREF(words);
-        return written < 0 ? (raise_refusal(written), -1) : -1;
+        return written < 0 ? (raise_error(written), -1) : -1;
     }
     self->words = words;
     self->table = table;
@@ -264,7 +264,7 @@ static PyObject *set_span_back(code_point_set *self, PyObject *const *args, Py_s
 PyObject *set_like(const code_point_set *like, uint32_t *ends, int64_t count) {
     if (count < 0) {
         PyMem_Free(ends);
-        return raise_refusal(count);
+        return raise_error(count);
     }
     code_point_set *made = set_owning(Py_TYPE(like), ends, (size_t)count);
     if (!made || !like->is_frozen) return (PyObject *)made;

@@ -34,17 +34,17 @@ void *raise_message(const char *name, PyObject *message) {
     return NULL;
 }
 
-void *raise_refusal(int64_t refusal) {
-    switch (refusal) {
+void *raise_error(int64_t error) {
+    switch (error) {
         case BKS_NO_MEMORY: return raise_error("NoMemory", NULL);
-        case BKS_NO_TRIE: return raise_error("NoTrie", NULL);
-        case BKS_NO_FORM: return raise_error("NoForm", NULL);
+        case BKS_INVALID_TRIE: return raise_error("InvalidTrie", NULL);
+        case BKS_INVALID_FORMAT: return raise_error("InvalidFormat", NULL);
         case BKS_WIDE_VALUE: return raise_error("WideValue", NULL);
         case BKS_TOO_LARGE: return raise_error("TooLarge", NULL);
         case BKS_LONG_KEY: return raise_error("LongKey", NULL);
         case BKS_SAME_KEY: return raise_error("SameKey", NULL);
-        case BKS_NO_SET: return raise_error("NoSet", NULL);
-        default: return PyErr_Format(PyExc_SystemError, "unexpected result %d", (int)refusal);
+        case BKS_INVALID_SET: return raise_error("InvalidSet", NULL);
+        default: return PyErr_Format(PyExc_SystemError, "unexpected result %d", (int)error);
     }
 }
 
@@ -162,7 +162,7 @@ int64_t checked_code_point(PyObject *given) {
 int64_t code_point_of_set(PyObject *given) {
     int64_t found = code_point(given);
     if (found == POINT_ERROR || (found >= 0 && found <= 0x10FFFF)) return found;
-    raise_message("NoSet", PyUnicode_FromFormat("code point: expected a number from 0 to 0x10FFFF, found %S", given));
+    raise_message("InvalidSet", PyUnicode_FromFormat("code point: expected a number from 0 to 0x10FFFF, found %S", given));
     return POINT_ERROR;
 }
 

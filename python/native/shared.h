@@ -32,8 +32,8 @@ void *raise_error(const char *name, PyObject *argument);
 /* Raises it with a message, a new reference that it takes over, or NULL with an exception set. */
 void *raise_message(const char *name, PyObject *message);
 
-/* Raises the exception for an `enum bks_refusal`. */
-void *raise_refusal(int64_t refusal);
+/* Raises the exception for an `enum bks_error`. */
+void *raise_error(int64_t error);
 
 /* Raises TypeError: `name`: expected `expected`, found the type of `given`. */
 void *raise_type(const char *name, const char *expected, PyObject *given);
@@ -99,7 +99,7 @@ int64_t code_point(PyObject *given);
 /* As `code_point`, but raises ValueError for an int outside 0..=0xFFFFFFFF. */
 int64_t checked_code_point(PyObject *given);
 
-/* As `code_point`, but raises NoSet for an int outside 0..=0x10FFFF. */
+/* As `code_point`, but raises InvalidSet for an int outside 0..=0x10FFFF. */
 int64_t code_point_of_set(PyObject *given);
 
 /* Returns an index of a slice, as `text[index:]` means it, and `otherwise` if it is NULL or None. Returns
@@ -124,7 +124,7 @@ typedef struct {
     size_t size;
     Py_hash_t hash;         /* -1 if not computed yet */
     bool is_fixed;          /* whether nobody can change the bytes: the owner is a bytes object */
-    int64_t entries;        /* how many a unit trie has, or BKS_NO_TRIE; BKS_NO_MEMORY if not counted yet */
+    int64_t entries;        /* how many a unit trie has, or BKS_INVALID_TRIE; BKS_NO_MEMORY if not counted yet */
     bks_trie trie;
 } over_bytes;
 
@@ -205,7 +205,7 @@ typedef struct {
 bool is_set(PyObject *object);
 
 /* Returns a new set that takes over `ends`, which PyMem_Malloc gave: of a type, or of the class of
- * another set. A count below 0 is an `enum bks_refusal`. */
+ * another set. A count below 0 is an `enum bks_error`. */
 code_point_set *set_owning(PyTypeObject *type, uint32_t *ends, size_t count);
 PyObject *set_like(const code_point_set *like, uint32_t *ends, int64_t count);
 

@@ -5,7 +5,7 @@ import itertools
 import operator
 import unittest
 
-from bekstaudi import CodePointSet, FrozenCodePointSet, NoSet
+from bekstaudi import CodePointSet, FrozenCodePointSet, InvalidSet
 from samples import copies
 
 # Boundaries of few and of many ranges.
@@ -96,7 +96,7 @@ class Sets(unittest.TestCase):
             for wrong in ({0x41, None}, {1.5}, {"ab"}):
                 with self.assertRaises(TypeError):
                     operation(self.letters, wrong)
-            with self.assertRaises(NoSet):
+            with self.assertRaises(InvalidSet):
                 operation(self.letters, {-1})
 
     def test_methods_of_python_sets(self):
@@ -166,7 +166,7 @@ class Sets(unittest.TestCase):
         self.assertEqual(CodePointSet.from_ranges([]), CodePointSet())
         self.assertEqual(len(CodePointSet.from_ranges([(0, 0x10FFFF), (5, 6)])), 0x110000)
         for wrong in ((5, 4), (-1, 4), (0, 0x110000), (-9, -8)):
-            with self.assertRaises(NoSet):
+            with self.assertRaises(InvalidSet):
                 CodePointSet.from_ranges([wrong, (0, 0x10FFFF)])
 
     def test_of_characters(self):
@@ -206,7 +206,7 @@ class Sets(unittest.TestCase):
         for given in outside:
             number = next(it for it in given if not 0 <= it <= 0x10FFFF)
             for make in (CodePointSet.from_chars, FrozenCodePointSet.from_chars, self.letters.union, self.letters.isdisjoint):
-                with self.assertRaisesRegex(NoSet, f"^code point: expected a number from 0 to 0x10FFFF, found {number}$"):
+                with self.assertRaisesRegex(InvalidSet, f"^code point: expected a number from 0 to 0x10FFFF, found {number}$"):
                     make(given)
         for wrong in (5, None, [None], [1.5], ["ab"], [b"a"], array.array("d", [1.0]), 5.0, object()):
             for make in (CodePointSet.from_chars, self.letters.union, self.letters.isdisjoint, self.letters.issuperset):
@@ -229,8 +229,8 @@ class Sets(unittest.TestCase):
                 made = kind.from_ranges(given if kind is CodePointSet else pairs)
                 self.assertEqual((made.ends, type(made)), ((0x41, 0x5B, 0x61, 0x7B), kind))
         for wrong, error, said in (
-            ([(1, 2), (5, 4)], NoSet, r"^pairs\[1\]: the range 0x5..=0x4 ends before it starts$"),
-            ([(1, 0x110000)], NoSet, "^code point: expected a number from 0 to 0x10FFFF, found 1114112$"),
+            ([(1, 2), (5, 4)], InvalidSet, r"^pairs\[1\]: the range 0x5..=0x4 ends before it starts$"),
+            ([(1, 0x110000)], InvalidSet, "^code point: expected a number from 0 to 0x10FFFF, found 1114112$"),
             ([(1, 2), (1, 2, 3)], ValueError, r"^pairs\[1\]: expected a first and a last code point, found \(1, 2, 3\)$"),
             ([()], ValueError, r"^pairs\[0\]: expected a first and a last code point, found \(\)$"),
             ("ab", ValueError, r"^pairs\[0\]: expected a first and a last code point, found 'a'$"),
@@ -390,7 +390,7 @@ class Sets(unittest.TestCase):
 
     def test_lists_that_are_no_sets(self):
         for ends in ([1], [2, 1], [1, 1], [0, 0x110001], [-1, 4], [1, 1 << 40]):
-            with self.assertRaises(NoSet):
+            with self.assertRaises(InvalidSet):
                 CodePointSet(ends)
         for ends, said in (
             ([1], r"^ends: expected an even count, found 1$"),
@@ -398,7 +398,7 @@ class Sets(unittest.TestCase):
             ([0, 0x110001], r"^ends\[1\]: expected a number from 0 to 0x110000, found 1114113$"),
             ([-5, 7], r"^ends\[0\]: expected a number from 0 to 0x110000, found -5$"),
         ):
-            with self.assertRaisesRegex(NoSet, said):
+            with self.assertRaisesRegex(InvalidSet, said):
                 CodePointSet(ends)
         with self.assertRaises(TypeError):
             CodePointSet("AZ")

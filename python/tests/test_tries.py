@@ -1,7 +1,7 @@
 """Tries: look-ups, ranges, sets of a value, and building."""
 import unittest
 
-from bekstaudi import CodePointSet, NoForm, TooLarge, Trie, TrieRefused, WideValue
+from bekstaudi import CodePointSet, InvalidFormat, TooLarge, Trie, InvalidTrie, WideValue
 from samples import NAMES, copies, read, runs_of
 
 
@@ -144,14 +144,14 @@ class Tries(unittest.TestCase):
         faults["EMPTY_DATA"] = data[:8] + b"\0\0" + data[10:]
         faults["SHORT_DATA"] = data[:8] + b"\x40\0" + data[10:]
         for name, fault in faults.items():
-            with self.assertRaises(TrieRefused) as told:
+            with self.assertRaises(InvalidTrie) as told:
                 Trie(bytes(fault))
             self.assertEqual(told.exception.status, name)
             self.assertRegex(str(told.exception), rf"^the bytes are not a trie: [a-z0-9 ,-]{{15,}} \({name}\)$")
             told.exception.more = 5
             for it in copies(told.exception):
                 self.assertEqual((it.status, str(it), it.more), (name, str(told.exception), 5))
-        with self.assertRaises(TrieRefused):
+        with self.assertRaises(InvalidTrie):
             Trie(b"")
 
 
@@ -185,7 +185,7 @@ class Building(unittest.TestCase):
             with self.assertRaises(WideValue):
                 Trie.build([(0, 1, value)])
         for width in (0, 3, (1 << 32) + 1):
-            with self.assertRaises(NoForm):
+            with self.assertRaises(InvalidFormat):
                 Trie.build([], width=width)
         with self.assertRaisesRegex(TooLarge, "too large"):
             Trie.build([(it, it, it) for it in range(0x110000)])
@@ -200,7 +200,7 @@ class Building(unittest.TestCase):
         ):
             with self.assertRaisesRegex(WideValue, said):
                 Trie.build(**given, width=1)
-        with self.assertRaisesRegex(NoForm, "1, 2 or 4 bytes, found 3"):
+        with self.assertRaisesRegex(InvalidFormat, "1, 2 or 4 bytes, found 3"):
             Trie.build([], width=3)
 
 if __name__ == "__main__":

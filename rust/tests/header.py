@@ -7,7 +7,7 @@ import re
 NUMBERS = {f"{kind}{bits}": f"{'u' * (kind == 'u')}int{bits}_t" for kind in "iu" for bits in (8, 16, 32, 64)}
 NUMBERS.update({"usize": "size_t", "bool": "bool"})
 # The one enum of Rust that the header has too.
-ERRORS = "bks_refusal"
+ERRORS = "bks_error"
 FUNCTION = re.compile(r'(?s)pub unsafe extern "C" fn (bks_\w+)\((.*?)\) -> ([\w:]+) \{')
 STRUCT = re.compile(r"(?ms)#\[repr\(C\)\]\n(?:#\[derive\(Clone, Copy\)\]\n)?pub struct (\w+) \{\n(.*?)^\}")
 # An enum whose variants have numbers, each with lines of docs or none.

@@ -72,10 +72,10 @@ OTHER_HEADERS = [
     ("bks_cursor *cursor, uint16_t unit", "const bks_cursor *cursor, uint16_t unit"),
     ("uint16_t index3_null_offset;      /*", "uint16_t shifted12_high_start;   /*"),
     ("    size_t start;\n    size_t size;", "    uint32_t start;\n    size_t size;"),
-    ("BKS_NO_SET = -11 ", "BKS_NO_SET = -2 "),
+    ("BKS_INVALID_SET = -11 ", "BKS_INVALID_SET = -2 "),
     ("    BKS_LONG_KEY = -9, ", "    BKS_WIDE_KEY = -9, "),
     ("    BKS_NO_KEY = -4, ", "    "),
-    ("BKS_NO_SET = -11 ", "BKS_NO_SET = -11, BKS_NO_WORD = -12 "),
+    ("BKS_INVALID_SET = -11 ", "BKS_INVALID_SET = -11, BKS_NO_WORD = -12 "),
     ("} bks_word;", "    int32_t other;\n} bks_word;"),
 ]
 # What each source of the crates in TESTED sees.

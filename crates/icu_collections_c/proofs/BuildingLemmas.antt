@@ -30,8 +30,8 @@ use Rattle.icu_trie_builder.proofs.CallerLemmas.{answer-of-map, error-of-map}
 use Rattle.icu_collections_c.specs.Building.{AreFitting, IsBuilt, IsForm, IsTooLargeFor, IsTrieOf, IsWhyNotBuilt, covers, last_row, most_bytes, row_answer, row_value}
 use Rattle.icu_collections_c.specs.BytesTrie.{value_width}
 use Rattle.icu_collections_c.specs.Inside.BuiltValues.{AreWritesOf, IsBuiltOf, IsTooLargeOf, IsTrieOfNumbers, of_build, of_write, row_of}
-use Rattle.icu_collections_c.specs.declared.status.Refusal.{Refusal}
-use Rattle.icu_collections_c.specs.declared.status.Refusal.TheVariants as refusal
+use Rattle.icu_collections_c.specs.declared.error.Error.{Error}
+use Rattle.icu_collections_c.specs.declared.error.Error.TheVariants as error_of
 use Rattle.icu_collections_c.specs.declared.building.Row.{Row}
 
 -- ---- rows and writes
@@ -196,33 +196,33 @@ module _ (width : ℕ) (rows : List Row) (default error : ℕ) (kind : TrieType)
     size = subst (λ x. length bytes ≤ most_bytes (length rows) x width) (sym n-is) b.size;
   }
 
-  pub if_ok-numbers : {V : Type 0} (items : V → List ℕ) (r : Result V Refusal)
+  pub if_ok-numbers : {V : Type 0} (items : V → List ℕ) (r : Result V Error)
       → IfOk r (λ v. IsBuiltOf (λ x. x) (λ cell. Some (number_of width cell)) width (fitting (2 ^ (8 * width))) rows default error kind
       (items v))
       → IfOk r (λ v. IsBuilt rows default error n width (items v))
   if_ok-numbers items (Ok v) h = built-numbers (items v) h
   if_ok-numbers items (Err e) h = tt
 
-  why-numbers : (F : Type 0) → value_width width ≡ width → (e : Refusal)
+  why-numbers : (F : Type 0) → value_width width ≡ width → (e : Error)
       → IsWhyNotBuilt (Unit {0}) F (IsTooLargeOf (λ x. x) (fitting (2 ^ (8 * width))) width rows default error kind) e
       → IsWhyNotBuilt (IsForm n width) F (IsTooLargeFor rows default error n width) e
-  why-numbers F w refusal.NoForm h = absurd (h tt)
-  why-numbers F w refusal.WideValue h = (form-known w, h.1)
-  why-numbers F w refusal.TooLarge h = (form-known w, h.1, by h.2)
+  why-numbers F w error_of.InvalidFormat h = absurd (h tt)
+  why-numbers F w error_of.WideValue h = (form-known w, h.1)
+  why-numbers F w error_of.TooLarge h = (form-known w, h.1, by h.2)
     where
       by : IsTooLargeOf (λ x. x) (fitting (2 ^ (8 * width))) width rows default error kind → IsTooLargeFor rows default error n width
       by (inl l) = inl l
       by (inr l) = inr (l.0, trie-numbers l.0 l.1, l.2, l.3, l.4)
-  why-numbers F w refusal.NoMemory h = (form-known w, h.1)
-  why-numbers F w refusal.NoTrie h = absurd h
-  why-numbers F w refusal.NoText h = absurd h
-  why-numbers F w refusal.NoKey h = absurd h
-  why-numbers F w refusal.NoEntries h = absurd h
-  why-numbers F w refusal.LongKey h = absurd h
-  why-numbers F w refusal.SameKey h = absurd h
-  why-numbers F w refusal.NoSet h = absurd h
+  why-numbers F w error_of.NoMemory h = (form-known w, h.1)
+  why-numbers F w error_of.InvalidTrie h = absurd h
+  why-numbers F w error_of.InvalidUtf8 h = absurd h
+  why-numbers F w error_of.NoKey h = absurd h
+  why-numbers F w error_of.InvalidEntries h = absurd h
+  why-numbers F w error_of.LongKey h = absurd h
+  why-numbers F w error_of.SameKey h = absurd h
+  why-numbers F w error_of.InvalidSet h = absurd h
 
-  pub if_err-numbers : {V : Type 0} (F : Type 0) → value_width width ≡ width → (r : Result V Refusal)
+  pub if_err-numbers : {V : Type 0} (F : Type 0) → value_width width ≡ width → (r : Result V Error)
       → IfErr r (IsWhyNotBuilt (Unit {0}) F (IsTooLargeOf (λ x. x) (fitting (2 ^ (8 * width))) width rows default error kind))
       → IfErr r (IsWhyNotBuilt (IsForm n width) F (IsTooLargeFor rows default error n width))
   if_err-numbers F w (Ok v) h = tt

@@ -12,11 +12,11 @@ use Rattle.std.proofs.lemmas.List.Elements.{All-head, All-tail}
 use Rattle.std.proofs.lemmas.List.Sums.{sum_by-cons}
 use Rattle.std.proofs.lemmas.Str.{encodes-chars, len_utf8_bounds, length-encode}
 use Rattle.icu_char16trie.specs.Matches.{text_units}
-use Rattle.icu_collections_c.specs.Status.{refused}
+use Rattle.icu_collections_c.specs.Status.{error_number}
 use Rattle.icu_collections_c.specs.UnitBuilding.{AnswersUnits}
 use Rattle.icu_collections_c.specs.UnitTexts.{key_lengths, key_units, keys_of}
-use Rattle.icu_collections_c.specs.declared.status.Refusal.{Refusal}
-use Rattle.icu_collections_c.specs.declared.status.Refusal.TheVariants.{NoMemory, NoTrie, NoText, NoKey, NoForm, WideValue, TooLarge, NoEntries, LongKey, SameKey, NoSet}
+use Rattle.icu_collections_c.specs.declared.error.Error.{Error}
+use Rattle.icu_collections_c.specs.declared.error.Error.TheVariants.{NoMemory, InvalidTrie, InvalidUtf8, NoKey, InvalidFormat, WideValue, TooLarge, InvalidEntries, LongKey, SameKey, InvalidSet}
 
 -- The next key of those that are left.
 pub keys_next : (rest ns : List ℕ) (i : ℕ) → i < length ns
@@ -71,18 +71,18 @@ length-key_lengths bytes [] = refl
 length-key_lengths bytes (n ∷ ns) = omega (arith, length-key_lengths (drop n bytes) ns)
 
 -- The number of an error is no count.
-pub no_count : (why : Refusal) (n : ℕ) → refused why ≡ pos n → ⊥
+pub no_count : (why : Error) (n : ℕ) → error_number why ≡ pos n → ⊥
 no_count NoMemory n e = cc
-no_count NoTrie n e = cc
-no_count NoText n e = cc
+no_count InvalidTrie n e = cc
+no_count InvalidUtf8 n e = cc
 no_count NoKey n e = cc
-no_count NoForm n e = cc
+no_count InvalidFormat n e = cc
 no_count WideValue n e = cc
 no_count TooLarge n e = cc
-no_count NoEntries n e = cc
+no_count InvalidEntries n e = cc
 no_count LongKey n e = cc
 no_count SameKey n e = cc
-no_count NoSet n e = cc
+no_count InvalidSet n e = cc
 
 pos_same : (a b : ℕ) → ◌≡◌ {A = ℤ} (pos a) (pos b) → a ≡ b
 pos_same a b e = cc

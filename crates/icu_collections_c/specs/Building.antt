@@ -10,10 +10,10 @@ use Rattle.icu_trie_binary.specs.declared.error.WriteError.{WriteError}
 use Rattle.icu_trie_builder.specs.Bounds.{IsTooLarge}
 use Rattle.icu_trie_builder.specs.Built.{IsWellBuilt}
 use Rattle.icu_collections_c.specs.BytesTrie.{fitting_in, value_width}
-use Rattle.icu_collections_c.specs.Status.{refused}
+use Rattle.icu_collections_c.specs.Status.{error_number}
 use Rattle.icu_collections_c.specs.declared.building.Row.{Row}
-use Rattle.icu_collections_c.specs.declared.status.Refusal.{Refusal}
-use Rattle.icu_collections_c.specs.declared.status.Refusal.TheVariants.{NoForm, WideValue, TooLarge, NoMemory}
+use Rattle.icu_collections_c.specs.declared.error.Error.{Error}
+use Rattle.icu_collections_c.specs.declared.error.Error.TheVariants.{InvalidFormat, WideValue, TooLarge, NoMemory}
 
 -- ---- what rows say
 -- Whether a row covers c: its first code point is at most 0x10FFFF, and c is between its first and
@@ -115,8 +115,8 @@ pub record HasBytes (P : List ℕ → Type 0) (old new : List ℕ) (n : ℕ) : T
   pub buffer : new ≡ written_whole bytes old
 
 -- Why there are no bytes. The reasons are listed in the order in which they are reported.
-abbrev pub IsWhyNotBuilt : Type 0 → Type 0 → Type 0 → Refusal → Type 0
-IsWhyNotBuilt form fitting large NoForm = ¬ form
+abbrev pub IsWhyNotBuilt : Type 0 → Type 0 → Type 0 → Error → Type 0
+IsWhyNotBuilt form fitting large InvalidFormat = ¬ form
 IsWhyNotBuilt form fitting large WideValue = form × ¬ fitting
 IsWhyNotBuilt form fitting large TooLarge = form × fitting × large
 IsWhyNotBuilt form fitting large NoMemory = form × fitting
@@ -128,5 +128,5 @@ abbrev pub AnswersBytes : Type 0 → Type 0 → Type 0 → (List ℕ → Type 0)
     → Type 0
 AnswersBytes form fitting large P old new returned =
     ((n : ℕ) × (returned ≡ pos n) × form × fitting × HasBytes P old new n)
-    ⊎ ((why : Refusal) × (returned ≡ refused why) × IsWhyNotBuilt form fitting large why
+    ⊎ ((why : Error) × (returned ≡ error_number why) × IsWhyNotBuilt form fitting large why
     × (new ≡ old))

@@ -6,9 +6,9 @@ use Rattle.icu_char16trie.specs.Grammar.{IsTrieOf}
 use Rattle.icu_char16trie.specs.LossyText.{key_text}
 use Rattle.icu_char16trie.specs.UnitMap.{UnitMap}
 use Rattle.icu_zerovec.specs.Buffers.{written}
-use Rattle.icu_collections_c.specs.Status.{refused}
+use Rattle.icu_collections_c.specs.Status.{error_number}
 use Rattle.icu_collections_c.specs.declared.listing.Word.{Word}
-use Rattle.icu_collections_c.specs.declared.status.Refusal.TheVariants.{NoMemory, NoTrie, TooLarge}
+use Rattle.icu_collections_c.specs.declared.error.Error.TheVariants.{NoMemory, InvalidTrie, TooLarge}
 
 -- An entry as it is listed: its key as UTF-8 bytes, and its value.
 abbrev pub shown : List ℕ × ℤ → List ℕ × ℤ
@@ -58,19 +58,19 @@ abbrev pub AnswersListing : List ℕ → List Word → List Word → List ℕ �
 AnswersListing units words words' texts texts' size size' returned =
     ((items : List (List ℕ × ℤ)) × AreItemsOf units items
     × (((n : ℕ) × (returned ≡ pos n) × HasItems items words words' texts texts' size' n)
-    ⊎ ((returned ≡ refused TooLarge) × AreTooMany items
+    ⊎ ((returned ≡ error_number TooLarge) × AreTooMany items
     × (words' ≡ words) × (texts' ≡ texts) × (size' ≡ size))))
-    ⊎ ((returned ≡ refused NoMemory) × (words' ≡ words) × (texts' ≡ texts) × (size' ≡ size))
+    ⊎ ((returned ≡ error_number NoMemory) × (words' ≡ words) × (texts' ≡ texts) × (size' ≡ size))
 
 -- The units are not a trie of any map.
 abbrev pub AreNoTrie : List ℕ → Type 0
 AreNoTrie units = (m : UnitMap) → IsTrieOf units m → ⊥
 
 -- The number of entries of the map whose trie the units are, or 2^63 - 1 if there are more.
--- Otherwise `NoTrie` if the units are not a trie, `NoMemory` if an allocation failed.
+-- Otherwise `InvalidTrie` if the units are not a trie, `NoMemory` if an allocation failed.
 abbrev pub AnswersCount : List ℕ → ℤ → Type 0
 AnswersCount units returned =
     ((n : ℕ) × (returned ≡ pos n) × ¬ (AreNoTrie units)
     × ((m : UnitMap) → IsTrieOf units m → n ≡ min (length m) (2 ^ 63 - 1)))
-    ⊎ ((returned ≡ refused NoTrie) × AreNoTrie units)
-    ⊎ (returned ≡ refused NoMemory)
+    ⊎ ((returned ≡ error_number InvalidTrie) × AreNoTrie units)
+    ⊎ (returned ≡ error_number NoMemory)

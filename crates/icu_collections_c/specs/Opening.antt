@@ -9,7 +9,7 @@ use Rattle.icu_trie_binary.specs.declared.error.BinaryError.TheVariants.{Short, 
 use Rattle.icu_collections_c.specs.declared.tries.Trie as kept
 use Rattle.icu_collections_c.specs.BytesTrie.{IsSoundOf, header_of, parts_of, value_width}
 
--- The numbers of the faults, as `enum bks_status` of bekstaudi.h names them.
+-- The numbers of the faults, as `enum bks_error` of bekstaudi.h names them.
 abbrev pub parts_status : CodePointTrieError → ℕ
 parts_status EmptyDataVector = 10
 parts_status InvalidNullValue = 11

@@ -5,23 +5,23 @@ use Rattle.std.specs.Str.{IsCharBoundary, IsUtf8, StartsWithNoChar, chars, encod
 use mathlib.Core.Bool.{beq}
 use Rattle.icu_utf.specs.Utf8.{EndsWithNoChar}
 use Rattle.icu_frozen_sets.specs.LongestSpans.{IsSpan, IsSpanBack}
-use Rattle.icu_collections_c.specs.Status.{refused}
-use Rattle.icu_collections_c.specs.declared.status.Refusal.TheVariants.{NoText}
+use Rattle.icu_collections_c.specs.Status.{error_number}
+use Rattle.icu_collections_c.specs.declared.error.Error.TheVariants.{InvalidUtf8}
 
 module _ (is_in : ℕ → Bool) (held : Bool) where
-  -- `NoText` exactly if the bytes are not empty and do not start with a character. Otherwise the
+  -- `InvalidUtf8` exactly if the bytes are not empty and do not start with a character. Otherwise the
   -- length of the span.
   abbrev pub AnswersSpan : List ℕ → ℤ → Type 0
   AnswersSpan bytes returned =
-      ((0 < length bytes) × StartsWithNoChar bytes × (returned ≡ refused NoText))
+      ((0 < length bytes) × StartsWithNoChar bytes × (returned ≡ error_number InvalidUtf8))
       ⊎ (¬ ((0 < length bytes) × StartsWithNoChar bytes)
       × ((n : ℕ) × (returned ≡ pos n) × IsSpan is_in held bytes n))
 
-  -- `NoText` exactly if the bytes are not empty and do not end with a character. Otherwise the
+  -- `InvalidUtf8` exactly if the bytes are not empty and do not end with a character. Otherwise the
   -- offset at which the span from the end starts.
   abbrev pub AnswersSpanBack : List ℕ → ℤ → Type 0
   AnswersSpanBack bytes returned =
-      ((0 < length bytes) × EndsWithNoChar bytes × (returned ≡ refused NoText))
+      ((0 < length bytes) × EndsWithNoChar bytes × (returned ≡ error_number InvalidUtf8))
       ⊎ (¬ ((0 < length bytes) × EndsWithNoChar bytes)
       × ((n : ℕ) × (returned ≡ pos n) × IsSpanBack is_in held bytes n))
 

@@ -8,10 +8,10 @@ use Rattle.icu_char16trie_builder.specs.declared.error.AddError.TheVariants as a
 use Rattle.icu_char16trie_builder.specs.declared.error.BuildError.{BuildError}
 use Rattle.icu_char16trie_builder.specs.declared.error.BuildError.TheVariants as build
 use Rattle.icu_collections_c.specs.Building.{HasBytes}
-use Rattle.icu_collections_c.specs.Status.{refused}
+use Rattle.icu_collections_c.specs.Status.{error_number}
 use Rattle.icu_collections_c.specs.UnitTries.{units_of}
-use Rattle.icu_collections_c.specs.declared.status.Refusal.{Refusal}
-use Rattle.icu_collections_c.specs.declared.status.Refusal.TheVariants.{NoEntries, LongKey, SameKey, TooLarge, NoMemory}
+use Rattle.icu_collections_c.specs.declared.error.Error.{Error}
+use Rattle.icu_collections_c.specs.declared.error.Error.TheVariants.{InvalidEntries, LongKey, SameKey, TooLarge, NoMemory}
 
 -- ---- what is given
 -- There is a value for each length, and there are enough units for all keys.
@@ -50,19 +50,19 @@ pub record AreUnitsOf (m : UnitMap) (bytes : List ℕ) : Type 0 where
   pub bound : length bytes ≤ 2 * most_units m
 
 -- Why there is no trie, by the error of the builder.
-abbrev pub of_add : AddError → Refusal
+abbrev pub of_add : AddError → Error
 of_add add.KeyTooLong = LongKey
 of_add add.Duplicate = SameKey
 of_add add.Memory = NoMemory
 
 -- The same for the errors of the last step, which builds the units.
-abbrev pub of_build : BuildError → Refusal
+abbrev pub of_build : BuildError → Error
 of_build build.TooLarge = TooLarge
 of_build (build.Entry e) = of_add e
 of_build build.Memory = NoMemory
 
 -- An entry is rejected if it is not new, or if an allocation failed.
-abbrev pub IsWhyNotAdded : Type 0 → Refusal → Type 0
+abbrev pub IsWhyNotAdded : Type 0 → Error → Type 0
 IsWhyNotAdded fresh SameKey = ¬ fresh
 IsWhyNotAdded fresh NoMemory = Unit {0}
 IsWhyNotAdded fresh _ = ⊥
@@ -70,8 +70,8 @@ IsWhyNotAdded fresh _ = ⊥
 -- Why no unit trie is built: the entries are not given, else a key is too long, else a key is there
 -- twice, else the map is too large. Or an allocation failed, which may be reported before the last
 -- two.
-abbrev pub IsWhyNotBuilt : List ℕ → List ℕ → List ℤ → Refusal → Type 0
-IsWhyNotBuilt keys lengths values NoEntries = ¬ (HasEntries keys lengths values)
+abbrev pub IsWhyNotBuilt : List ℕ → List ℕ → List ℤ → Error → Type 0
+IsWhyNotBuilt keys lengths values InvalidEntries = ¬ (HasEntries keys lengths values)
 IsWhyNotBuilt keys lengths values LongKey =
     HasEntries keys lengths values × ¬ (All (λ n. n ≤ 65535) lengths)
 IsWhyNotBuilt keys lengths values SameKey =
@@ -102,5 +102,5 @@ pub record HasUnits (keys lengths : List ℕ) (values : List ℤ) (old new : Lis
 abbrev pub AnswersUnits : List ℕ → List ℕ → List ℤ → List ℕ → List ℕ → ℤ → Type 0
 AnswersUnits keys lengths values old new returned =
     ((n : ℕ) × (returned ≡ pos n) × HasUnits keys lengths values old new n)
-    ⊎ ((why : Refusal) × (returned ≡ refused why) × IsWhyNotBuilt keys lengths values why
+    ⊎ ((why : Error) × (returned ≡ error_number why) × IsWhyNotBuilt keys lengths values why
     × (new ≡ old))

@@ -5,9 +5,9 @@ use Rattle.icu_char16trie.specs.Matches.{text_units}
 use Rattle.icu_char16trie.specs.UnitMap.{UnitMap, after_all}
 use Rattle.icu_zerovec.specs.Buffers.{written}
 use Rattle.icu_collections_c.specs.Listing.{fitting, texts_of, words_from}
-use Rattle.icu_collections_c.specs.Status.{refused}
+use Rattle.icu_collections_c.specs.Status.{error_number}
 use Rattle.icu_collections_c.specs.declared.listing.Word.{Word}
-use Rattle.icu_collections_c.specs.declared.status.Refusal.TheVariants.{NoMemory, NoText}
+use Rattle.icu_collections_c.specs.declared.error.Error.TheVariants.{NoMemory, InvalidUtf8}
 
 -- An entry as it is listed: the prefix and the rest of its key, both as UTF-8 bytes, and its value.
 abbrev pub shown_below : List ℕ → List ℕ × ℤ → List ℕ × ℤ
@@ -32,12 +32,12 @@ pub record HasPage (items : List (List ℕ × ℤ)) (words words' : List Word) (
       ≡ written (texts_of (fitting (length words) (length texts) items)) texts
 
 -- If the bytes are a `text`: the number of items that fit, and the buffers hold these; or
--- `NoMemory` if an allocation failed. If they are not: `NoText`. After an error nothing is written.
+-- `NoMemory` if an allocation failed. If they are not: `InvalidUtf8`. After an error nothing is written.
 abbrev pub AnswersPage : Type 0 → List (List ℕ × ℤ) → List Word → List Word → List ℕ → List ℕ → ℕ
     → ℕ → ℤ → Type 0
 AnswersPage text items words words' texts texts' size size' returned =
     (text × (n : ℕ) × (returned ≡ pos n) × HasPage items words words' texts texts' size' n)
-    ⊎ (text × (returned ≡ refused NoMemory) × (words' ≡ words) × (texts' ≡ texts)
+    ⊎ (text × (returned ≡ error_number NoMemory) × (words' ≡ words) × (texts' ≡ texts)
     × (size' ≡ size))
-    ⊎ (¬ text × (returned ≡ refused NoText) × (words' ≡ words) × (texts' ≡ texts)
+    ⊎ (¬ text × (returned ≡ error_number InvalidUtf8) × (words' ≡ words) × (texts' ≡ texts)
     × (size' ≡ size))

@@ -4,9 +4,9 @@ use Rattle.std.specs.Str.{chars}
 use Rattle.icu_char16trie.specs.Matches.{match_at}
 use Rattle.icu_frozen_sets.specs.TextFronts.{IsTextUpTo}
 use Rattle.icu_zerovec.specs.Buffers.{written}
-use Rattle.icu_collections_c.specs.Status.{refused}
+use Rattle.icu_collections_c.specs.Status.{error_number}
 use Rattle.icu_collections_c.specs.UnitTries.{StartsIllFormed}
-use Rattle.icu_collections_c.specs.declared.status.Refusal.TheVariants.{NoText}
+use Rattle.icu_collections_c.specs.declared.error.Error.TheVariants.{InvalidUtf8}
 use Rattle.icu_collections_c.specs.declared.unit_prefixes.Prefix.{Prefix}
 
 -- A prefix as C sees it, from its length and its value.
@@ -47,12 +47,12 @@ GivesTextPrefixes HasValue text old new n =
     n
 
 -- For bytes that may be ill-formed, whose longest UTF-8 prefix is the text: the prefixes of the
--- text, and 2^63 - 1 if there are more, one after each byte of a text of that size. `NoText`, with
+-- text, and 2^63 - 1 if there are more, one after each byte of a text of that size. `InvalidUtf8`, with
 -- the buffer unchanged, exactly if the bytes are not empty and do not start with a character.
 abbrev pub AnswersPrefixes : (List ℕ → ℕ → Option ℤ → Type 0) → List ℕ → List Prefix → List Prefix
     → ℤ → Type 0
 AnswersPrefixes HasValue bytes old new returned =
-    (StartsIllFormed bytes × (returned ≡ refused NoText) × (new ≡ old))
+    (StartsIllFormed bytes × (returned ≡ error_number InvalidUtf8) × (new ≡ old))
     ⊎ (¬ (StartsIllFormed bytes)
     × ((n : ℕ) × IsTextUpTo bytes n × ((count : ℕ) × (returned ≡ pos (min count (2 ^ 63 - 1)))
     × GivesTextPrefixes HasValue (take n bytes) old new count)))

@@ -3,10 +3,10 @@ use Rattle.std.specs.Prelude.{◌≡◌, ◌⊎◌, ℕ, ℤ, Bool, List, [], �
 use Rattle.std.specs.List.{flat_map}
 use Rattle.std.specs.Str.{IsUtf8}
 use Rattle.icu_char16trie.specs.Matches.{text_units}
-use Rattle.icu_collections_c.specs.Status.{refused}
+use Rattle.icu_collections_c.specs.Status.{error_number}
 use Rattle.icu_collections_c.specs.UnitBuilding.{AnswersUnits, HasEntries}
 use Rattle.icu_collections_c.specs.UnitTries.{GivesValue}
-use Rattle.icu_collections_c.specs.declared.status.Refusal.TheVariants.{NoEntries, NoMemory, NoText}
+use Rattle.icu_collections_c.specs.declared.error.Error.TheVariants.{InvalidEntries, NoMemory, InvalidUtf8}
 
 -- If the bytes are a `text`: what it `gives`. If they are not: false, and the old value is
 -- unchanged.
@@ -31,14 +31,14 @@ key_lengths keys = map (λ key. length (text_units key)) keys
 abbrev pub AnswersTranscoded : List (List ℕ) → List ℤ → List ℕ → List ℕ → ℤ → Type 0
 AnswersTranscoded keys values old new returned =
     AnswersUnits (key_units keys) (key_lengths keys) values old new returned
-    ⊎ ((returned ≡ refused NoMemory) × (new ≡ old))
+    ⊎ ((returned ≡ error_number NoMemory) × (new ≡ old))
 
--- `NoEntries` if the entries are not given, else `NoText` if a key is not UTF-8; the buffer is then
+-- `InvalidEntries` if the entries are not given, else `InvalidUtf8` if a key is not UTF-8; the buffer is then
 -- unchanged. Else what is built of the UTF-16 units of the keys.
 abbrev pub AnswersTextUnits : List ℕ → List ℕ → List ℤ → List ℕ → List ℕ → ℤ → Type 0
 AnswersTextUnits keys lengths values old new returned =
-    (¬ (HasEntries keys lengths values) × (returned ≡ refused NoEntries) × (new ≡ old))
+    (¬ (HasEntries keys lengths values) × (returned ≡ error_number InvalidEntries) × (new ≡ old))
     ⊎ (HasEntries keys lengths values × ¬ (All IsUtf8 (keys_of keys lengths))
-    × (returned ≡ refused NoText) × (new ≡ old))
+    × (returned ≡ error_number InvalidUtf8) × (new ≡ old))
     ⊎ (HasEntries keys lengths values × All IsUtf8 (keys_of keys lengths)
     × AnswersTranscoded (keys_of keys lengths) values old new returned)

@@ -9,8 +9,8 @@ use Rattle.icu_char16trie.specs.declared.iterator.TrieResult.{TrieResult}
 use Rattle.icu_char16trie.specs.declared.iterator.TrieResult.TheVariants.{NoMatch, NoValue, FinalValue, Intermediate}
 use Rattle.icu_char16trie.specs.declared.place.Place.{Place}
 use Rattle.icu_collections_c.specs.BytesTrie.{cells_of}
-use Rattle.icu_collections_c.specs.Status.{refused}
-use Rattle.icu_collections_c.specs.declared.status.Refusal.TheVariants.{NoKey, NoText}
+use Rattle.icu_collections_c.specs.Status.{error_number}
+use Rattle.icu_collections_c.specs.declared.error.Error.TheVariants.{NoKey, InvalidUtf8}
 use Rattle.icu_collections_c.specs.declared.unit_tries.Cursor.{Cursor}
 
 -- The units in the bytes, two bytes each, the low byte first.
@@ -44,7 +44,7 @@ GivesValueAlong units w old told new =
 -- value is unchanged.
 abbrev pub GivesMatch : Option (ℕ × ℤ) → ℤ → ℤ → ℤ → Type 0
 GivesMatch (Some found) old returned new = (returned ≡ pos found.0) × (new ≡ found.1)
-GivesMatch None old returned new = (returned ≡ refused NoKey) × (new ≡ old)
+GivesMatch None old returned new = (returned ≡ error_number NoKey) × (new ≡ old)
 
 -- The result for a match with property P, or for none.
 abbrev pub GivesMatchThat : (Option (ℕ × ℤ) → Type 0) → ℤ → ℤ → ℤ → Type 0
@@ -56,11 +56,11 @@ abbrev pub StartsIllFormed : List ℕ → Type 0
 StartsIllFormed bytes = (0 < length bytes) × StartsWithNoChar bytes
 
 -- For bytes that may be ill-formed, whose longest UTF-8 prefix is the text: the result for a match
--- in the text with property P, or for none. `NoText`, with the old value unchanged, exactly if the
+-- in the text with property P, or for none. `InvalidUtf8`, with the old value unchanged, exactly if the
 -- bytes are not empty and do not start with a character.
 abbrev pub AnswersMatchInText : (List ℕ → Option (ℕ × ℤ) → Type 0) → List ℕ → ℤ → ℤ → ℤ → Type 0
 AnswersMatchInText P bytes old returned new =
-    (StartsIllFormed bytes × (returned ≡ refused NoText) × (new ≡ old))
+    (StartsIllFormed bytes × (returned ≡ error_number InvalidUtf8) × (new ≡ old))
     ⊎ (¬ (StartsIllFormed bytes)
     × ((n : ℕ) × IsTextUpTo bytes n × GivesMatchThat (P (take n bytes)) old returned new))
 

@@ -6,7 +6,7 @@ ghost use Rattle.icu_collections_c.specs.BytesTrie.{fitting_in};
 ghost use Rattle.icu_collections_c.specs.Inside.BuiltValues.{AreWritesOf, IsBuiltOf, IsTooLargeOf};
 
 use crate::cells::UnsignedValue;
-use crate::status::Refusal;
+use crate::error::Error;
 use icu_trie_binary::binary::{WriteError, to_binary};
 use icu_trie_builder::build_from_writes;
 use icu_trie_builder::error::BuildError;
@@ -24,38 +24,38 @@ pub struct Row {
     pub value: u32,
 }
 
-impl From<AllocError> for Refusal {
-    ghost use Rattle.icu_collections_c.specs.declared.status.Refusal.TheVariants.{NoMemory};
+impl From<AllocError> for Error {
+    ghost use Rattle.icu_collections_c.specs.declared.error.Error.TheVariants.{NoMemory};
 
     ghost from_gives = { λ _ e. e ≡ NoMemory };
 
-    fn from(_error: AllocError) -> Refusal {
-        Refusal::NoMemory
+    fn from(_error: AllocError) -> Error {
+        Error::NoMemory
     }
 }
 
-impl From<BuildError> for Refusal {
+impl From<BuildError> for Error {
     ghost use Rattle.icu_collections_c.specs.Inside.BuiltValues.{of_build};
 
     ghost from_gives = { λ x e. e ≡ of_build x };
 
-    fn from(error: BuildError) -> Refusal {
+    fn from(error: BuildError) -> Error {
         match error {
-            BuildError::TooLarge => Refusal::TooLarge,
-            BuildError::Memory => Refusal::NoMemory,
+            BuildError::TooLarge => Error::TooLarge,
+            BuildError::Memory => Error::NoMemory,
         }
     }
 }
 
-impl From<WriteError> for Refusal {
+impl From<WriteError> for Error {
     ghost use Rattle.icu_collections_c.specs.Inside.BuiltValues.{of_write};
 
     ghost from_gives = { λ x e. e ≡ of_write x };
 
-    fn from(error: WriteError) -> Refusal {
+    fn from(error: WriteError) -> Error {
         match error {
-            WriteError::Memory => Refusal::NoMemory,
-            _ => Refusal::TooLarge,
+            WriteError::Memory => Error::NoMemory,
+            _ => Error::TooLarge,
         }
     }
 }
@@ -108,7 +108,7 @@ fn built_in<T: UnsignedValue>(
     default: u32,
     error: u32,
     trie_type: TrieType,
-) -> Result<Vec<u8>, Refusal>
+) -> Result<Vec<u8>, Error>
     ensures fits { IfOk result (λ _. AreFitting T.of_number rows.now default error) }
     ensures built { IfOk result (λ bytes. IsBuiltOf T.number T.unpack T.WIDTH T.of_number rows.now
         default error trie_type bytes.items) }
@@ -117,10 +117,10 @@ fn built_in<T: UnsignedValue>(
         (IsTooLargeOf T.number T.of_number T.WIDTH rows.now default error trie_type)) }
 {
     let (Ok(default), Ok(error)) = (T::try_from_u32(default), T::try_from_u32(error)) else {
-        return Err(Refusal::WideValue);
+        return Err(Error::WideValue);
     };
     if !rows_fit::<T>(rows) {
-        return Err(Refusal::WideValue);
+        return Err(Error::WideValue);
     }
     let writes = writes_of::<T>(alloc, rows)?;
     let trie = build_from_writes(alloc, default, error, trie_type, &writes)?;
@@ -136,7 +136,7 @@ fn built(
     error: u32,
     trie_type: u32,
     width: u32,
-) -> Result<Vec<u8>, Refusal>
+) -> Result<Vec<u8>, Error>
     ensures form { IfOk result (λ _. IsForm trie_type width) }
     ensures fits { IfOk result (λ _. AreFitting (fitting_in width) rows.now default error) }
     ensures built { IfOk result (λ bytes. IsBuilt rows.now default error trie_type width
@@ -146,13 +146,13 @@ fn built(
         (IsTooLargeFor rows.now default error trie_type width)) }
 {
     let Some(trie_type) = type_of(trie_type) else {
-        return Err(Refusal::NoForm);
+        return Err(Error::InvalidFormat);
     };
     match width {
         1 => built_in::<u8>(alloc, rows, default, error, trie_type),
         2 => built_in::<u16>(alloc, rows, default, error, trie_type),
         4 => built_in::<u32>(alloc, rows, default, error, trie_type),
-        _ => Err(Refusal::NoForm),
+        _ => Err(Error::InvalidFormat),
     }
 }
 
@@ -228,13 +228,13 @@ pub(crate) fn write_whole(bytes: &[u8], buffer: &mut [u8])
 /// # Errors
 /// Returns the number of the first of these that applies, and leaves the buffer unchanged:
 ///
-/// - [`Refusal::NoForm`] if the type is neither 0 (fast) nor 1 (small), or the width is none of 1,
+/// - [`Error::InvalidFormat`] if the type is neither 0 (fast) nor 1 (small), or the width is none of 1,
 ///   2 and 4 bytes
-/// - [`Refusal::WideValue`] if a value has more bits than the width: the value of a row, the
+/// - [`Error::WideValue`] if a value has more bits than the width: the value of a row, the
 ///   default or the error value
-/// - [`Refusal::TooLarge`] if the map is too large for a trie, or the trie is too large for the
+/// - [`Error::TooLarge`] if the map is too large for a trie, or the trie is too large for the
 ///   binary form
-/// - [`Refusal::NoMemory`] if an allocation fails, which may come before `TooLarge`
+/// - [`Error::NoMemory`] if an allocation fails, which may come before `TooLarge`
 #[unsafe(no_mangle)]
 pub extern "C" fn bks_trie_build(
     alloc: Global,
@@ -255,6 +255,6 @@ pub extern "C" fn bks_trie_build(
             write_whole(&stored, bytes);
             stored.len() as i64
         }
-        Err(refusal) => refusal.number(),
+        Err(error) => error.number(),
     }
 }

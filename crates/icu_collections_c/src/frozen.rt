@@ -5,8 +5,8 @@ ghost use Rattle.icu_collections_c.specs.Building.{written_whole};
 ghost use Rattle.icu_frozen_sets.specs.FrozenWords.{IsFrozenOf, is_held};
 ghost use Rattle.icu_collections_c.specs.Frozen.{AnswersFrozen};
 
+use crate::error::Error;
 use crate::sets::bks_set_test;
-use crate::status::Refusal;
 use icu_frozen_sets::view::FrozenView;
 use icu_frozen_sets::words::frozen_words;
 use std::alloc::Global;
@@ -28,18 +28,18 @@ fn write_words(words: &[u64], buffer: &mut [u64]) -> usize
 /// ICU: `uset_freeze`.
 ///
 /// # Errors
-/// Returns the number of [`Refusal::NoSet`] if the boundaries are not those of a set, and of
-/// [`Refusal::NoMemory`] if an allocation fails. The buffer is then unchanged.
+/// Returns the number of [`Error::InvalidSet`] if the boundaries are not those of a set, and of
+/// [`Error::NoMemory`] if an allocation fails. The buffer is then unchanged.
 #[unsafe(no_mangle)]
 pub extern "C" fn bks_set_freeze(alloc: Global, ends: &[u32], table: &mut [u64]) -> i64
     ensures { AnswersFrozen ends.now table.old table.new result }
 {
     if !bks_set_test(ends) {
-        return Refusal::NoSet.number();
+        return Error::InvalidSet.number();
     }
     match frozen_words(alloc, ends) {
         Ok(words) => write_words(&words, table) as i64,
-        Err(_) => Refusal::NoMemory.number(),
+        Err(_) => Error::NoMemory.number(),
     }
 }
 

@@ -25,7 +25,7 @@
 //! - `unit_building`: builds unit tries from entries; `listing`: lists the entries of a unit trie
 //! - `unit_pages`: lists the entries below a prefix, page by page
 //! - `cells`: the cells of tries, in bytes at any address
-//! - `status`: the errors of functions that return a count
+//! - `error`: the errors of functions that return a count
 //! - `version`: the version of the library
 //! - `answers`, `buffers`: writes into the caller's buffers
 #![tactic(auto)]
@@ -34,6 +34,7 @@ mod answers;
 mod buffers;
 pub mod building;
 mod cells;
+pub mod error;
 pub mod frozen;
 pub mod listing;
 pub mod opening;
@@ -43,7 +44,6 @@ pub mod set_operations;
 pub mod set_queries;
 pub mod sets;
 pub mod spans;
-pub mod status;
 mod text_steps;
 pub mod texts;
 pub mod tries;

@@ -7,7 +7,7 @@ ghost use Rattle.icu_collections_c.specs.Listing.{AnswersCount, AnswersListing, 
 ghost use Rattle.icu_collections_c.specs.UnitTries.{units_of};
 
 use crate::buffers::write;
-use crate::status::Refusal;
+use crate::error::Error;
 use crate::units::trie_in;
 use icu_zerovec::MemoryError;
 use std::alloc::{AllocError, Global};
@@ -124,16 +124,16 @@ fn counted(alloc: Global, units: &[u8]) -> Result<Option<u64>, MemoryError>
 /// however many entries there are. So call it before you list an untrusted unit trie.
 ///
 /// # Errors
-/// Returns the number of [`Refusal::NoTrie`] if the units are not a trie, and of
-/// [`Refusal::NoMemory`] if an allocation fails.
+/// Returns the number of [`Error::InvalidTrie`] if the units are not a trie, and of
+/// [`Error::NoMemory`] if an allocation fails.
 #[unsafe(no_mangle)]
 pub extern "C" fn bks_units_count(alloc: Global, units: &[u8]) -> i64
     ensures { AnswersCount (units_of units.now) result }
 {
     match counted(alloc, units) {
         Ok(Some(count)) => count.min(MOST as u64) as i64,
-        Ok(None) => Refusal::NoTrie.number(),
-        Err(_) => Refusal::NoMemory.number(),
+        Ok(None) => Error::InvalidTrie.number(),
+        Err(_) => Error::NoMemory.number(),
     }
 }
 
@@ -150,8 +150,8 @@ pub extern "C" fn bks_units_count(alloc: Global, units: &[u8]) -> i64
 /// ICU: `UCharsTrie::Iterator`.
 ///
 /// # Errors
-/// Returns the number of [`Refusal::TooLarge`] if there are 2^63 entries or bytes of texts or more,
-/// and of [`Refusal::NoMemory`] if an allocation fails. Nothing is then written.
+/// Returns the number of [`Error::TooLarge`] if there are 2^63 entries or bytes of texts or more,
+/// and of [`Error::NoMemory`] if an allocation fails. Nothing is then written.
 #[unsafe(no_mangle)]
 pub extern "C" fn bks_units_list(
     alloc: Global,
@@ -164,10 +164,10 @@ pub extern "C" fn bks_units_list(
         texts_size.old texts_size.new result }
 {
     let Ok(listing) = listed(alloc, units, words.len(), texts.len()) else {
-        return Refusal::NoMemory.number();
+        return Error::NoMemory.number();
     };
     if listing.count > MOST || listing.size > MOST {
-        return Refusal::TooLarge.number();
+        return Error::TooLarge.number();
     }
     write(&listing.words, words);
     write(&listing.texts, texts);

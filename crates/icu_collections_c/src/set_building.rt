@@ -6,12 +6,12 @@ ghost use Rattle.icu_collections_c.specs.Answers.{AnswersEnds, GivesEnds};
 ghost use Rattle.icu_zerovec.specs.Buffers.{written};
 ghost use Rattle.icu_collections_c.specs.Inside.Joined.{IsJoined, StartsUpTo};
 ghost use Rattle.icu_collections_c.specs.SetBuilding.{HoldsExactly, in_some, is_one_of};
-ghost use Rattle.icu_collections_c.specs.Status.{refused};
-ghost use Rattle.icu_collections_c.specs.declared.status.Refusal.TheVariants.{NoMemory, NoSet};
+ghost use Rattle.icu_collections_c.specs.Status.{error_number};
+ghost use Rattle.icu_collections_c.specs.declared.error.Error.TheVariants.{NoMemory, InvalidSet};
 
 use crate::buffers::write;
+use crate::error::Error;
 use crate::sets::bks_set_test;
-use crate::status::Refusal;
 use icu_zerovec::CODE_POINT_LIMIT;
 use std::alloc::{AllocError, Global};
 
@@ -87,7 +87,7 @@ fn ends_of_points(alloc: Global, points: &[u32]) -> Result<Vec<u32>, AllocError>
 /// ICU: `uset_addRange` for each range.
 ///
 /// # Errors
-/// Returns the number of [`Refusal::NoMemory`] if an allocation fails. The buffer is then
+/// Returns the number of [`Error::NoMemory`] if an allocation fails. The buffer is then
 /// unchanged.
 #[unsafe(no_mangle)]
 pub extern "C" fn bks_set_from_ranges(alloc: Global, ranges: &[Interval], ends: &mut [u32]) -> i64
@@ -99,7 +99,7 @@ pub extern "C" fn bks_set_from_ranges(alloc: Global, ranges: &[Interval], ends: 
             write(&made, ends);
             made.len() as i64
         }
-        Err(_) => Refusal::NoMemory.number(),
+        Err(_) => Error::NoMemory.number(),
     }
 }
 
@@ -112,7 +112,7 @@ pub extern "C" fn bks_set_from_ranges(alloc: Global, ranges: &[Interval], ends: 
 /// ICU: `uset_add` for each code point.
 ///
 /// # Errors
-/// Returns the number of [`Refusal::NoMemory`] if an allocation fails. The buffer is then
+/// Returns the number of [`Error::NoMemory`] if an allocation fails. The buffer is then
 /// unchanged.
 #[unsafe(no_mangle)]
 pub extern "C" fn bks_set_from_points(alloc: Global, points: &[u32], ends: &mut [u32]) -> i64
@@ -124,7 +124,7 @@ pub extern "C" fn bks_set_from_points(alloc: Global, points: &[u32], ends: &mut 
             write(&made, ends);
             made.len() as i64
         }
-        Err(_) => Refusal::NoMemory.number(),
+        Err(_) => Error::NoMemory.number(),
     }
 }
 
@@ -172,17 +172,17 @@ fn write_from(items: &[u32], from: usize, buffer: &mut [u32])
 /// ICU: `uset_complement`.
 ///
 /// # Errors
-/// Returns the number of [`Refusal::NoSet`] if the list is not the boundaries of a set
+/// Returns the number of [`Error::InvalidSet`] if the list is not the boundaries of a set
 /// ([`bks_set_test`]). The buffer is then unchanged.
 #[unsafe(no_mangle)]
 pub extern "C" fn bks_set_complement(ends: &[u32], complement: &mut [u32]) -> i64
-    ensures set { AnswersEnds (IsValid ends.now) NoSet
+    ensures set { AnswersEnds (IsValid ends.now) InvalidSet
         (HoldsExactly (λ c. not (holds ends.now c)) (length ends.now + 2)) complement.old
         complement.new result }
-    ensures quiet { result ≢ refused NoMemory }
+    ensures quiet { result ≢ error_number NoMemory }
 {
     if !bks_set_test(ends) {
-        return Refusal::NoSet.number();
+        return Error::InvalidSet.number();
     }
     let (rest, back) = back_toggled(ends);
     let (front, middle) = front_toggled(rest);

@@ -4,7 +4,7 @@ ghost use Rattle.icu_zerovec.specs.CodePoints.{code_point_limit};
 ghost use Rattle.icu_invlist.specs.InversionList.{IsValid, holds, members_below};
 ghost use Rattle.icu_collections_c.specs.Answers.{CountsMembers};
 
-use crate::status::Refusal;
+use crate::error::Error;
 use icu_invlist::codepointinvlist::sizes::size_of;
 use icu_invlist::codepointinvlist::utils::is_valid_slice;
 
@@ -36,13 +36,13 @@ pub extern "C" fn bks_set_contains(ends: &[u32], c: u32) -> bool
 /// ICU: `uset_size`.
 ///
 /// # Errors
-/// Returns the number of [`Refusal::NoSet`] if the numbers are not the boundaries of a set.
+/// Returns the number of [`Error::InvalidSet`] if the numbers are not the boundaries of a set.
 #[unsafe(no_mangle)]
 pub extern "C" fn bks_set_size(ends: &[u32]) -> i64
     ensures { CountsMembers (IsValid ends.now) (members_below ends.now code_point_limit) result }
 {
     if !bks_set_test(ends) {
-        return Refusal::NoSet.number();
+        return Error::InvalidSet.number();
     }
     i64::from(size_of(ends))
 }

@@ -8,7 +8,7 @@ ghost use Rattle.icu_frozen_sets.specs.FrozenWords.{IsFrozenOf, is_held};
 ghost use Rattle.icu_frozen_sets.specs.LongestSpans.{IsSpan, IsSpanBack, unit_span};
 ghost use Rattle.icu_collections_c.specs.Spans.{AnswersSpan, AnswersSpanBack, AnswersTextSpan, AnswersTextSpanBack};
 
-use crate::status::Refusal;
+use crate::error::Error;
 use icu_frozen_sets::boundary_spans;
 use icu_frozen_sets::view::FrozenView;
 use icu_utf::characters::{first_character, last_character};
@@ -47,7 +47,7 @@ fn starts_plainly(text: &[u8]) -> bool
     text.is_empty() || text[0] < 0x80
 }
 
-/// Returns the length of a span, or the number of [`Refusal::NoText`] if the text is not empty and
+/// Returns the length of a span, or the number of [`Error::InvalidUtf8`] if the text is not empty and
 /// does not start with a character.
 #[inline(always)]
 fn length_or_no_text(text: &[u8], span: usize) -> i64
@@ -59,12 +59,12 @@ fn length_or_no_text(text: &[u8], span: usize) -> i64
         return span as i64;
     }
     if lacks_first(text) {
-        return Refusal::NoText.number();
+        return Error::InvalidUtf8.number();
     }
     0
 }
 
-/// Returns the offset of a span from the end, or the number of [`Refusal::NoText`] if the text is
+/// Returns the offset of a span from the end, or the number of [`Error::InvalidUtf8`] if the text is
 /// not empty and does not end with a character.
 #[inline(always)]
 fn start_or_no_text(text: &[u8], start: usize) -> i64
@@ -76,7 +76,7 @@ fn start_or_no_text(text: &[u8], start: usize) -> i64
         return start as i64;
     }
     if lacks_last(text) {
-        return Refusal::NoText.number();
+        return Error::InvalidUtf8.number();
     }
     start as i64
 }
@@ -90,7 +90,7 @@ fn start_or_no_text(text: &[u8], start: usize) -> i64
 /// ICU: `uset_spanUTF8`, which takes an ill-formed sequence for U+FFFD instead.
 ///
 /// # Errors
-/// Returns the number of [`Refusal::NoText`] if the text is not empty and does not start with a
+/// Returns the number of [`Error::InvalidUtf8`] if the text is not empty and does not start with a
 /// character.
 #[unsafe(no_mangle)]
 pub extern "C" fn bks_frozen_span(table: &[u64], text: &[u8], held: bool) -> i64
@@ -116,7 +116,7 @@ pub extern "C" fn bks_frozen_span(table: &[u64], text: &[u8], held: bool) -> i64
 /// ICU: `uset_spanBackUTF8`, which takes an ill-formed sequence for U+FFFD instead.
 ///
 /// # Errors
-/// Returns the number of [`Refusal::NoText`] if the text is not empty and does not end with a
+/// Returns the number of [`Error::InvalidUtf8`] if the text is not empty and does not end with a
 /// character.
 #[unsafe(no_mangle)]
 pub extern "C" fn bks_frozen_span_back(table: &[u64], text: &[u8], held: bool) -> i64
@@ -151,7 +151,7 @@ pub extern "C" fn bks_frozen_span_utf16(table: &[u64], text: &[u16], held: bool)
 /// ICU: `uset_spanUTF8`, which takes an ill-formed sequence for U+FFFD instead.
 ///
 /// # Errors
-/// Returns the number of [`Refusal::NoText`] if the text is not empty and does not start with a
+/// Returns the number of [`Error::InvalidUtf8`] if the text is not empty and does not start with a
 /// character.
 #[unsafe(no_mangle)]
 pub extern "C" fn bks_set_span(ends: &[u32], text: &[u8], held: bool) -> i64
@@ -169,7 +169,7 @@ pub extern "C" fn bks_set_span(ends: &[u32], text: &[u8], held: bool) -> i64
 /// ICU: `uset_spanBackUTF8`, which takes an ill-formed sequence for U+FFFD instead.
 ///
 /// # Errors
-/// Returns the number of [`Refusal::NoText`] if the text is not empty and does not end with a
+/// Returns the number of [`Error::InvalidUtf8`] if the text is not empty and does not end with a
 /// character.
 #[unsafe(no_mangle)]
 pub extern "C" fn bks_set_span_back(ends: &[u32], text: &[u8], held: bool) -> i64

@@ -13,7 +13,7 @@ ghost use Rattle.icu_collections_c.specs.CopiedText.{IsCopiedText, number_of_par
 ghost use Rattle.icu_collections_c.specs.Inside.TextCells.{parts_from};
 
 use crate::cells::{UnsignedValue, count_of, last_value, value_at, value_there};
-use crate::status::Refusal;
+use crate::error::Error;
 use crate::tries::{Trie, header_of, value_of};
 use crate::well_formed::{count_of_characters, is_utf8};
 use icu_trie_core::header::CodePointTrieHeader;
@@ -263,7 +263,7 @@ fn write_units<T: UnsignedValue>(trie: &Trie<'_>, units: &[u16], values: &mut [T
 /// of the text in bytes.
 ///
 /// # Errors
-/// Returns the number of [`Refusal::NoText`] if the text is not UTF-8. The buffer is then
+/// Returns the number of [`Error::InvalidUtf8`] if the text is not UTF-8. The buffer is then
 /// unchanged.
 #[unsafe(no_mangle)]
 pub extern "C" fn bks_trie8_get_utf8(trie: &Trie<'_>, text: &[u8], values: &mut [u8]) -> i64
@@ -272,7 +272,7 @@ pub extern "C" fn bks_trie8_get_utf8(trie: &Trie<'_>, text: &[u8], values: &mut 
     ensures bound { (n : ℕ) → result ≡ pos n → n ≤ length text.now }
 {
     if !is_utf8(text) {
-        return Refusal::NoText.number();
+        return Error::InvalidUtf8.number();
     }
     write_text(trie, text, values, 0) as i64
 }
@@ -282,7 +282,7 @@ pub extern "C" fn bks_trie8_get_utf8(trie: &Trie<'_>, text: &[u8], values: &mut 
 /// of the text in bytes.
 ///
 /// # Errors
-/// Returns the number of [`Refusal::NoText`] if the text is not UTF-8. The buffer is then
+/// Returns the number of [`Error::InvalidUtf8`] if the text is not UTF-8. The buffer is then
 /// unchanged.
 #[unsafe(no_mangle)]
 pub extern "C" fn bks_trie16_get_utf8(trie: &Trie<'_>, text: &[u8], values: &mut [u16]) -> i64
@@ -291,7 +291,7 @@ pub extern "C" fn bks_trie16_get_utf8(trie: &Trie<'_>, text: &[u8], values: &mut
     ensures bound { (n : ℕ) → result ≡ pos n → n ≤ length text.now }
 {
     if !is_utf8(text) {
-        return Refusal::NoText.number();
+        return Error::InvalidUtf8.number();
     }
     write_text(trie, text, values, 0) as i64
 }
@@ -301,7 +301,7 @@ pub extern "C" fn bks_trie16_get_utf8(trie: &Trie<'_>, text: &[u8], values: &mut
 /// of the text in bytes.
 ///
 /// # Errors
-/// Returns the number of [`Refusal::NoText`] if the text is not UTF-8. The buffer is then
+/// Returns the number of [`Error::InvalidUtf8`] if the text is not UTF-8. The buffer is then
 /// unchanged.
 #[unsafe(no_mangle)]
 pub extern "C" fn bks_trie32_get_utf8(trie: &Trie<'_>, text: &[u8], values: &mut [u32]) -> i64
@@ -310,7 +310,7 @@ pub extern "C" fn bks_trie32_get_utf8(trie: &Trie<'_>, text: &[u8], values: &mut
     ensures bound { (n : ℕ) → result ≡ pos n → n ≤ length text.now }
 {
     if !is_utf8(text) {
-        return Refusal::NoText.number();
+        return Error::InvalidUtf8.number();
     }
     write_text(trie, text, values, 0) as i64
 }

@@ -5,7 +5,7 @@ ghost use Rattle.icu_char16trie_builder.specs.Entries.{most_units};
 ghost use Rattle.icu_collections_c.specs.UnitBuilding.{AnswersUnits, AreAllNew, HasEntries, IsWhyNotAdded, IsWhyNotBuilt, entries_of, map_of, with_entries};
 
 use crate::building::write_whole;
-use crate::status::Refusal;
+use crate::error::Error;
 use icu_char16trie::char16trie::Char16Trie;
 use icu_char16trie_builder::builder::Char16TrieBuilder;
 use icu_char16trie_builder::error::{AddError, BuildError};
@@ -14,30 +14,30 @@ use std::alloc::Global;
 /// The most units that a key may have.
 const LONGEST_KEY: usize = 65_535;
 
-impl From<AddError> for Refusal {
+impl From<AddError> for Error {
     ghost use Rattle.icu_collections_c.specs.UnitBuilding.{of_add};
 
     ghost from_gives = { λ x e. e ≡ of_add x };
 
-    fn from(error: AddError) -> Refusal {
+    fn from(error: AddError) -> Error {
         match error {
-            AddError::KeyTooLong => Refusal::LongKey,
-            AddError::Duplicate => Refusal::SameKey,
-            AddError::Memory => Refusal::NoMemory,
+            AddError::KeyTooLong => Error::LongKey,
+            AddError::Duplicate => Error::SameKey,
+            AddError::Memory => Error::NoMemory,
         }
     }
 }
 
-impl From<BuildError> for Refusal {
+impl From<BuildError> for Error {
     ghost use Rattle.icu_collections_c.specs.UnitBuilding.{of_build};
 
     ghost from_gives = { λ x e. e ≡ of_build x };
 
-    fn from(error: BuildError) -> Refusal {
+    fn from(error: BuildError) -> Error {
         match error {
-            BuildError::TooLarge => Refusal::TooLarge,
-            BuildError::Entry(error) => Refusal::from(error),
-            BuildError::Memory => Refusal::NoMemory,
+            BuildError::TooLarge => Error::TooLarge,
+            BuildError::Entry(error) => Error::from(error),
+            BuildError::Memory => Error::NoMemory,
         }
     }
 }
@@ -70,7 +70,7 @@ fn add_entries(
     keys: &[u16],
     lengths: &[usize],
     values: &[i32],
-) -> Result<(), Refusal>
+) -> Result<(), Error>
     requires given { HasEntries keys.now lengths.now values.now }
     requires short { All (λ n. n ≤ 65535) lengths.now }
     ensures added { OnOk result (builder.new
@@ -95,7 +95,7 @@ fn built(
     keys: &[u16],
     lengths: &[usize],
     values: &[i32],
-) -> Result<Char16Trie<'static>, Refusal>
+) -> Result<Char16Trie<'static>, Error>
     ensures given { IfOk result (λ _. HasEntries keys.now lengths.now values.now) }
     ensures short { IfOk result (λ _. All (λ n. n ≤ 65535) lengths.now) }
     ensures fresh { IfOk result (λ _. AreAllNew (entries_of keys.now lengths.now values.now) []) }
@@ -109,10 +109,10 @@ fn built(
     ensures err { IfErr result (IsWhyNotBuilt keys.now lengths.now values.now) }
 {
     if lengths.len() != values.len() || !has_units(keys.len(), lengths) {
-        return Err(Refusal::NoEntries);
+        return Err(Error::InvalidEntries);
     }
     if !are_short(lengths) {
-        return Err(Refusal::LongKey);
+        return Err(Error::LongKey);
     }
     let mut builder = Char16TrieBuilder::new(alloc);
     add_entries(&mut builder, keys, lengths, values)?;
@@ -132,12 +132,12 @@ fn built(
 /// # Errors
 /// Returns the number of the first of these that applies, and leaves the buffer unchanged:
 ///
-/// - [`Refusal::NoEntries`] if `values` and `lengths` have different lengths, or the keys need more
+/// - [`Error::InvalidEntries`] if `values` and `lengths` have different lengths, or the keys need more
 ///   units than `keys` has
-/// - [`Refusal::LongKey`] if a key has more than 65,535 units
-/// - [`Refusal::SameKey`] if two entries have the same key
-/// - [`Refusal::TooLarge`] if 2 U + 16 E is above 0x7FFFFFFF
-/// - [`Refusal::NoMemory`] if an allocation fails, which may come before `SameKey` and `TooLarge`
+/// - [`Error::LongKey`] if a key has more than 65,535 units
+/// - [`Error::SameKey`] if two entries have the same key
+/// - [`Error::TooLarge`] if 2 U + 16 E is above 0x7FFFFFFF
+/// - [`Error::NoMemory`] if an allocation fails, which may come before `SameKey` and `TooLarge`
 #[unsafe(no_mangle)]
 pub extern "C" fn bks_units_build(
     alloc: Global,
@@ -154,6 +154,6 @@ pub extern "C" fn bks_units_build(
             write_whole(units, bytes);
             units.len() as i64
         }
-        Err(refusal) => refusal.number(),
+        Err(error) => error.number(),
     }
 }

@@ -9,7 +9,7 @@ ghost use Rattle.icu_collections_c.specs.UnitNodes.{AnswersOneValue, AnswersUnit
 ghost use Rattle.icu_collections_c.specs.UnitTries.{at, place_of, units_of};
 
 use crate::buffers::write;
-use crate::status::Refusal;
+use crate::error::Error;
 use crate::unit_tries::{Cursor, place_of};
 use crate::units::trie_in;
 use icu_char16trie::char16trie::Char16TrieCursor;
@@ -22,7 +22,7 @@ use std::alloc::Global;
 /// ICU: `UCharsTrie::getNextUChars`.
 ///
 /// # Errors
-/// Returns the number of [`Refusal::NoMemory`] if an allocation fails. The buffer is then
+/// Returns the number of [`Error::NoMemory`] if an allocation fails. The buffer is then
 /// unchanged.
 #[unsafe(no_mangle)]
 pub extern "C" fn bks_units_next(
@@ -46,7 +46,7 @@ pub extern "C" fn bks_units_next(
             write(&list, next);
             list.len() as i64
         }
-        Err(_) => Refusal::NoMemory.number(),
+        Err(_) => Error::NoMemory.number(),
     }
 }
 
@@ -60,7 +60,7 @@ pub extern "C" fn bks_units_next(
 /// ICU: `UCharsTrie::hasUniqueValue`.
 ///
 /// # Errors
-/// Returns the number of [`Refusal::NoMemory`] if an allocation fails. `value` is then unchanged.
+/// Returns the number of [`Error::NoMemory`] if an allocation fails. `value` is then unchanged.
 #[unsafe(no_mangle)]
 pub extern "C" fn bks_units_unique(
     alloc: Global,
@@ -84,6 +84,6 @@ pub extern "C" fn bks_units_unique(
             1
         }
         Ok(None) => 0,
-        Err(_) => Refusal::NoMemory.number(),
+        Err(_) => Error::NoMemory.number(),
     }
 }

@@ -9,8 +9,8 @@ ghost use Rattle.icu_collections_c.specs.UnitPages.{AnswersPage, below, shown_be
 ghost use Rattle.icu_collections_c.specs.UnitTries.{units_of};
 
 use crate::buffers::write;
+use crate::error::Error;
 use crate::listing::Word;
-use crate::status::Refusal;
 use crate::units::trie_in;
 use icu_char16trie::char16trie::Entries;
 use icu_zerovec::MemoryError;
@@ -152,7 +152,7 @@ fn page_below(
 /// ICU: `UCharsTrie::Iterator` of a trie that is not at its root.
 ///
 /// # Errors
-/// Returns the number of [`Refusal::NoText`] if `prefix` is not UTF-8, and of [`Refusal::NoMemory`]
+/// Returns the number of [`Error::InvalidUtf8`] if `prefix` is not UTF-8, and of [`Error::NoMemory`]
 /// if an allocation fails. Nothing is then written.
 #[unsafe(no_mangle)]
 pub extern "C" fn bks_units_list_below(
@@ -174,7 +174,7 @@ pub extern "C" fn bks_units_list_below(
         texts_size.old texts_size.new result }
 {
     let Ok(prefix) = str::from_utf8(prefix) else {
-        return Refusal::NoText.number();
+        return Error::InvalidUtf8.number();
     };
     match page_below(alloc, units, prefix, skipped, words.len(), texts.len()) {
         Ok(page) => {
@@ -183,6 +183,6 @@ pub extern "C" fn bks_units_list_below(
             *texts_size = page.size;
             page.words.len() as i64
         }
-        Err(_) => Refusal::NoMemory.number(),
+        Err(_) => Error::NoMemory.number(),
     }
 }

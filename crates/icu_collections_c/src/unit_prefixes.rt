@@ -8,7 +8,7 @@ ghost use Rattle.icu_collections_c.specs.UnitTries.{units_of};
 ghost use Rattle.icu_collections_c.specs.declared.unit_prefixes.Prefix.{Prefix};
 ghost use Rattle.icu_frozen_sets.specs.TextFronts.{IsTextUpTo};
 
-use crate::status::Refusal;
+use crate::error::Error;
 use crate::text_steps::{pass_character, starts_ill_formed};
 use crate::units::trie_in;
 
@@ -115,7 +115,7 @@ fn prefixes_in(units: &[u8], bytes: &[u8], found: &mut [Prefix]) -> usize
 /// sequence ends the text.
 ///
 /// # Errors
-/// Returns the number of [`Refusal::NoText`] if the text is not empty and does not start with a
+/// Returns the number of [`Error::InvalidUtf8`] if the text is not empty and does not start with a
 /// character. The buffer is then unchanged.
 #[unsafe(no_mangle)]
 pub extern "C" fn bks_units_prefixes_utf8(units: &[u8], text: &[u8], found: &mut [Prefix]) -> i64
@@ -125,7 +125,7 @@ pub extern "C" fn bks_units_prefixes_utf8(units: &[u8], text: &[u8], found: &mut
         found.new result }
 {
     if starts_ill_formed(text) {
-        return Refusal::NoText.number();
+        return Error::InvalidUtf8.number();
     }
     prefixes_in(units, text, found).min(MOST) as i64
 }

@@ -7,7 +7,7 @@ ghost use Rattle.icu_char16trie.specs.UnitMap.{UnitMap, value_of};
 ghost use Rattle.icu_collections_c.specs.UnitTexts.{AnswersTextUnits, GivesIfText, keys_of};
 ghost use Rattle.icu_collections_c.specs.UnitTries.{GivesValue, GivesValueAlong, units_of};
 
-use crate::status::Refusal;
+use crate::error::Error;
 use crate::unit_building::{bks_units_build, has_units};
 use crate::unit_keys::transcoded;
 use crate::units::{give, trie_in};
@@ -70,13 +70,13 @@ fn are_texts(keys: &[u8], lengths: &[usize]) -> bool
 /// # Errors
 /// Returns the number of the first of these that applies, and leaves the buffer unchanged:
 ///
-/// - [`Refusal::NoEntries`] if `values` and `lengths` have different lengths, or the keys need more
+/// - [`Error::InvalidEntries`] if `values` and `lengths` have different lengths, or the keys need more
 ///   bytes than `keys` has
-/// - [`Refusal::NoText`] if a key is not UTF-8 on its own
-/// - [`Refusal::LongKey`] if a key has more than 65,535 units
-/// - [`Refusal::SameKey`] if two entries have the same key
-/// - [`Refusal::TooLarge`] if 2 U + 16 E is above 0x7FFFFFFF, for U units in all keys
-/// - [`Refusal::NoMemory`] if an allocation fails, which may come before the last three
+/// - [`Error::InvalidUtf8`] if a key is not UTF-8 on its own
+/// - [`Error::LongKey`] if a key has more than 65,535 units
+/// - [`Error::SameKey`] if two entries have the same key
+/// - [`Error::TooLarge`] if 2 U + 16 E is above 0x7FFFFFFF, for U units in all keys
+/// - [`Error::NoMemory`] if an allocation fails, which may come before the last three
 #[unsafe(no_mangle)]
 pub extern "C" fn bks_units_build_utf8(
     alloc: Global,
@@ -90,13 +90,13 @@ pub extern "C" fn bks_units_build_utf8(
         → n ≤ 4 * sum lengths.now + 32 * length lengths.now }
 {
     if lengths.len() != values.len() || !has_units(keys.len(), lengths) {
-        return Refusal::NoEntries.number();
+        return Error::InvalidEntries.number();
     }
     if !are_texts(keys, lengths) {
-        return Refusal::NoText.number();
+        return Error::InvalidUtf8.number();
     }
     match transcoded(alloc, keys, lengths) {
         Ok(given) => bks_units_build(alloc, &given.units, &given.lengths, values, bytes),
-        Err(_) => Refusal::NoMemory.number(),
+        Err(_) => Error::NoMemory.number(),
     }
 }

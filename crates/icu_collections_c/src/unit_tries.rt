@@ -14,7 +14,7 @@ ghost use Rattle.icu_char16trie.specs.declared.place.Place.{Place};
 ghost use Rattle.icu_collections_c.specs.UnitTries.{AnswersMatchInText, EndsAtBoundary, GivesMatchThat, GivesValue, GivesValueAlong, at, place_of, root, step_number, units_of};
 ghost use Rattle.icu_frozen_sets.specs.TextFronts.{IsTextUpTo};
 
-use crate::status::Refusal;
+use crate::error::Error;
 use crate::text_steps::{pass_character, starts_ill_formed};
 use crate::units::{give, give_match, later_match, step_number, trie_in};
 use icu_char16trie::char16trie::{Char16TrieCursor, CursorPlace};
@@ -67,7 +67,7 @@ pub extern "C" fn bks_units_get(units: &[u8], key: &[u16], value: &mut i32) -> b
 /// value in `value`. The empty key is a prefix of every text.
 ///
 /// # Errors
-/// Returns the number of [`Refusal::NoKey`] if no key is a prefix of the text. `value` is then
+/// Returns the number of [`Error::NoKey`] if no key is a prefix of the text. `value` is then
 /// unchanged.
 #[unsafe(no_mangle)]
 pub extern "C" fn bks_units_longest(units: &[u8], text: &[u16], value: &mut i32) -> i64
@@ -110,8 +110,8 @@ fn longest_in(units: &[u8], bytes: &[u8]) -> Option<(usize, i32)>
 /// sequence ends the text.
 ///
 /// # Errors
-/// Returns the number of [`Refusal::NoText`] if the text is not empty and does not start with a
-/// character, and of [`Refusal::NoKey`] if no key is a prefix of it. `value` is then unchanged.
+/// Returns the number of [`Error::InvalidUtf8`] if the text is not empty and does not start with a
+/// character, and of [`Error::NoKey`] if no key is a prefix of it. `value` is then unchanged.
 #[unsafe(no_mangle)]
 pub extern "C" fn bks_units_longest_utf8(units: &[u8], text: &[u8], value: &mut i32) -> i64
     ensures keys { (m : UnitMap) → IsTrieOf (units_of units.now) m
@@ -121,7 +121,7 @@ pub extern "C" fn bks_units_longest_utf8(units: &[u8], text: &[u8], value: &mut 
     ensures boundary { (n : ℕ) → result ≡ pos n → EndsAtBoundary text.now n }
 {
     if starts_ill_formed(text) {
-        return Refusal::NoText.number();
+        return Error::InvalidUtf8.number();
     }
     give_match(longest_in(units, text), value)
 }

@@ -7,7 +7,7 @@ ghost use Rattle.icu_char16trie.specs.UnitPlaces.{HasPassed};
 ghost use Rattle.icu_collections_c.specs.Inside.TextSteps.{last_of};
 ghost use Rattle.icu_collections_c.specs.UnitTries.{GivesMatch, GivesValue, step_number, units_of};
 
-use crate::status::Refusal;
+use crate::error::Error;
 use icu_char16trie::char16trie::{Char16Trie, Char16TrieCursor};
 use icu_zerovec::ZeroVec;
 
@@ -53,7 +53,7 @@ pub(crate) fn later_match(
 }
 
 /// Stores the value of a match if there is one, and returns its length. Returns the number of
-/// [`Refusal::NoKey`] if there is no match.
+/// [`Error::NoKey`] if there is no match.
 #[inline(always)]
 pub(crate) fn give_match(found: Option<(usize, i32)>, value: &mut i32) -> i64
     requires { IfSome found (λ found. found.0 < 2 ^ 63) }
@@ -64,7 +64,7 @@ pub(crate) fn give_match(found: Option<(usize, i32)>, value: &mut i32) -> i64
             *value = found;
             length as i64
         }
-        None => Refusal::NoKey.number(),
+        None => Error::NoKey.number(),
     }
 }
 

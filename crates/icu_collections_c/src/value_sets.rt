@@ -3,11 +3,11 @@ ghost use Rattle.std.specs.Prelude.{◌≡◌, IfOk, MatchOption};
 ghost use Rattle.icu_collections_c.specs.Answers.{AnswersEnds};
 ghost use Rattle.icu_collections_c.specs.BytesTrie.{IsSound, IsSoundOf, fitting_in, parts_in, parts_of, value_width};
 ghost use Rattle.icu_collections_c.specs.Ranges.{IsSetOf};
-ghost use Rattle.icu_collections_c.specs.declared.status.Refusal.TheVariants.{NoTrie};
+ghost use Rattle.icu_collections_c.specs.declared.error.Error.TheVariants.{InvalidTrie};
 
 use crate::answers::ends_answered;
 use crate::cells::UnsignedValue;
-use crate::status::Refusal;
+use crate::error::Error;
 use crate::tries::{Trie, header_of};
 use icu_invlist::codepointinvlist::{CodePointInversionList, CodePointInversionListBuilder};
 use icu_trie::cptrie::CodePointTrie;
@@ -46,16 +46,16 @@ fn set_answered<T: UnsignedValue>(
     number: u32,
     ends: &mut [u32],
 ) -> i64
-    ensures { AnswersEnds (IsSound T.of_number T.unpack T.WIDTH trie.now) NoTrie
+    ensures { AnswersEnds (IsSound T.of_number T.unpack T.WIDTH trie.now) InvalidTrie
         (IsSetOf T.of_number (parts_in T.unpack T.WIDTH trie.now) number) ends.old ends.new
         result }
 {
     let Some(trie) = trie_of::<T>(trie) else {
-        return Refusal::NoTrie.number();
+        return Error::InvalidTrie.number();
     };
     match set_of(alloc, &trie, number) {
         Ok(set) => ends_answered(alloc, &set, ends),
-        Err(_) => Refusal::NoMemory.number(),
+        Err(_) => Error::NoMemory.number(),
     }
 }
 
@@ -64,13 +64,13 @@ fn set_answered<T: UnsignedValue>(
 /// have the value.
 ///
 /// # Errors
-/// Returns the number of [`Refusal::NoTrie`] if the fields of `trie` do not describe a trie, as
+/// Returns the number of [`Error::InvalidTrie`] if the fields of `trie` do not describe a trie, as
 /// those of one that [`bks_trie_open`](crate::opening::bks_trie_open) made do, and of
-/// [`Refusal::NoMemory`] if an allocation fails. The buffer is then unchanged.
+/// [`Error::NoMemory`] if an allocation fails. The buffer is then unchanged.
 #[unsafe(no_mangle)]
 pub extern "C" fn bks_trie_set(alloc: Global, trie: &Trie<'_>, value: u32, ends: &mut [u32]) -> i64
     ensures { let width = value_width trie.now.width in
-        AnswersEnds (IsSoundOf width trie.now) NoTrie
+        AnswersEnds (IsSoundOf width trie.now) InvalidTrie
         (IsSetOf (fitting_in width) (parts_of width trie.now) value) ends.old ends.new result }
 {
     match trie.width {

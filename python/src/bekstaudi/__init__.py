@@ -28,19 +28,19 @@ except ImportError as fault:
 from ._errors import (
     BekstaudiError,
     LongKey,
-    NoForm,
+    InvalidFormat,
     NoMemory,
-    NoSet,
-    NoTrie,
+    InvalidSet,
+    InvalidTrie,
     SameKey,
     TooLarge,
-    TrieRefused,
+    InvalidTrie,
     WideUnit,
     WideValue,
 )
 
-__all__ = ["BekstaudiError", "CodePointSet", "FrozenCodePointSet", "LongKey", "NoForm", "NoMemory"]
-__all__ += ["NoSet", "NoTrie", "SameKey", "TooLarge", "Trie", "TrieRefused", "UnitTrie", "WideUnit", "WideValue"]
+__all__ = ["BekstaudiError", "CodePointSet", "FrozenCodePointSet", "LongKey", "InvalidFormat", "NoMemory"]
+__all__ += ["InvalidSet", "InvalidTrie", "SameKey", "TooLarge", "Trie", "InvalidTrie", "UnitTrie", "WideUnit", "WideValue"]
 __version__ = _native.version
 
 
@@ -107,7 +107,7 @@ class Trie(_native.Trie):
     """A map from code points to unsigned numbers, in the bytes that ICU's `ucptrie_toBinary` writes.
 
     `Trie(data)` opens the trie at the start of a bytes-like object and ignores what follows it;
-    `size` says where it ends. It raises TrieRefused if there is none.
+    `size` says where it ends. It raises InvalidTrie if there is none.
 
     `trie[c]` is the value of a code point. It is the trie's error value above 0x10FFFF, and raises
     ValueError for an int outside 0..=0xFFFFFFFF. `trie[start:stop]`, of ints, are the values of a
@@ -130,7 +130,7 @@ class Trie(_native.Trie):
         2 or 4; None means the smallest that all values fit in. A small trie needs less memory, and
         more time per look-up from 0x1000 on.
 
-        Raises WideValue if a value does not fit, NoForm if there is no such width, TooLarge if the
+        Raises WideValue if a value does not fit, InvalidFormat if there is no such width, TooLarge if the
         trie would be too large, and NoMemory.
         """
         rows = _iter("rows", "an iterable of rows", rows)
@@ -142,7 +142,7 @@ class Trie(_native.Trie):
         if width is None:
             width = next(it for it in (1, 2, 4) if max(numbers) >> 8 * it == 0)
         if _int("width", width) not in (1, 2, 4):
-            raise NoForm(f"width: expected 1, 2 or 4 bytes, found {width!r}")
+            raise InvalidFormat(f"width: expected 1, 2 or 4 bytes, found {width!r}")
         packed = array("I", itertools.chain.from_iterable(rows)).tobytes()
         try:
             return cls(_native.build_trie(packed, default, error, bool(small), width))
@@ -177,7 +177,7 @@ class CodePointSet(_native.CodePointSet):
 
     The set starts at the first boundary, stops before the second, starts again at the third, and so
     on: `CodePointSet([0x41, 0x5B])` is A to Z. Use `from_ranges` and `from_chars` to make a set of
-    ranges and of characters. Raises NoSet if the numbers are not the boundaries of a set.
+    ranges and of characters. Raises InvalidSet if the numbers are not the boundaries of a set.
 
     `in` asks for a code point: no other number is in a set. `len` counts the code points, and
     iteration yields them as ints. `|`, `&`, `-`, `^` and `~` make new sets of the left operand's class;
@@ -191,7 +191,7 @@ class CodePointSet(_native.CodePointSet):
     def from_ranges(cls, pairs):
         """Make the set of ranges: pairs of a first and a last code point, both inclusive.
 
-        They may be in any order and may overlap. Raises NoSet if a first code point is above its
+        They may be in any order and may overlap. Raises InvalidSet if a first code point is above its
         last one, or if one is outside 0..=0x10FFFF.
         """
         made = CodePointSet._from_ranges(pairs)
@@ -201,7 +201,7 @@ class CodePointSet(_native.CodePointSet):
     def from_chars(cls, text):
         """Make the set of the characters of a text, or of any code points.
 
-        These may be any iterable, or integers in a buffer, such as a numpy array. Raises NoSet if one is
+        These may be any iterable, or integers in a buffer, such as a numpy array. Raises InvalidSet if one is
         outside 0..=0x10FFFF.
         """
         made = CodePointSet._from_points(text)
@@ -307,7 +307,7 @@ class UnitTrie(_native.UnitTrie):
     whether there is one. A key is a str, which stands for its units in UTF-16, or a list of units.
     Iteration yields the keys as str, in the order of their units, with U+FFFD for a lone surrogate:
     such a str is not a key, or is another one. `len` is the number of entries, which are counted
-    once; it raises NoTrie if the units are not a trie, as `bool` and `list` do. Two tries are equal if
+    once; it raises InvalidTrie if the units are not a trie, as `bool` and `list` do. Two tries are equal if
     their units are the same, and a trie equals any other mapping with the same entries.
     """
 

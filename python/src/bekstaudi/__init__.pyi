@@ -8,20 +8,20 @@ from . import _native
 from ._errors import (
     BekstaudiError as BekstaudiError,
     LongKey as LongKey,
-    NoForm as NoForm,
+    InvalidFormat as InvalidFormat,
     NoMemory as NoMemory,
-    NoSet as NoSet,
-    NoTrie as NoTrie,
+    InvalidSet as InvalidSet,
+    InvalidTrie as InvalidTrie,
     SameKey as SameKey,
     TooLarge as TooLarge,
-    TrieRefused as TrieRefused,
+    InvalidTrie as InvalidTrie,
     WideUnit as WideUnit,
     WideValue as WideValue,
 )
 
 __all__ = [
-    "BekstaudiError", "CodePointSet", "FrozenCodePointSet", "LongKey", "NoForm", "NoMemory",
-    "NoSet", "NoTrie", "SameKey", "TooLarge", "Trie", "TrieRefused", "UnitTrie", "WideUnit", "WideValue",
+    "BekstaudiError", "CodePointSet", "FrozenCodePointSet", "LongKey", "InvalidFormat", "NoMemory",
+    "InvalidSet", "InvalidTrie", "SameKey", "TooLarge", "Trie", "InvalidTrie", "UnitTrie", "WideUnit", "WideValue",
 ]
 __version__: str
 

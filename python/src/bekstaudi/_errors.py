@@ -8,8 +8,8 @@ class BekstaudiError(Exception):
         return super().__str__() or self.__doc__ or ""
 
 
-class TrieRefused(BekstaudiError, ValueError):
-    """The bytes are not a trie. `status` names the first fault, as in enum bks_status."""
+class InvalidTrie(BekstaudiError, ValueError):
+    """The bytes are not a trie. `status` names the first fault, as in enum bks_error."""
 
     FAULTS = {
         "OK": "there is no fault",
@@ -42,15 +42,15 @@ class NoMemory(BekstaudiError, MemoryError):
     """An allocation failed."""
 
 
-class NoSet(BekstaudiError, ValueError):
+class InvalidSet(BekstaudiError, ValueError):
     """The boundaries of a set are an even count of ascending numbers up to 0x110000."""
 
 
-class NoTrie(BekstaudiError, ValueError):
+class InvalidTrie(BekstaudiError, ValueError):
     """The units are not a trie."""
 
 
-class NoForm(BekstaudiError, ValueError):
+class InvalidFormat(BekstaudiError, ValueError):
     """The values of a trie take 1, 2 or 4 bytes."""
 
 

@@ -16,18 +16,18 @@ use Rattle.icu_trie_builder.specs.Writes.{write_first, write_last, write_value}
 use Rattle.icu_trie_builder.specs.declared.writes.Write.{Write}
 use Rattle.icu_collections_c.specs.Building.{most_bytes, row_answer, row_value}
 use Rattle.icu_collections_c.specs.declared.building.Row.{Row}
-use Rattle.icu_collections_c.specs.declared.status.Refusal.{Refusal}
-use Rattle.icu_collections_c.specs.declared.status.Refusal.TheVariants as refusal
+use Rattle.icu_collections_c.specs.declared.error.Error.{Error}
+use Rattle.icu_collections_c.specs.declared.error.Error.TheVariants as error_of
 
 -- Why no trie is built, by the error of the builder and by that of the writer.
-abbrev pub of_build : BuildError → Refusal
-of_build TooLarge = refusal.TooLarge
-of_build Memory = refusal.NoMemory
+abbrev pub of_build : BuildError → Error
+of_build TooLarge = error_of.TooLarge
+of_build Memory = error_of.NoMemory
 
 -- The same for an error of the writer.
-abbrev pub of_write : WriteError → Refusal
-of_write write.Memory = refusal.NoMemory
-of_write _ = refusal.TooLarge
+abbrev pub of_write : WriteError → Error
+of_write write.Memory = error_of.NoMemory
+of_write _ = error_of.TooLarge
 
 module _ {T : Type 0} (number : T → ℕ) where
   -- The row that says what a write does.

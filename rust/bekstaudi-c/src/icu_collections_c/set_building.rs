@@ -1,8 +1,8 @@
 //! Sets made from ranges, from single code points or from another set.
 
 use crate::icu_collections_c::buffers::write;
+use crate::icu_collections_c::error::Error;
 use crate::icu_collections_c::sets::bks_set_test;
-use crate::icu_collections_c::status::Refusal;
 use crate::icu_zerovec::CODE_POINT_LIMIT;
 use crate::support::AllocError;
 use crate::support::prelude::*;
@@ -70,7 +70,7 @@ fn ends_of_points(points: &[u32]) -> Result<Vec<u32>, AllocError> {
 /// ICU: `uset_addRange` for each range.
 ///
 /// # Errors
-/// Returns the number of [`Refusal::NoMemory`] if an allocation fails. The buffer is then
+/// Returns the number of [`Error::NoMemory`] if an allocation fails. The buffer is then
 /// unchanged.
 pub fn bks_set_from_ranges(ranges: &[Interval], ends: &mut [u32]) -> i64 {
     match ends_of_ranges(ranges) {
@@ -78,7 +78,7 @@ pub fn bks_set_from_ranges(ranges: &[Interval], ends: &mut [u32]) -> i64 {
             write(&made, ends);
             made.len() as i64
         }
-        Err(_) => Refusal::NoMemory.number(),
+        Err(_) => Error::NoMemory.number(),
     }
 }
 
@@ -91,7 +91,7 @@ pub fn bks_set_from_ranges(ranges: &[Interval], ends: &mut [u32]) -> i64 {
 /// ICU: `uset_add` for each code point.
 ///
 /// # Errors
-/// Returns the number of [`Refusal::NoMemory`] if an allocation fails. The buffer is then
+/// Returns the number of [`Error::NoMemory`] if an allocation fails. The buffer is then
 /// unchanged.
 pub fn bks_set_from_points(points: &[u32], ends: &mut [u32]) -> i64 {
     match ends_of_points(points) {
@@ -99,7 +99,7 @@ pub fn bks_set_from_points(points: &[u32], ends: &mut [u32]) -> i64 {
             write(&made, ends);
             made.len() as i64
         }
-        Err(_) => Refusal::NoMemory.number(),
+        Err(_) => Error::NoMemory.number(),
     }
 }
 
@@ -142,11 +142,11 @@ fn write_from(items: &[u32], from: usize, buffer: &mut [u32]) {
 /// ICU: `uset_complement`.
 ///
 /// # Errors
-/// Returns the number of [`Refusal::NoSet`] if the list is not the boundaries of a set
+/// Returns the number of [`Error::InvalidSet`] if the list is not the boundaries of a set
 /// ([`bks_set_test`]). The buffer is then unchanged.
 pub fn bks_set_complement(ends: &[u32], complement: &mut [u32]) -> i64 {
     if !bks_set_test(ends) {
-        return Refusal::NoSet.number();
+        return Error::InvalidSet.number();
     }
     let (rest, back) = back_toggled(ends);
     let (front, middle) = front_toggled(rest);

@@ -1,7 +1,7 @@
 //! The spans of a text: its longest prefix or suffix of characters that are all in a set, or all
 //! outside it.
 
-use crate::icu_collections_c::status::Refusal;
+use crate::icu_collections_c::error::Error;
 use crate::icu_frozen_sets::boundary_spans;
 use crate::icu_frozen_sets::view::FrozenView;
 use crate::icu_utf::characters::{first_character, last_character};
@@ -33,7 +33,7 @@ fn starts_plainly(text: &[u8]) -> bool {
     text.is_empty() || text[0] < 0x80
 }
 
-/// Returns the length of a span, or the number of [`Refusal::NoText`] if the text is not empty and
+/// Returns the length of a span, or the number of [`Error::InvalidUtf8`] if the text is not empty and
 /// does not start with a character.
 #[inline(always)]
 fn length_or_no_text(text: &[u8], span: usize) -> i64 {
@@ -41,12 +41,12 @@ fn length_or_no_text(text: &[u8], span: usize) -> i64 {
         return span as i64;
     }
     if lacks_first(text) {
-        return Refusal::NoText.number();
+        return Error::InvalidUtf8.number();
     }
     0
 }
 
-/// Returns the offset of a span from the end, or the number of [`Refusal::NoText`] if the text is
+/// Returns the offset of a span from the end, or the number of [`Error::InvalidUtf8`] if the text is
 /// not empty and does not end with a character.
 #[inline(always)]
 fn start_or_no_text(text: &[u8], start: usize) -> i64 {
@@ -54,7 +54,7 @@ fn start_or_no_text(text: &[u8], start: usize) -> i64 {
         return start as i64;
     }
     if lacks_last(text) {
-        return Refusal::NoText.number();
+        return Error::InvalidUtf8.number();
     }
     start as i64
 }
@@ -68,7 +68,7 @@ fn start_or_no_text(text: &[u8], start: usize) -> i64 {
 /// ICU: `uset_spanUTF8`, which takes an ill-formed sequence for U+FFFD instead.
 ///
 /// # Errors
-/// Returns the number of [`Refusal::NoText`] if the text is not empty and does not start with a
+/// Returns the number of [`Error::InvalidUtf8`] if the text is not empty and does not start with a
 /// character.
 pub fn bks_frozen_span(table: &[u64], text: &[u8], held: bool) -> i64 {
     let set = FrozenView::new(table);
@@ -86,7 +86,7 @@ pub fn bks_frozen_span(table: &[u64], text: &[u8], held: bool) -> i64 {
 /// ICU: `uset_spanBackUTF8`, which takes an ill-formed sequence for U+FFFD instead.
 ///
 /// # Errors
-/// Returns the number of [`Refusal::NoText`] if the text is not empty and does not end with a
+/// Returns the number of [`Error::InvalidUtf8`] if the text is not empty and does not end with a
 /// character.
 pub fn bks_frozen_span_back(table: &[u64], text: &[u8], held: bool) -> i64 {
     start_or_no_text(text, FrozenView::new(table).span_back_utf8(text, held))
@@ -110,7 +110,7 @@ pub fn bks_frozen_span_utf16(table: &[u64], text: &[u16], held: bool) -> usize {
 /// ICU: `uset_spanUTF8`, which takes an ill-formed sequence for U+FFFD instead.
 ///
 /// # Errors
-/// Returns the number of [`Refusal::NoText`] if the text is not empty and does not start with a
+/// Returns the number of [`Error::InvalidUtf8`] if the text is not empty and does not start with a
 /// character.
 pub fn bks_set_span(ends: &[u32], text: &[u8], held: bool) -> i64 {
     length_or_no_text(text, boundary_spans::span_utf8(ends, text, held))
@@ -124,7 +124,7 @@ pub fn bks_set_span(ends: &[u32], text: &[u8], held: bool) -> i64 {
 /// ICU: `uset_spanBackUTF8`, which takes an ill-formed sequence for U+FFFD instead.
 ///
 /// # Errors
-/// Returns the number of [`Refusal::NoText`] if the text is not empty and does not end with a
+/// Returns the number of [`Error::InvalidUtf8`] if the text is not empty and does not end with a
 /// character.
 pub fn bks_set_span_back(ends: &[u32], text: &[u8], held: bool) -> i64 {
     start_or_no_text(text, boundary_spans::span_back_utf8(ends, text, held))

@@ -3,7 +3,7 @@
 
 use crate::icu_char16trie::char16trie::Char16TrieCursor;
 use crate::icu_collections_c::buffers::write;
-use crate::icu_collections_c::status::Refusal;
+use crate::icu_collections_c::error::Error;
 use crate::icu_collections_c::unit_tries::{Cursor, place_of};
 use crate::icu_collections_c::units::trie_in;
 use crate::support::prelude::*;
@@ -15,7 +15,7 @@ use crate::support::prelude::*;
 /// ICU: `UCharsTrie::getNextUChars`.
 ///
 /// # Errors
-/// Returns the number of [`Refusal::NoMemory`] if an allocation fails. The buffer is then
+/// Returns the number of [`Error::NoMemory`] if an allocation fails. The buffer is then
 /// unchanged.
 pub fn bks_units_next(units: &[u8], cursor: &Cursor, next: &mut [u16]) -> i64 {
     let trie = trie_in(units);
@@ -25,7 +25,7 @@ pub fn bks_units_next(units: &[u8], cursor: &Cursor, next: &mut [u16]) -> i64 {
             write(&list, next);
             list.len() as i64
         }
-        Err(_) => Refusal::NoMemory.number(),
+        Err(_) => Error::NoMemory.number(),
     }
 }
 
@@ -39,7 +39,7 @@ pub fn bks_units_next(units: &[u8], cursor: &Cursor, next: &mut [u16]) -> i64 {
 /// ICU: `UCharsTrie::hasUniqueValue`.
 ///
 /// # Errors
-/// Returns the number of [`Refusal::NoMemory`] if an allocation fails. `value` is then unchanged.
+/// Returns the number of [`Error::NoMemory`] if an allocation fails. `value` is then unchanged.
 pub fn bks_units_unique(units: &[u8], cursor: &Cursor, value: &mut i32) -> i64 {
     let trie = trie_in(units);
     let here = Char16TrieCursor::resume(trie.data.as_slice(), place_of(cursor));
@@ -49,6 +49,6 @@ pub fn bks_units_unique(units: &[u8], cursor: &Cursor, value: &mut i32) -> i64 {
             1
         }
         Ok(None) => 0,
-        Err(_) => Refusal::NoMemory.number(),
+        Err(_) => Error::NoMemory.number(),
     }
 }

@@ -2,8 +2,8 @@
 
 use crate::icu_char16trie::char16trie::Entries;
 use crate::icu_collections_c::buffers::write;
+use crate::icu_collections_c::error::Error;
 use crate::icu_collections_c::listing::Word;
-use crate::icu_collections_c::status::Refusal;
 use crate::icu_collections_c::units::trie_in;
 use crate::icu_zerovec::MemoryError;
 use crate::support::AllocError;
@@ -123,7 +123,7 @@ fn page_below(
 /// ICU: `UCharsTrie::Iterator` of a trie that is not at its root.
 ///
 /// # Errors
-/// Returns the number of [`Refusal::NoText`] if `prefix` is not UTF-8, and of [`Refusal::NoMemory`]
+/// Returns the number of [`Error::InvalidUtf8`] if `prefix` is not UTF-8, and of [`Error::NoMemory`]
 /// if an allocation fails. Nothing is then written.
 pub fn bks_units_list_below(
     units: &[u8],
@@ -134,7 +134,7 @@ pub fn bks_units_list_below(
     texts_size: &mut usize,
 ) -> i64 {
     let Ok(prefix) = str::from_utf8(prefix) else {
-        return Refusal::NoText.number();
+        return Error::InvalidUtf8.number();
     };
     match page_below(units, prefix, skipped, words.len(), texts.len()) {
         Ok(page) => {
@@ -143,6 +143,6 @@ pub fn bks_units_list_below(
             *texts_size = page.size;
             page.words.len() as i64
         }
-        Err(_) => Refusal::NoMemory.number(),
+        Err(_) => Error::NoMemory.number(),
     }
 }

@@ -1,6 +1,6 @@
 //! All keys of a unit trie that are prefixes of a text.
 
-use crate::icu_collections_c::status::Refusal;
+use crate::icu_collections_c::error::Error;
 use crate::icu_collections_c::text_steps::{pass_character, starts_ill_formed};
 use crate::icu_collections_c::units::trie_in;
 use crate::support::prelude::*;
@@ -85,11 +85,11 @@ fn prefixes_in(units: &[u8], bytes: &[u8], found: &mut [Prefix]) -> usize {
 /// sequence ends the text.
 ///
 /// # Errors
-/// Returns the number of [`Refusal::NoText`] if the text is not empty and does not start with a
+/// Returns the number of [`Error::InvalidUtf8`] if the text is not empty and does not start with a
 /// character. The buffer is then unchanged.
 pub fn bks_units_prefixes_utf8(units: &[u8], text: &[u8], found: &mut [Prefix]) -> i64 {
     if starts_ill_formed(text) {
-        return Refusal::NoText.number();
+        return Error::InvalidUtf8.number();
     }
     prefixes_in(units, text, found).min(MOST) as i64
 }

@@ -1,6 +1,6 @@
 //! Unit tries whose keys are texts in UTF-8: look-ups and building.
 
-use crate::icu_collections_c::status::Refusal;
+use crate::icu_collections_c::error::Error;
 use crate::icu_collections_c::unit_building::{bks_units_build, has_units};
 use crate::icu_collections_c::unit_keys::transcoded;
 use crate::icu_collections_c::units::{give, trie_in};
@@ -50,13 +50,13 @@ fn are_texts(keys: &[u8], lengths: &[usize]) -> bool {
 /// # Errors
 /// Returns the number of the first of these that applies, and leaves the buffer unchanged:
 ///
-/// - [`Refusal::NoEntries`] if `values` and `lengths` have different lengths, or the keys need more
+/// - [`Error::InvalidEntries`] if `values` and `lengths` have different lengths, or the keys need more
 ///   bytes than `keys` has
-/// - [`Refusal::NoText`] if a key is not UTF-8 on its own
-/// - [`Refusal::LongKey`] if a key has more than 65,535 units
-/// - [`Refusal::SameKey`] if two entries have the same key
-/// - [`Refusal::TooLarge`] if 2 U + 16 E is above 0x7FFFFFFF, for U units in all keys
-/// - [`Refusal::NoMemory`] if an allocation fails, which may come before the last three
+/// - [`Error::InvalidUtf8`] if a key is not UTF-8 on its own
+/// - [`Error::LongKey`] if a key has more than 65,535 units
+/// - [`Error::SameKey`] if two entries have the same key
+/// - [`Error::TooLarge`] if 2 U + 16 E is above 0x7FFFFFFF, for U units in all keys
+/// - [`Error::NoMemory`] if an allocation fails, which may come before the last three
 pub fn bks_units_build_utf8(
     keys: &[u8],
     lengths: &[usize],
@@ -64,13 +64,13 @@ pub fn bks_units_build_utf8(
     bytes: &mut [u8],
 ) -> i64 {
     if lengths.len() != values.len() || !has_units(keys.len(), lengths) {
-        return Refusal::NoEntries.number();
+        return Error::InvalidEntries.number();
     }
     if !are_texts(keys, lengths) {
-        return Refusal::NoText.number();
+        return Error::InvalidUtf8.number();
     }
     match transcoded(keys, lengths) {
         Ok(given) => bks_units_build(&given.units, &given.lengths, values, bytes),
-        Err(_) => Refusal::NoMemory.number(),
+        Err(_) => Error::NoMemory.number(),
     }
 }
