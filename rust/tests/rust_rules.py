@@ -2,7 +2,7 @@
 Rust, what they need that the code doesn't, and forms that rust/make has to refuse."""
 
 # Our crates that tests call beside the library.
-TESTED = "ucptab_table uses".split()
+TESTED = "ucptab_table examples".split()
 # What these have in another form, beside the rules of rust/rules.txt.
 TEST_RULES = [
     *((f".collect{of}({it})", ".listed()") for of in ("", "::<Vec<_>>") for it in ("alloc", "rt.alloc()")),

@@ -52,7 +52,7 @@
 //! cursor.value()
 //! ```
 //!
-//! These lines are proved and run in the crate `uses`. This crate has no code of its own: it
+//! These lines are proved and run in the crate `examples`. This crate has no code of its own: it
 //! re-exports the items of the crates below, one for each layer, under the Rust crate's paths.
 #![tactic(auto)]
 

@@ -1,9 +1,9 @@
-//! Callers in the crate `uses`, translated and run on rows: a quick check for normalization,
+//! Callers in the crate `examples`, translated and run on rows: a quick check for normalization,
 //! completion of words, and cutting a text into words.
 
 use crate::char16trie::Char16Trie;
 use crate::codepointtrie::{TrieType, Write, build_from_writes};
-use crate::uses::{texts, words};
+use crate::examples::{texts, words};
 use std::string::ToString;
 use std::vec::Vec;
 

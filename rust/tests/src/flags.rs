@@ -1,6 +1,6 @@
 //! Packed vectors of a type of which several byte sequences encode the same value.
 
-use crate::uses::categories::Category;
+use crate::examples::categories::Category;
 use crate::zerovec::ZeroVec;
 use crate::zerovec::ule::{AsULE, UleError};
 use std::hash::{BuildHasher, BuildHasherDefault, DefaultHasher, Hash};

@@ -1,4 +1,4 @@
-//! The crate `icu_collections`, as `uses` names it.
+//! The crate `icu_collections`, as `examples` names it.
 
 pub(crate) mod codepointtrie {
     pub(crate) use crate::codepointtrie::*;

@@ -1,4 +1,4 @@
-//! The parts of Rattle's std that `ucptab_table` and `uses` need as modules of this crate, and random
+//! The parts of Rattle's std that `ucptab_table` and `examples` need as modules of this crate, and random
 //! numbers.
 
 pub(crate) use crate::support::AllocError;

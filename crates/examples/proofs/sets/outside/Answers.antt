@@ -1,0 +1,14 @@
+use Rattle.std.proofs.Common.{◌≡◌, ◌∙◌, ap, [], refl, rules, not}
+use Rattle.icu_collections.proofs.CallerLemmas.{holds-nil}
+use Rattle.icu_collections.specs.CodePointInversionList.{holds}
+use Rattle.examples.proofs.sets.outside.Goals as goal
+
+pub returns : goal.returns
+returns c = λ n l.
+    let start : c.new-builder.result ≡ [] = search rules in
+    let added : holds c.add_set.new.self n ≡ holds c.args.set.now n =
+    c.in_ok-add_set.ensures.ok n l ∙ rw (start, holds-nil n) refl in
+    let changed : holds c.complement.new.self n ≡ not (holds c.add_set.new.self n) =
+    c.in_ok-complement.ensures.ok n l in
+    let made : c.in_ok-made.made ≡ c.complement.new.self = search rules in
+    rw made (changed ∙ ap not added)

@@ -1,4 +1,0 @@
-use Rattle.uses.proofs.categories.categories_of.Goals as goal
-
-pub returns : goal.returns
-returns c = λ n. c.in_ok-trie.ensures.trie.answers.value n
