@@ -574,7 +574,8 @@ public:
         return values;
     }
 
-    /// The same for a text in UTF-32, and values as above of a text of char8_t.
+    /// Returns the values of the numbers of a text in UTF-32, in order. Texts of char8_t have the values
+    /// of UTF-8, from C++20 on.
     std::vector<Value> values_of(std::u32string_view text) const {
         view<std::uint32_t> points = detail::points_of(text);
         std::vector<Value> values(text.size());
@@ -884,7 +885,7 @@ public:
     }
     std::optional<std::int32_t> operator[](std::string_view key) const noexcept { return get(key); }
 
-    /// The same for a key in UTF-32.
+    /// Returns the value of a key in UTF-32, or nothing if it is not there.
     std::optional<std::int32_t> operator[](std::u32string_view key) const {
         std::optional<std::u16string> units = detail::utf16_of(key);
         return units ? (*this)[std::u16string_view(*units)] : std::nullopt;
@@ -911,12 +912,13 @@ public:
         });
     }
 
-    /// The same for a text in UTF-32.
+    /// Returns the longest key that is a prefix of a text in UTF-32, or nothing if there is none.
     std::optional<match> longest(std::u32string_view text) const {
         std::optional<match> last;
         each_prefix(text, [&](match found) { last = found; });
         return last;
     }
+    /// Returns all keys that are prefixes of a text in UTF-32, the shortest first.
     std::vector<match> prefixes(std::u32string_view text) const {
         std::vector<match> all;
         each_prefix(text, [&](match found) { all.push_back(found); });
@@ -924,7 +926,7 @@ public:
     }
 
 #ifdef __cpp_lib_char8_t
-    /// The same for texts of char8_t.
+    /// Texts of char8_t have the functions of UTF-8.
     std::optional<std::int32_t> get(std::u8string_view key) const noexcept {
         return get(detail::bytes_of(key));
     }
