@@ -5,7 +5,8 @@
 # here from each NAME.txt with a NAME.runs.txt in data and tests/data, and in the folder that the variable
 # TABLES names, if it is set. ucptrie also writes these in ICU's binary form: ICU4C opens it, finds the
 # values of the exported trie, and would write the same bytes. tests/gate/exported/properties compares
-# all files of icuexportdata with ICU. An argument is the program, by default the proved one. The last line is 'all exported tries as expected', with status 0,
+# all files of icuexportdata with ICU. An argument is the program, by default the proved one.
+# The last line is 'all exported tries as expected', with status 0,
 # or says what failed, with status 1.
 set -eu
 here=$(dirname -- "$(readlink -f -- "$0")")
