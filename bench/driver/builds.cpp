@@ -19,10 +19,12 @@ static void build(const Width &width, const Table &table, bool is_fast) {
             fail("a build fails");
     };
     const IcuTrie trie = icu_trie(table, is_fast, width.icu);
-    ours(answers.size());
-    for (uint32_t c = 0; c < answers.size(); c++)
-        if (answers[c] != ucptrie_get(trie.get(), c))
-            fail("a built trie differs at " + std::to_string(c));
+    each_build([&] {
+        ours(answers.size());
+        for (uint32_t c = 0; c < answers.size(); c++)
+            if (answers[c] != ucptrie_get(trie.get(), c))
+                fail("a built trie differs at " + std::to_string(c));
+    });
     const Call by_ours = [&] { return ours(0), 0; },
                by_icu = [&] { return icu_trie(table, is_fast, width.icu), 0; };
     row(width.kernel, name_of(table, is_fast), 1, by_ours, nullptr, by_icu);

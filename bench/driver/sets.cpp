@@ -66,7 +66,7 @@ static void contains() {
         uint32_t limit;
     } kinds[] = {{"latin1", 0x100}, {"bmp", 0x10000}, {"all", 0x110000}};
     for (const Set &s : all_sets()) {
-        compare(s);
+        each_build([&] { compare(s); });
         for (auto &kind : kinds) {
             vector<uint32_t> points(16384);
             for (auto &c : points) c = random_number(kind.limit);
