@@ -113,7 +113,7 @@ int main(int count, char **arguments) {
     opened();
     sets();
     frozen_sets();
-    set_blends();
+    set_operations();
     unit_tries();
     packed();
     c_calls();

@@ -51,7 +51,7 @@ void builds();
 void opened();
 void sets();
 void frozen_sets();
-void set_blends();
+void set_operations();
 void unit_tries();
 void packed();
 // The C functions.

@@ -108,7 +108,7 @@ static void all_ranges() {
     in_both_orders("many4000", starts, ends);
 }
 
-void set_blends() {
+void set_operations() {
     const char *const names[] = {"set_add", "set_remove", "set_retain", "set_complement"};
     for (uint32_t how = 0; how < 4; how++)
         if (wanted(names[how]))
