@@ -1,10 +1,8 @@
--- The first cells of an index, and values below an end.
-use Rattle.std.proofs.Common.{◌≡◌, ◌∙◌, sym, ap, subst, ℕ, zero, suc, ◌*◌, ◌/◌, ◌<◌, ◌≤◌, nat_lt, Bor, List, [], ◌∷◌, length, get_or, slice_get, take, drop, Option, Some, None, if◌then◌else◌, refl, arith, inl, inr}
+-- The first cells of an index, and the first bytes of values that take one byte each.
+use Rattle.std.proofs.Common.{◌≡◌, ◌∙◌, sym, ap, subst, ℕ, zero, suc, ◌*◌, ◌/◌, ◌<◌, ◌≤◌, Bor, List, [], ◌∷◌, length, get_or, slice_get, take, drop, Option, Some, None, refl, arith}
 use Rattle.std.proofs.Math.Nat.{suc-mul, zero-mul}
 use Rattle.std.proofs.Math.Seq.{drop-cons}
-use Rattle.std.proofs.lemmas.Bool.{cases_lt, le-ltb, lt-ltb}
 use Rattle.std.proofs.lemmas.List.{drop-drop, get_or-take}
-use Rattle.std.proofs.lemmas.Option.{slice_get_cases}
 use Rattle.std.specs.Array.{IsFirstChunk}
 use Rattle.std.specs.Int.{w16, from_le_bytes}
 use Rattle.std.specs.Option.{MatchOption, unwrap_or}
@@ -13,29 +11,6 @@ use Rattle.icu_zerovec.specs.Cells.{IsPacked, cell, values_of}
 use Rattle.icu_zerovec.specs.PackedBytes.{number_of}
 use Rattle.icu_zerovec.proofs.CallerLemmas.{get-values_of, length-values_of}
 use Rattle.icu_trie_text.specs.Inside.Ascii.{AreFirstBytes}
-
--- A value that was read below the end.
-pub below_is : {T : Type 0} (i end : ℕ) (x : T) (found : Option T) → Some x ≡ (if nat_lt i end then found else None)
-    → (i < end) × (found ≡ Some x)
-below_is i end x found e = elim (cases_lt i end) [
-  | inl below ↦ (below, sym (rw (lt-ltb i end below) at e))
-  | inr past ↦ let none : Some x ≡ None = rw (le-ltb i end past) at e in cc
-]
-
-none_some : {T : Type 0} (x : T) → None ≡ Some x → ⊥
-none_some x e = cc
-
--- If nothing was read, the index is not below the end.
-pub below_none : {T : Type 0} (xs : List T) (i end : ℕ) → None ≡ (if nat_lt i end then slice_get xs i else None) → end ≤ length xs → end ≤ i
-below_none xs i end e there = elim (cases_lt i end) [
-  | inr past ↦ past
-  | inl below ↦
-      let none = rw (lt-ltb i end below) at e in
-      elim (slice_get_cases xs i).1 [
-        | inl found ↦ let some = found.2 in absurd (none_some found.0 (none ∙ some))
-        | inr past ↦ let out = past.0 in omega (arith, out, there)
-      ]
-]
 
 -- ---- chunks are cells
 length-chunks : (w n : ℕ) (b : List ℕ) → length (first_chunks w n b) ≡ n

@@ -5,7 +5,7 @@ pub mod CopiedItems
 pub mod CopiedLemmas
 pub mod FoundLemmas
 pub mod IndexLemmas
-pub mod NearLemmas
+pub mod TwoByteLemmas
 pub mod Utf8ValueLemmas
 pub mod ValueLemmas
 pub mod WordLemmas

@@ -4,8 +4,9 @@ ghost use Rattle.std.specs.Option.{MatchOption};
 ghost use Rattle.std.specs.Str.{IsUtf8, chars};
 ghost use Rattle.std.specs.Str.Iter.{chars_rest};
 ghost use Rattle.icu_trie_text.specs.FirstCharacter.{IsFirstValue};
+ghost use Rattle.icu_trie_text.specs.Inside.Lookup.{lookup_parts};
 
-use crate::ascii::AsciiInPlace;
+use crate::lookup::TextLookup;
 use icu_trie_core::value::TrieValue;
 use std::str::Chars;
 
@@ -13,18 +14,18 @@ use std::str::Chars;
 /// if none are left.
 #[inline(always)]
 pub(crate) fn first_value<T: TrieValue>(
-    trie: &AsciiInPlace<'_, T>,
+    trie: &TextLookup<'_, T>,
     text: &mut Chars<'_>,
 ) -> Option<(char, T)>
     requires { IsUtf8 (chars_rest text.old) }
     ensures first { MatchOption result
         ((chars (chars_rest text.old) ≡ []) × (chars (chars_rest text.new) ≡ []))
-        (λ item. IsFirstValue trie.now (chars_rest text.old) item (chars_rest text.new)) }
+        (λ item. IsFirstValue (lookup_parts trie.now) (chars_rest text.old) item (chars_rest text.new)) }
     ensures rest { IsUtf8 (chars_rest text.new) }
     ensures fewer { length (chars_rest text.new) ≤ length (chars_rest text.old) }
 {
     let first = text.next()?;
-    match trie.ascii(u32::from(first)) {
+    match trie.in_place(u32::from(first)) {
         Some(value) => Some((first, value)),
         None => Some((first, trie.get(first))),
     }

@@ -5,8 +5,8 @@ ghost use Rattle.std.specs.Iterator.Runs.{EveryRun, ItemsMapTo};
 ghost use Rattle.std.specs.Str.{chars};
 ghost use Rattle.icu_trie_text.specs.Indices.{AreIndicesOf, GivesIndex, index_item, with_indices};
 
-use crate::ascii::AsciiInPlace;
 use crate::first::first_value;
+use crate::lookup::TextLookup;
 use icu_trie::cptrie::CodePointTrie;
 use icu_trie_core::value::TrieValue;
 use std::marker::Model;
@@ -17,7 +17,7 @@ use std::str::Chars;
 /// Created by [`value_indices_of`].
 #[derive(Debug, Drop)]
 pub struct ValueIndicesOf<'a, T: TrieValue> {
-    trie: AsciiInPlace<'a, T>,
+    trie: TextLookup<'a, T>,
     rest: Chars<'a>,
     /// The length of the whole text in bytes.
     end: usize,
@@ -28,10 +28,11 @@ impl<'a, T: TrieValue> Model for ValueIndicesOf<'a, T> {
     ghost use Rattle.std.specs.Str.{IsUtf8, chars};
     ghost use Rattle.std.specs.Str.Iter.{chars_rest};
     ghost use Rattle.icu_trie_text.specs.Indices.{with_indices};
+    ghost use Rattle.icu_trie_text.specs.Inside.Lookup.{lookup_parts};
 
     ghost Value = { List (ℕ × ℕ × Option T) };
 
-    ghost view = { λ a. with_indices a.trie (a.end - length (chars_rest a.rest))
+    ghost view = { λ a. with_indices (lookup_parts a.trie) (a.end - length (chars_rest a.rest))
         (chars (chars_rest a.rest)) };
 
     ghost invariant = { λ a. IsUtf8 (chars_rest a.rest) × (length (chars_rest a.rest) ≤ a.end) };
@@ -60,7 +61,7 @@ pub fn value_indices_of<'a, T: TrieValue>(
     ensures runs { EveryRun (GivesIndex {T = T}) (λ p. ItemsMapTo p index_item p.from) }
 {
     ValueIndicesOf {
-        trie: AsciiInPlace::new(trie),
+        trie: TextLookup::new(trie),
         rest: text.chars(),
         end: text.len(),
     }

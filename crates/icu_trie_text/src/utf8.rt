@@ -6,10 +6,12 @@ ghost use Rattle.std.specs.Option.{MatchOption};
 ghost use Rattle.std.specs.Str.{IsUtf8, StartsWithNoChar, chars};
 ghost use Rattle.icu_trie.specs.Parts.{Parts, trie_value};
 ghost use Rattle.icu_utf.specs.Utf8.{IsFirstPart};
+ghost use Rattle.icu_trie_text.specs.Inside.Lookup.{lookup_parts};
 ghost use Rattle.icu_trie_text.specs.Utf8Values.{AreValuesOfBytes, GivesPart, IsFirstItem};
 ghost use Rattle.icu_trie_text.specs.Values.{AreValuesOf};
 
-use crate::ascii::AsciiInPlace;
+use crate::lookup::TextLookup;
+use crate::part_values::PartValues;
 use icu_trie::cptrie::CodePointTrie;
 use icu_trie_core::value::TrieValue;
 use icu_utf::first_utf8::{ill_formed_size, of_four, place_of_three, place_of_two};
@@ -22,17 +24,18 @@ use std::slice::Iter;
 /// Created by [`values_of_utf8`].
 #[derive(Debug, Drop)]
 pub struct ValuesOfUtf8<'a, T: TrieValue> {
-    trie: AsciiInPlace<'a, T>,
+    trie: TextLookup<'a, T>,
     rest: Iter<'a, u8>,
 }
 
 impl<'a, T: TrieValue> Model for ValuesOfUtf8<'a, T> {
     ghost use Rattle.std.specs.Slice.Iter.{iter_rest};
+    ghost use Rattle.icu_trie_text.specs.Inside.Lookup.{lookup_parts};
     ghost use Rattle.icu_trie_text.specs.Utf8Values.{BytesToValue};
 
     ghost Value = { BytesToValue T };
 
-    ghost view = { λ a. record { trie = a.trie; bytes = iter_rest a.rest } };
+    ghost view = { λ a. record { trie = lookup_parts a.trie; bytes = iter_rest a.rest } };
 }
 
 /// Returns an iterator over the characters of the bytes in order, each with its value in the trie.
@@ -59,7 +62,7 @@ pub fn values_of_utf8<'a, T: TrieValue>(
         → AreValuesOf trie.now (chars bytes.now) items }
 {
     ValuesOfUtf8 {
-        trie: AsciiInPlace::new(trie),
+        trie: TextLookup::new(trie),
         rest: bytes.iter(),
     }
 }
@@ -81,12 +84,12 @@ fn item_of<T>(number: u32, value: T, size: usize) -> ((char, T), usize)
 /// known about its characters saves checks.
 #[inline(always)]
 fn character_item<T: TrieValue>(
-    trie: &AsciiInPlace<'_, T>,
+    trie: &TextLookup<'_, T>,
     bytes: &[u8],
 ) -> Option<((char, T), usize)>
     requires { 0 < length bytes.now }
     ensures { MatchOption result (StartsWithNoChar bytes.now)
-        (λ found. IsFirstItem trie.now bytes.now found.0 found.1) }
+        (λ found. IsFirstItem (lookup_parts trie.now) bytes.now found.0 found.1) }
 {
     let lead = bytes[0];
     if lead < 0xE0 {
@@ -104,19 +107,19 @@ fn character_item<T: TrieValue>(
         Some(item_of(block * 64 + place, trie.at(block, place), 3))
     } else {
         let c = of_four(bytes)?;
-        Some(((c, trie.far(c)), 4))
+        Some(((c, trie.get_far(c)), 4))
     }
 }
 
 /// Returns the item of the first part of the bytes, which are not empty, and the size of the part.
 #[inline(always)]
-fn first_item<T: TrieValue>(trie: &AsciiInPlace<'_, T>, bytes: &[u8]) -> ((char, T), usize)
+fn first_item<T: TrieValue>(trie: &TextLookup<'_, T>, bytes: &[u8]) -> ((char, T), usize)
     requires { 0 < length bytes.now }
-    ensures { IsFirstItem trie.now bytes.now result.0 result.1 }
+    ensures { IsFirstItem (lookup_parts trie.now) bytes.now result.0 result.1 }
 {
     match character_item(trie, bytes) {
         Some(found) => found,
-        None => (('\u{FFFD}', trie.error_value()), ill_formed_size(bytes)),
+        None => (('\u{FFFD}', trie.error()), ill_formed_size(bytes)),
     }
 }
 
@@ -131,7 +134,7 @@ impl<'a, T: TrieValue> Iterator for ValuesOfUtf8<'a, T> {
     fn next(&mut self) -> Option<(char, T)> {
         let bytes = self.rest.as_slice();
         let lead = *bytes.first()?;
-        if let Some(value) = self.trie.ascii(u32::from(lead)) {
+        if let Some(value) = self.trie.in_place(u32::from(lead)) {
             self.rest.next();
             return Some((char::from(lead), value));
         }

@@ -5,8 +5,8 @@ ghost use Rattle.std.specs.Iterator.Runs.{EveryRun, ItemsMapTo};
 ghost use Rattle.std.specs.Str.{chars};
 ghost use Rattle.icu_trie_text.specs.Values.{AreValuesOf, GivesValue, value_item, with_values};
 
-use crate::ascii::AsciiInPlace;
 use crate::first::first_value;
+use crate::lookup::TextLookup;
 use icu_trie::cptrie::CodePointTrie;
 use icu_trie_core::value::TrieValue;
 use std::marker::Model;
@@ -17,7 +17,7 @@ use std::str::Chars;
 /// Created by [`values_of`].
 #[derive(Debug, Drop)]
 pub struct ValuesOf<'a, T: TrieValue> {
-    trie: AsciiInPlace<'a, T>,
+    trie: TextLookup<'a, T>,
     rest: Chars<'a>,
 }
 
@@ -25,11 +25,12 @@ impl<'a, T: TrieValue> Model for ValuesOf<'a, T> {
     ghost use Rattle.std.specs.Prelude.{ℕ, List, Option};
     ghost use Rattle.std.specs.Str.{IsUtf8, chars};
     ghost use Rattle.std.specs.Str.Iter.{chars_rest};
+    ghost use Rattle.icu_trie_text.specs.Inside.Lookup.{lookup_parts};
     ghost use Rattle.icu_trie_text.specs.Values.{with_values};
 
     ghost Value = { List (ℕ × Option T) };
 
-    ghost view = { λ a. with_values a.trie (chars (chars_rest a.rest)) };
+    ghost view = { λ a. with_values (lookup_parts a.trie) (chars (chars_rest a.rest)) };
 
     ghost invariant = { λ a. IsUtf8 (chars_rest a.rest) };
 }
@@ -53,7 +54,7 @@ pub fn values_of<'a, T: TrieValue>(trie: &'a CodePointTrie<'_, T>, text: &'a str
     ensures runs { EveryRun (GivesValue {T = T}) (λ p. ItemsMapTo p value_item p.from) }
 {
     ValuesOf {
-        trie: AsciiInPlace::new(trie),
+        trie: TextLookup::new(trie),
         rest: text.chars(),
     }
 }

@@ -2,107 +2,9 @@
 
 use crate::icu_trie::cptrie::CodePointTrie;
 use crate::icu_trie_core::value::TrieValue;
-use crate::icu_trie_text::ascii::ascii_end;
 use crate::icu_trie_text::copy_parts::{Copied, copy_parts};
-use crate::icu_trie_text::part_values::PartValues;
-use crate::icu_zerovec::ZeroSlice;
-use crate::support::AllocError;
+use crate::icu_trie_text::lookup::TextLookup;
 use crate::support::prelude::*;
-
-/// A trie with its cells at hand.
-struct TrieCells<'a, T: TrieValue> {
-    trie: &'a CodePointTrie<'a, T>,
-    index: ZeroSlice<'a, u16>,
-    values: ZeroSlice<'a, T>,
-    /// The first bytes of the data, which are the values of ASCII if `ascii_end` is not 0 and each
-    /// takes one byte.
-    ascii: &'a [u8; 0x80],
-    /// 0x80 if the data start with the values of ASCII, and otherwise 0.
-    ascii_end: u8,
-    /// The number of blocks of 64 code points in the fast index.
-    blocks: u32,
-}
-
-impl<'a, T: TrieValue> Clone for TrieCells<'a, T> {
-    #[inline(always)]
-    fn clone(&self) -> TrieCells<'a, T> {
-        *self
-    }
-}
-
-impl<'a, T: TrieValue> Copy for TrieCells<'a, T> {}
-
-/// Returns the first 128 bytes of values, or zeros if there are fewer.
-#[inline(always)]
-fn first_bytes<'a, T: TrieValue>(values: ZeroSlice<'a, T>) -> &'a [u8; 0x80] {
-    values
-        .as_bytes()
-        .first_chunk::<0x80>()
-        .unwrap_or(&[0; 0x80])
-}
-
-impl<'a, T: TrieValue> TrieCells<'a, T> {
-    /// Borrows the trie.
-    #[inline(always)]
-    fn new(trie: &'a CodePointTrie<'_, T>) -> TrieCells<'a, T> {
-        let (header, index, values) = trie.parts();
-        TrieCells {
-            trie,
-            index,
-            values,
-            ascii: first_bytes(values),
-            ascii_end: ascii_end(index, values) as u8,
-            blocks: header.trie_type.fast_index_len() as u32,
-        }
-    }
-}
-
-impl<'a, T: TrieValue> PartValues<T> for TrieCells<'a, T> {
-    #[inline(always)]
-    fn ascii_end(&self) -> u8 {
-        self.ascii_end
-    }
-
-    #[inline(always)]
-    fn blocks(&self) -> u32 {
-        self.blocks
-    }
-
-    #[inline(always)]
-    fn ascii(&self, c: u8) -> T {
-        // The remainder is `c` itself: the compiler then knows that there is such a byte.
-        if T::WIDTH == 1
-            && let Some(value) = T::from_unaligned(&[self.ascii[usize::from(c) % 0x80]])
-        {
-            return value;
-        }
-        self.values.at(c as usize)
-    }
-
-    #[inline(always)]
-    fn near(&self, block: u32, place: u32) -> T {
-        let offset = self.index.at(block as usize);
-        self.values.at(offset as usize + place as usize)
-    }
-
-    #[inline(always)]
-    fn near_below(&self, block: u32, place: u32) -> Option<T> {
-        let offset = self
-            .index
-            .get_likely_below(self.blocks as usize, block as usize)?;
-        Some(self.values.at(offset as usize + place as usize))
-    }
-
-    #[inline(always)]
-    fn far(&self, c: u32) -> T {
-        self.trie.get32(c)
-    }
-
-    #[inline(always)]
-    fn error(&self) -> T {
-        self.trie.error_value()
-    }
-}
 
 /// Writes the value of each character of the bytes to the start of a buffer, in order and as many
 /// as fit.
@@ -133,5 +35,5 @@ pub fn copy_values<T: TrieValue>(
     bytes: &[u8],
     values: &mut [T],
 ) -> Copied {
-    copy_parts(&TrieCells::new(trie), bytes, values)
+    copy_parts(&TextLookup::new(trie), bytes, values)
 }

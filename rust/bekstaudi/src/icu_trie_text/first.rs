@@ -1,7 +1,7 @@
 //! The first of the characters that are left of a text, with its value.
 
 use crate::icu_trie_core::value::TrieValue;
-use crate::icu_trie_text::ascii::AsciiInPlace;
+use crate::icu_trie_text::lookup::TextLookup;
 use crate::support::prelude::*;
 use core::str::Chars;
 
@@ -9,11 +9,11 @@ use core::str::Chars;
 /// if none are left.
 #[inline(always)]
 pub(crate) fn first_value<T: TrieValue>(
-    trie: &AsciiInPlace<'_, T>,
+    trie: &TextLookup<'_, T>,
     text: &mut Chars<'_>,
 ) -> Option<(char, T)> {
     let first = text.next()?;
-    match trie.ascii(u32::from(first)) {
+    match trie.in_place(u32::from(first)) {
         Some(value) => Some((first, value)),
         None => Some((first, trie.get(first))),
     }

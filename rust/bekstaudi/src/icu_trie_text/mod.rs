@@ -15,17 +15,17 @@
 //!   one; [`Copied`](copy_parts::Copied), what it returns
 //! - `part_values`: such values, and how the first of them is read
 //! - `any_bytes`, `well_formed`: the two ways to read it
-//! - `ascii`: tries whose data start with the values of ASCII
+//! - `lookup`: a trie for looking up the values of many characters, for texts in UTF-8
 
 use crate::support::prelude::*;
 mod any_bytes;
-mod ascii;
 mod copy;
 pub mod copy_parts;
 mod find;
 mod first;
 mod found;
 mod indices;
+mod lookup;
 pub mod part_values;
 pub mod text;
 mod utf16;

@@ -2,7 +2,8 @@
 
 use crate::icu_trie::cptrie::CodePointTrie;
 use crate::icu_trie_core::value::TrieValue;
-use crate::icu_trie_text::ascii::AsciiInPlace;
+use crate::icu_trie_text::lookup::TextLookup;
+use crate::icu_trie_text::part_values::PartValues;
 use crate::icu_utf::first_utf8::{ill_formed_size, of_four, place_of_three, place_of_two};
 use crate::support::prelude::*;
 use core::slice::Iter;
@@ -14,7 +15,7 @@ use core::slice::Iter;
 #[derive(Debug, Clone)]
 #[must_use = "iterators are lazy and do nothing unless consumed"]
 pub struct ValuesOfUtf8<'a, T: TrieValue> {
-    trie: AsciiInPlace<'a, T>,
+    trie: TextLookup<'a, T>,
     rest: Iter<'a, u8>,
 }
 
@@ -40,7 +41,7 @@ pub fn values_of_utf8<'a, T: TrieValue>(
     bytes: &'a [u8],
 ) -> ValuesOfUtf8<'a, T> {
     ValuesOfUtf8 {
-        trie: AsciiInPlace::new(trie),
+        trie: TextLookup::new(trie),
         rest: bytes.iter(),
     }
 }
@@ -58,7 +59,7 @@ fn item_of<T>(number: u32, value: T, size: usize) -> ((char, T), usize) {
 /// known about its characters saves checks.
 #[inline(always)]
 fn character_item<T: TrieValue>(
-    trie: &AsciiInPlace<'_, T>,
+    trie: &TextLookup<'_, T>,
     bytes: &[u8],
 ) -> Option<((char, T), usize)> {
     let lead = bytes[0];
@@ -77,16 +78,16 @@ fn character_item<T: TrieValue>(
         Some(item_of(block * 64 + place, trie.at(block, place), 3))
     } else {
         let c = of_four(bytes)?;
-        Some(((c, trie.far(c)), 4))
+        Some(((c, trie.get_far(c)), 4))
     }
 }
 
 /// Returns the item of the first part of the bytes, which are not empty, and the size of the part.
 #[inline(always)]
-fn first_item<T: TrieValue>(trie: &AsciiInPlace<'_, T>, bytes: &[u8]) -> ((char, T), usize) {
+fn first_item<T: TrieValue>(trie: &TextLookup<'_, T>, bytes: &[u8]) -> ((char, T), usize) {
     match character_item(trie, bytes) {
         Some(found) => found,
-        None => (('\u{FFFD}', trie.error_value()), ill_formed_size(bytes)),
+        None => (('\u{FFFD}', trie.error()), ill_formed_size(bytes)),
     }
 }
 
@@ -97,7 +98,7 @@ impl<'a, T: TrieValue> Iterator for ValuesOfUtf8<'a, T> {
     fn next(&mut self) -> Option<(char, T)> {
         let bytes = self.rest.as_slice();
         let lead = *bytes.first()?;
-        if let Some(value) = self.trie.ascii(u32::from(lead)) {
+        if let Some(value) = self.trie.in_place(u32::from(lead)) {
             self.rest.next();
             return Some((char::from(lead), value));
         }

@@ -2,8 +2,8 @@
 
 use crate::icu_trie::cptrie::CodePointTrie;
 use crate::icu_trie_core::value::TrieValue;
-use crate::icu_trie_text::ascii::AsciiInPlace;
 use crate::icu_trie_text::first::first_value;
+use crate::icu_trie_text::lookup::TextLookup;
 use crate::support::prelude::*;
 use core::str::Chars;
 
@@ -13,7 +13,7 @@ use core::str::Chars;
 #[derive(Debug, Clone)]
 #[must_use = "iterators are lazy and do nothing unless consumed"]
 pub struct ValuesOf<'a, T: TrieValue> {
-    trie: AsciiInPlace<'a, T>,
+    trie: TextLookup<'a, T>,
     rest: Chars<'a>,
 }
 
@@ -37,7 +37,7 @@ pub fn values_of<'a, T: TrieValue>(
     text: &'a str,
 ) -> ValuesOf<'a, T> {
     ValuesOf {
-        trie: AsciiInPlace::new(trie),
+        trie: TextLookup::new(trie),
         rest: text.chars(),
     }
 }

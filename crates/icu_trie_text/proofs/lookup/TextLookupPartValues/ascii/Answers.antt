@@ -1,5 +1,5 @@
 use Rattle.std.proofs.Common.{◌≡◌, ◌∙◌, ◌%◌, ◌<◌, ℕ, sym, arith}
-use Rattle.icu_trie_text.proofs.copy.TrieCellsPartValues.ascii.Goals as goal
+use Rattle.icu_trie_text.proofs.lookup.TextLookupPartValues.ascii.Goals as goal
 
 pub returns : goal.returns
 returns g c =

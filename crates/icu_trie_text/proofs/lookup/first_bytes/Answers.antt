@@ -1,5 +1,5 @@
 use Rattle.icu_trie_text.proofs.CellLemmas.{first_bytes_are}
-use Rattle.icu_trie_text.proofs.copy.first_bytes.Goals as goal
+use Rattle.icu_trie_text.proofs.lookup.first_bytes.Goals as goal
 
 pub returns : goal.returns
 returns g c = rw (c.as_bytes.ensures.values, c.unwrap_or.ensures)
