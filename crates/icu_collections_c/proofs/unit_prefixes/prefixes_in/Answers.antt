@@ -2,7 +2,8 @@ use Rattle.std.proofs.Common.{◌∙◌, ◌<◌, ◌^◌, List, [], arith, leng
 use Rattle.std.proofs.lemmas.Str.{len_utf8_bounds}
 use Rattle.icu_collections_c.specs.UnitPrefixes.{HasFound}
 use Rattle.icu_collections_c.specs.UnitTries.{units_of}
-use Rattle.icu_collections_c.proofs.TextStepLemmas.{few_found, text_front, walked_exact, walked_first, walked_keys, walked_next}
+use Rattle.icu_collections_c.proofs.TextStepLemmas.{few_found, walked_exact, walked_first, walked_keys, walked_next}
+use Rattle.icu_frozen_sets.proofs.CallerLemmas.{text_front}
 use Rattle.icu_collections_c.proofs.UnitPrefixLemmas.{HasFound-none}
 use Rattle.icu_collections_c.proofs.unit_prefixes.prefixes_in.Goals as goal
 

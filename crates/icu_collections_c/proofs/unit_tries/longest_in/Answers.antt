@@ -4,7 +4,8 @@ use Rattle.std.proofs.lemmas.Str.{len_utf8_bounds}
 use Rattle.icu_char16trie.specs.Matches.{HasCharsStepped, HasCharsValue, match_at}
 use Rattle.icu_collections_c.specs.Inside.TextSteps.{last_of}
 use Rattle.icu_collections_c.specs.UnitTries.{EndsAtBoundary, units_of}
-use Rattle.icu_collections_c.proofs.TextStepLemmas.{chars_of, last_then, longest_ends, longest_of, text_front, walked_exact, walked_first, walked_keys, walked_next}
+use Rattle.icu_collections_c.proofs.TextStepLemmas.{chars_of, last_then, longest_ends, longest_of, walked_exact, walked_first, walked_keys, walked_next}
+use Rattle.icu_frozen_sets.proofs.CallerLemmas.{text_front}
 use Rattle.icu_collections_c.proofs.unit_tries.longest_in.Goals as goal
 
 pub loop-next-init : goal.loop-next-init
