@@ -1,12 +1,12 @@
 """Whether the C library of the Rust edition has what c/bekstaudi.h declares: functions with their types,
-structs with their fields, and the numbers of errors."""
+structs with their fields, and the numbers of errors that are returned in place of a count."""
 import glob
 import re
 
 # The C types of Rust's numbers.
 NUMBERS = {f"{kind}{bits}": f"{'u' * (kind == 'u')}int{bits}_t" for kind in "iu" for bits in (8, 16, 32, 64)}
 NUMBERS.update({"usize": "size_t", "bool": "bool"})
-# The one enum of Rust that the header has too.
+# The one enum of Rust that the header has too: its negative numbers. The others are those of bks_trie_open.
 ERRORS = "bks_error"
 FUNCTION = re.compile(r'(?s)pub unsafe extern "C" fn (bks_\w+)\((.*?)\) -> ([\w:]+) \{')
 STRUCT = re.compile(r"(?ms)#\[repr\(C\)\]\n(?:#\[derive\(Clone, Copy\)\]\n)?pub struct (\w+) \{\n(.*?)^\}")
@@ -34,7 +34,7 @@ def declared(header):
         fields = re.findall(r"(?m)^\s*([\w ]+?[ *]+)(\w+);", body)
         structs[name] = [f"{of.strip()} {field}" for of, field in fields]
     enums = dict(re.findall(r"(?m)^enum (bks_\w+) \{(.*?)\}", text, re.S))
-    return functions, structs, {ERRORS: re.findall(r"\w+ = -?\d+", enums.get(ERRORS, ""))}
+    return functions, structs, {ERRORS: re.findall(r"\w+ = -\d+", enums.get(ERRORS, ""))}
 
 
 def shown(package):

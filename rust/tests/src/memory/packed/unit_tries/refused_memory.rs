@@ -123,7 +123,7 @@ fn ask_entries(units: &[u16], want: i32) {
 
 /// Calls: `Entries::try_advance`.
 #[test]
-fn invalid_entries() {
+fn entries_refused() {
     each_refused(|| {
         for (units, last) in TRIES.iter() {
             ask_entries(units, *last);
