@@ -18,7 +18,7 @@ static int fit(int64_t count, boundaries *found) {
     if (count < 0) {
         PyMem_Free(found->made);
         found->made = NULL;
-        return raise_error(count), -1;
+        return raise_failure(count), -1;
     }
     uint32_t *smaller = PyMem_Realloc(found->made, ((size_t)count + 1) * sizeof *smaller);
     if (smaller) found->ends = found->made = smaller;

@@ -32,7 +32,7 @@ static int boundaries_of(PyObject *given, boundaries *found) {
 static PyObject *joined_sets(const code_point_set *like, const boundaries *a, const boundaries *b, operation *call) {
     size_t room = a->count + b->count;
     uint32_t *ends = PyMem_Malloc((room + 1) * sizeof *ends);
-    if (!ends) return raise_error(BKS_NO_MEMORY);
+    if (!ends) return raise_failure(BKS_NO_MEMORY);
     int64_t count;
     if (room > LONG_CALL) {
         Py_BEGIN_ALLOW_THREADS
@@ -70,7 +70,7 @@ PyObject *set_is_disjoint(code_point_set *self, PyObject *other) {
     if (boundaries_of(other, &found)) return NULL;
     int64_t count = bks_set_intersection(self->ends, self->count, found.ends, found.count, nothing, 0);
     PyMem_Free(found.made);
-    return count < 0 ? raise_error(count) : PyBool_FromLong(count == 0);
+    return count < 0 ? raise_failure(count) : PyBool_FromLong(count == 0);
 }
 
 /* ---- Comparisons ---- */

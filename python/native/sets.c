@@ -98,13 +98,13 @@ static int freeze(code_point_set *self) {
     uint64_t nothing[1];
     if (self->table) return 0;
     int64_t count = bks_set_freeze(self->ends, self->count, nothing, 0);
-    if (count < 0) return raise_error(count), -1;
+    if (count < 0) return raise_failure(count), -1;
     PyObject *words = PyBytes_FromStringAndSize(NULL, (Py_ssize_t)(count * (int64_t)sizeof *self->table));
     uint64_t *table = words ? (uint64_t *)(void *)PyBytes_AsString(words) : NULL;
     int64_t written = table ? bks_set_freeze(self->ends, self->count, table, (size_t)count) : 0;
     if (!table || written != count) {
         Py_XDECREF(words);
-        return written < 0 ? (raise_error(written), -1) : -1;
+        return written < 0 ? (raise_failure(written), -1) : -1;
     }
     self->words = words;
     self->table = table;
@@ -264,7 +264,7 @@ static PyObject *set_span_back(code_point_set *self, PyObject *const *args, Py_s
 PyObject *set_like(const code_point_set *like, uint32_t *ends, int64_t count) {
     if (count < 0) {
         PyMem_Free(ends);
-        return raise_error(count);
+        return raise_failure(count);
     }
     code_point_set *made = set_owning(Py_TYPE(like), ends, (size_t)count);
     if (!made || !like->is_frozen) return (PyObject *)made;

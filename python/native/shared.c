@@ -34,10 +34,10 @@ void *raise_message(const char *name, PyObject *message) {
     return NULL;
 }
 
-void *raise_error(int64_t error) {
+void *raise_failure(int64_t error) {
     switch (error) {
         case BKS_NO_MEMORY: return raise_error("NoMemory", NULL);
-        case BKS_INVALID_TRIE: return raise_error("InvalidTrie", NULL);
+        case BKS_INVALID_TRIE: return raise_error("NotATrie", NULL);
         case BKS_INVALID_FORMAT: return raise_error("InvalidFormat", NULL);
         case BKS_WIDE_VALUE: return raise_error("WideValue", NULL);
         case BKS_TOO_LARGE: return raise_error("TooLarge", NULL);

@@ -33,7 +33,7 @@ void *raise_error(const char *name, PyObject *argument);
 void *raise_message(const char *name, PyObject *message);
 
 /* Raises the exception for an `enum bks_error`. */
-void *raise_error(int64_t error);
+void *raise_failure(int64_t error);
 
 /* Raises TypeError: `name`: expected `expected`, found the type of `given`. */
 void *raise_type(const char *name, const char *expected, PyObject *given);

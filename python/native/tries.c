@@ -151,11 +151,11 @@ static PyObject *trie_set_of(over_bytes *self, PyObject *given) {
     int64_t written = ends ? bks_trie_set(&self->trie, value, ends, (size_t)count) : count < 0 ? count : BKS_NO_MEMORY;
     if (written == BKS_INVALID_TRIE) {
         PyMem_Free(ends);
-        return raise_message("InvalidTrie", PyUnicode_FromString("the bytes of the trie have changed since it was opened"));
+        return raise_message("NotATrie", PyUnicode_FromString("the bytes of the trie have changed since it was opened"));
     }
     /* The set is another one if somebody changed the bytes between the two calls. */
     if (written > count) written = count;
-    PyObject *packed = written < 0 ? raise_error(written)
+    PyObject *packed = written < 0 ? raise_failure(written)
                                    : PyBytes_FromStringAndSize((char *)ends, written * (Py_ssize_t)sizeof *ends);
     PyMem_Free(ends);
     return packed;
@@ -213,7 +213,7 @@ PyObject *build_trie(PyObject *module, PyObject *args) {
         size = bks_trie_build(rows, count, missing, error, type, width, bytes, room);
         Py_END_ALLOW_THREADS
     }
-    built = size < 0 ? raise_error(size) : PyBytes_FromStringAndSize((char *)bytes, size);
+    built = size < 0 ? raise_failure(size) : PyBytes_FromStringAndSize((char *)bytes, size);
     PyMem_Free(bytes);
     return built;
 }

@@ -307,7 +307,7 @@ static PyObject *listed(const part *from) {
     Py_BEGIN_ALLOW_THREADS
     count = bks_units_list(from->bytes, from->size, nothing, 0, (char *)nothing, 0, &size);
     Py_END_ALLOW_THREADS
-    if (count < 0) return raise_error(count);
+    if (count < 0) return raise_failure(count);
     if ((size_t)count <= most && size < PY_SSIZE_T_MAX) {
         words = PyMem_Malloc(((size_t)count + 1) * sizeof *words);
         texts = PyMem_Malloc(size + 1);
@@ -317,7 +317,7 @@ static PyObject *listed(const part *from) {
         written = bks_units_list(from->bytes, from->size, words, (size_t)count, texts, size, &needed);
         Py_END_ALLOW_THREADS
     }
-    if (written < 0) raise_error(written);
+    if (written < 0) raise_failure(written);
     else if (written > count || needed > size)
         PyErr_SetString(PyExc_RuntimeError, "the units changed while they were listed");
     else list = pairs_of(words, (size_t)written, texts, from->head);
@@ -359,7 +359,7 @@ static PyObject *units_page(over_bytes *self, PyObject *args) {
     if (!PyArg_ParseTuple(args, "Kn", &skipped, &most)) return NULL;
     bks_word *words = PyMem_Malloc((size_t)most * sizeof *words);
     int64_t count = words ? list_page(self, skipped, words, (size_t)most, &texts) : BKS_NO_MEMORY;
-    PyObject *head = count < 0 ? raise_error(count) : PyUnicode_FromString("");
+    PyObject *head = count < 0 ? raise_failure(count) : PyUnicode_FromString("");
     PyObject *list = head ? pairs_of(words, (size_t)count, texts, head) : NULL;
     Py_XDECREF(head);
     PyMem_Free(texts);
@@ -395,14 +395,14 @@ static PyObject *units_count(over_bytes *self, PyObject *none) {
     (void)none;
     int64_t count = counted(self);
     if (count >= 0) return PyLong_FromLongLong(count);
-    if (count != BKS_INVALID_TRIE) return raise_error(count);
+    if (count != BKS_INVALID_TRIE) return raise_failure(count);
     Py_INCREF(Py_None);
     return Py_None;
 }
 
 static Py_ssize_t units_length(over_bytes *self) {
     int64_t count = counted(self);
-    if (count < 0) raise_error(count);
+    if (count < 0) raise_failure(count);
     return count < 0 ? -1 : (Py_ssize_t)count;
 }
 
@@ -438,7 +438,7 @@ PyObject *build_units(PyObject *module, PyObject *args) {
         size = bks_units_build(units, key_count, sizes, count, numbers, value_count, bytes, room);
         Py_END_ALLOW_THREADS
     }
-    built = size < 0 ? raise_error(size) : PyBytes_FromStringAndSize((char *)bytes, size);
+    built = size < 0 ? raise_failure(size) : PyBytes_FromStringAndSize((char *)bytes, size);
     PyMem_Free(bytes);
     return built;
 }

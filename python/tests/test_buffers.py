@@ -6,7 +6,7 @@ import tempfile
 import tracemalloc
 import unittest
 
-from bekstaudi import CodePointSet, InvalidTrie, Trie, InvalidTrie, UnitTrie
+from bekstaudi import CodePointSet, NotATrie, Trie, InvalidTrie, UnitTrie
 from samples import NAMES, read
 
 try:
@@ -65,7 +65,7 @@ class ReadInPlace(unittest.TestCase):
             self.assertEqual(len(trie.values(range(0x110001))), 0x110001)
             self.assertLess(max(trie[it] for it in range(0, 0x110001, 7)), 1 << 32)
             self.assertGreaterEqual(len(list(trie.ranges())), 0)
-        with self.assertRaisesRegex(InvalidTrie, "^the bytes of the trie have changed since it was opened$"):
+        with self.assertRaisesRegex(NotATrie, "^the bytes of the trie have changed since it was opened$"):
             trie.set_of(0)
         with self.assertRaises(InvalidTrie):
             Trie(data)

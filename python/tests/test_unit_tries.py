@@ -4,7 +4,7 @@ import os
 import tracemalloc
 import unittest
 
-from bekstaudi import BekstaudiError, LongKey, InvalidTrie, SameKey, UnitTrie, WideUnit, WideValue
+from bekstaudi import BekstaudiError, LongKey, NotATrie, SameKey, UnitTrie, WideUnit, WideValue
 from samples import FOLDER, copies
 
 
@@ -97,7 +97,7 @@ class UnitTries(unittest.TestCase):
         self.assertEqual((dict(trie), {**trie}, list(trie)), (words, words, sorted(words)))
         self.assertEqual([bool(it) for it in (trie, UnitTrie(b""))], [True, False])
         for asks in (len, bool, list):
-            with self.assertRaisesRegex(InvalidTrie, "units are not a trie"):
+            with self.assertRaisesRegex(NotATrie, "units are not a trie"):
                 asks(UnitTrie(b"\x30\0"))
 
     def test_the_units_are_validated_once(self):
@@ -109,7 +109,7 @@ class UnitTries(unittest.TestCase):
         units[:] = bytes(len(units))
         self.assertEqual((len(trie), bool(trie), trie.count(), trie == {}, none.count()), (300, True, 300, False, None))
         for asks in (len, bool):
-            with self.assertRaises(InvalidTrie):
+            with self.assertRaises(NotATrie):
                 asks(none)
 
     def test_iteration(self):

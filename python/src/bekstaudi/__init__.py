@@ -31,7 +31,7 @@ from ._errors import (
     InvalidFormat,
     NoMemory,
     InvalidSet,
-    InvalidTrie,
+    NotATrie,
     SameKey,
     TooLarge,
     InvalidTrie,
@@ -40,7 +40,7 @@ from ._errors import (
 )
 
 __all__ = ["BekstaudiError", "CodePointSet", "FrozenCodePointSet", "LongKey", "InvalidFormat", "NoMemory"]
-__all__ += ["InvalidSet", "InvalidTrie", "SameKey", "TooLarge", "Trie", "InvalidTrie", "UnitTrie", "WideUnit", "WideValue"]
+__all__ += ["InvalidSet", "NotATrie", "SameKey", "TooLarge", "Trie", "InvalidTrie", "UnitTrie", "WideUnit", "WideValue"]
 __version__ = _native.version
 
 
@@ -307,7 +307,7 @@ class UnitTrie(_native.UnitTrie):
     whether there is one. A key is a str, which stands for its units in UTF-16, or a list of units.
     Iteration yields the keys as str, in the order of their units, with U+FFFD for a lone surrogate:
     such a str is not a key, or is another one. `len` is the number of entries, which are counted
-    once; it raises InvalidTrie if the units are not a trie, as `bool` and `list` do. Two tries are equal if
+    once; it raises NotATrie if the units are not a trie, as `bool` and `list` do. Two tries are equal if
     their units are the same, and a trie equals any other mapping with the same entries.
     """
 

@@ -11,7 +11,7 @@ from ._errors import (
     InvalidFormat as InvalidFormat,
     NoMemory as NoMemory,
     InvalidSet as InvalidSet,
-    InvalidTrie as InvalidTrie,
+    NotATrie as NotATrie,
     SameKey as SameKey,
     TooLarge as TooLarge,
     InvalidTrie as InvalidTrie,
@@ -21,7 +21,7 @@ from ._errors import (
 
 __all__ = [
     "BekstaudiError", "CodePointSet", "FrozenCodePointSet", "LongKey", "InvalidFormat", "NoMemory",
-    "InvalidSet", "InvalidTrie", "SameKey", "TooLarge", "Trie", "InvalidTrie", "UnitTrie", "WideUnit", "WideValue",
+    "InvalidSet", "NotATrie", "SameKey", "TooLarge", "Trie", "InvalidTrie", "UnitTrie", "WideUnit", "WideValue",
 ]
 __version__: str
 

@@ -46,7 +46,7 @@ class InvalidSet(BekstaudiError, ValueError):
     """The boundaries of a set are an even count of ascending numbers up to 0x110000."""
 
 
-class InvalidTrie(BekstaudiError, ValueError):
+class NotATrie(BekstaudiError, ValueError):
     """The units are not a trie."""
 
 
