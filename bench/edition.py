@@ -69,7 +69,7 @@ def rustc(*words):
 
 def write_calls(made, calls):
     """Writes the loops, converted to Rust, and what they need."""
-    shutil.copytree(f"{TOP}/rust/std_shim", f"{calls}/src/support")
+    shutil.copytree(f"{TOP}/rust/handwritten/std", f"{calls}/src/support")
     os.makedirs(f"{calls}/src/bench_ours")
     for path in sorted(glob.glob(f"{TOP}/bench/ours/*.rs")):
         name = os.path.basename(path)[:-3]

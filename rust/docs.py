@@ -8,7 +8,7 @@ replaces the example of that item, which is in Rattle, or comes before the item'
 import glob
 import os
 
-from files import HERE, Stop, parts, rules_of, table
+from files import HERE, Stop, parts, read, rules_of, table
 from tokens import after_gap, past_group, tokens_of
 
 # What comments say in other words, beside paths: texts, and what replaces each.
@@ -24,7 +24,7 @@ def examples():
     """Returns the examples: for each module, pairs of an item and its example, as lines of docs."""
     found = {}
     for path in sorted(glob.glob(f"{HERE}/examples/*.rs")):
-        for head, example in parts(path)[1:]:
+        for head, example in parts(read(path))[1:]:
             module, item = head.split() if " " in head else ("lib", head)
             lines = ["```", *example.splitlines(), *[ERRORS] * ("?" in tokens_of(example)), "```"]
             text = "".join(f"\n {it}" for it in lines) if example else ""

@@ -16,7 +16,7 @@ CALLS = [
     code_of(f'#[unsafe(no_mangle)] pub extern "C" fn $name{it}($$parameters) -> $$returned {{') for it in ("", "<$$of>")
 ]
 STRUCT = code_of("#[repr(C)] #[derive(Clone, Copy)] pub struct $name {")
-# The function and the struct that rust/c_abi/src/trie.rs has.
+# The function and the struct that rust/handwritten/c_library/src/trie.rs has.
 OPEN, TRIE = "bks_trie_open", "Trie"
 HEAD = """//! The functions of c/bekstaudi.h. rust/make writes this file.
 //!
@@ -43,7 +43,7 @@ def parameter(name, of, homes):
 
 
 def function(module, found, homes):
-    """A function of exports.rs, or nothing for the one that rust/c_abi/src/trie.rs has."""
+    """A function of exports.rs, or nothing for the one that rust/handwritten/c_library/src/trie.rs has."""
     name, parameters, returned = ("".join(found[it]).strip() for it in ("$name", "$$parameters", "$$returned"))
     parts = [parameter(*it.strip().split(": "), homes) for it in parameters.split(",") if it.strip()]
     call = f"crate::{CRATE}::{module}::{name}({', '.join(it[1] for it in parts)})"

@@ -1,4 +1,4 @@
-"""Reads and writes files for rust/make, and reads rust/rules.txt."""
+"""Reads and writes files for rust/make, and reads rust/translation_rules.txt."""
 import os
 
 HERE = os.path.dirname(os.path.realpath(__file__))
@@ -18,10 +18,10 @@ def write(path, text):
         file.write(text)
 
 
-def parts(path):
-    """Returns the parts of a file that start with a line `//# NAME`, each with its NAME, and first what is
+def parts(text, mark="//# "):
+    """Returns the parts of a text that start with a line `//# NAME`, each with its NAME, and first what is
     before them, with an empty one."""
-    return [it.partition("\n")[::2] for it in ("\n" + read(path)).split("\n//# ")]
+    return [it.partition("\n")[::2] for it in ("\n" + text).split("\n" + mark)]
 
 
 def file_of(module):
@@ -31,19 +31,19 @@ def file_of(module):
 
 
 def section(name):
-    """Returns the lines of a section of rust/rules.txt."""
-    lines = read(f"{HERE}/rules.txt").split(f"== {name}\n")[1].split("\n== ")[0].splitlines()
+    """Returns the lines of a section of rust/translation_rules.txt."""
+    lines = read(f"{HERE}/translation_rules.txt").split(f"== {name}\n")[1].split("\n== ")[0].splitlines()
     return [it for it in lines if it.strip() and not it.startswith("//")]
 
 
 def table(name):
-    """Returns a table of rust/rules.txt: words by their keys. A line that is indented goes on."""
+    """Returns a table of rust/translation_rules.txt: words by their keys. A line that is indented goes on."""
     rows = "\n".join(section(name)).replace("\n    ", " ").splitlines()
     return {key: words for key, _, words in (it.partition(": ") for it in rows)}
 
 
 def rules_of(name):
-    """Returns the rules of a section of rust/rules.txt: pattern, replacement, example and result."""
+    """Returns the rules of a section of rust/translation_rules.txt: pattern, replacement, example and result."""
     forms, examples, words = [], [], [""]
     for line in section(name):
         if line.startswith("each "):

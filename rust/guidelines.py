@@ -1,13 +1,13 @@
 """What the Rust API guidelines ask for beside what the proved sources have: derived traits, attributes,
-and the code of rust/extra_impls, which needs the private parts of a module."""
-import os
-
-from files import HERE, Stop, parts, table
+and the code of rust/handwritten/more_methods.rs, which needs the private parts of a module."""
+from files import HERE, Stop, parts, read, table
 from tokens import after_gap, attributes_of, before_gap, functions, match, matches, past_group, start_of, tokens_of
 
 CONST, PANICS, ITERATORS = table("const"), table("panics"), table("iterators")["names"].split()
 PRIVATE, HARMLESS = table("requires")["private"].split(), table("requires")["harmless"].split()
 DERIVED = {trait: types.split() for trait, types in table("derives").items()}
+# The code that is appended to modules, by their names; the first part is the file's head.
+MORE = dict(parts(read(f"{HERE}/handwritten/more_methods.rs"), "//@ ")[1:])
 # What iterators that are not used get, as those of Rust's std.
 LAZY = '#[must_use = "iterators are lazy and do nothing unless consumed"]\n'
 # Names that start results which carry `must_use` themselves.
@@ -15,7 +15,7 @@ MARKED = {"Result", "impl", *ITERATORS}
 
 
 def derived(tokens):
-    """Adds the traits of DERIVED in rust/rules.txt, and marks iterators, and enums of errors as
+    """Adds the traits of DERIVED in rust/translation_rules.txt, and marks iterators, and enums of errors as
     non-exhaustive."""
     tokens = list(tokens)
     for at in reversed([i for i, it in enumerate(tokens) if it in ("struct", "enum")]):
@@ -57,7 +57,7 @@ def with_attributes(tokens, is_library):
 
 def with_modifiers(module, tokens, asked):
     """Makes functions `const`, and those that have a `requires` private, or says that they panic, as the
-    tables of rust/rules.txt say."""
+    tables of rust/translation_rules.txt say."""
     tokens, names = list(tokens), CONST.get(module, "").split()
     for it in reversed(functions(tokens)):
         key = f"{it.owner}::{it.name}".lstrip(":")
@@ -68,18 +68,18 @@ def with_modifiers(module, tokens, asked):
         if key in asked and key in PANICS:
             tokens[it.start : it.start] = tokens_of(f"///\n/// # Panics\n/// {PANICS[key]}\n")
     if missing := set(names) - {it.name for it in functions(tokens)}:
-        raise Stop(f" no function {' '.join(missing)}, which rust/rules.txt names")
+        raise Stop(f" no function {' '.join(missing)}, which rust/translation_rules.txt names")
     return tokens
 
 
 def with_added(module, tokens):
-    """Appends code of rust/extra_impls. What follows a line `//# NAME` is a method of the iterator NAME."""
-    path, tokens = f"{HERE}/extra_impls/{module}.rs", list(tokens)
-    (_, rest), *added = parts(path) if os.path.exists(path) else [("", "")]
+    """Appends code of rust/handwritten/more_methods.rs, or puts it into the iterator that it names."""
+    tokens = list(tokens)
+    (_, rest), *added = parts(MORE.get(module, ""))
     for name, part in added:
         heads = [at for at, _, _ in matches(tokens, ["Iterator", "for", name])]
         if len(heads) != 1:
-            raise Stop(f" rust/extra_impls: expected one iterator {name}, found {len(heads)}")
+            raise Stop(f" rust/handwritten/more_methods.rs: expected one iterator {name}, found {len(heads)}")
         end = past_group(tokens, tokens.index("{", heads[0])) - 1
         tokens[end:end] = tokens_of(f"\n{part}\n")
     return tokens + tokens_of(f"\n{rest}")
@@ -91,5 +91,5 @@ def guided(module, tokens, is_library):
         return with_attributes(tokens, False)
     for _, _, found in matches(tokens, ["Iterator", "for", "$name"]):
         if found["$name"][0] not in ITERATORS:
-            raise Stop(f" {found['$name'][0]} is an iterator, but not in the table of rust/rules.txt")
+            raise Stop(f" {found['$name'][0]} is an iterator, but not in the table of rust/translation_rules.txt")
     return with_added(module, with_attributes(derived(tokens), True))

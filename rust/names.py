@@ -1,4 +1,4 @@
-"""The names and paths of the Rust edition, and the rules of rust/rules.txt."""
+"""The names and paths of the Rust edition, and the rules of rust/translation_rules.txt."""
 from files import Stop, rules_of, table
 from tokens import after_gap, code_of, functions, replaced, tokens_of
 
@@ -15,7 +15,7 @@ def compiled(rules):
     for pattern, put, *example in rules:
         made.append((code_of(pattern), tokens_of(put)))
         if example and "".join(replaced(tokens_of(example[0]), *made[-1])).strip() != example[1]:
-            raise Stop(f"rust/rules.txt: the example of the rule for {pattern!r} does not hold")
+            raise Stop(f"rust/translation_rules.txt: the example of the rule for {pattern!r} does not hold")
     return made
 
 
@@ -38,7 +38,7 @@ def renamed(module, tokens):
         if name.startswith("crate::"):
             tokens[it.start : it.start + 1] = ["pub", "(", "crate", ")"]
     if names:
-        raise Stop(f" no function {' '.join(names)}, which rust/rules.txt names")
+        raise Stop(f" no function {' '.join(names)}, which rust/translation_rules.txt names")
     return tokens
 
 

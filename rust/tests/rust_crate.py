@@ -126,7 +126,7 @@ def add_tests(made, folder):
             place = re.match(r"(?://!.*\n)*\n*", text).end()
             write(path, text[:place] + TEST_NAMES + text[place:])
     shutil.copytree(PARTS, f"{folder}/src", dirs_exist_ok=True)
-    shutil.copy(f"{TOP}/rust/bin_shim/bekstaudi-tables/src/ledger.rs", f"{folder}/src")
+    shutil.copy(f"{TOP}/rust/handwritten/programs/bekstaudi-tables/src/ledger.rs", f"{folder}/src")
     shutil.move(f"{folder}/src/public", f"{folder}/tests")
     shutil.move(f"{folder}/src/refusing", folder)
     needed = '\n[dev-dependencies.refusing]\npath = "refusing"\n'

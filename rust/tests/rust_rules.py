@@ -3,7 +3,7 @@ Rust, what they need that the code doesn't, and forms that rust/make has to refu
 
 # Our crates that tests call beside the library.
 TESTED = "ucptab_table examples".split()
-# What these have in another form, beside the rules of rust/rules.txt.
+# What these have in another form, beside the rules of rust/translation_rules.txt.
 TEST_RULES = [
     *((f".collect{of}({it})", ".listed()") for of in ("", "::<Vec<_>>") for it in ("alloc", "rt.alloc()")),
     ("std::convert", "core::convert"),
@@ -18,7 +18,7 @@ FORM_RULES = [
     ),
     (r"\b\w+JsonError, |, \w+JsonError\b", ""),
 ]
-# Functions that have other names in the edition than the table `tried` in rust/rules.txt says.
+# Functions that have other names in the edition than the table `tried` in rust/translation_rules.txt says.
 OTHER_NAMES = {
     "CodePointInversionList::try_from": "CodePointInversionList::try_from_range",
     "CodePointInversionList::try_from_inversion_list":

@@ -1,5 +1,0 @@
-//# IterRangesForValue
-    #[inline]
-    fn size_hint(&self) -> (usize, Option<usize>) {
-        (0, self.ranges.size_hint().1)
-    }
