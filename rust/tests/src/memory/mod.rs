@@ -6,5 +6,23 @@
 //! comment starts with `Calls:` and lists the functions that it is about. `memory_tests.py` checks
 //! that each public function is listed.
 
-mod packed;
+mod built_tries;
+mod built_unit_tries;
+mod cursors;
+mod dictionaries;
+mod frozen_sets;
+#[cfg(feature = "json")]
+mod json;
+mod set_changes;
+mod set_queries;
+mod sets_made;
+mod string_sets;
+mod support;
+mod texts;
+mod trie_binary;
+mod trie_reads;
+#[cfg(feature = "toml")]
+mod trie_toml;
 mod tries;
+mod vectors;
+mod vectors_of_types;

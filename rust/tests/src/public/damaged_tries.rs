@@ -1,8 +1,11 @@
-//! Damaged tries: headers, indices, data and binary forms, changed at random. They are rejected, or
-//! work without a panic, and all functions agree on them.
+//! Damaged tries and unit tries, changed at random. They are rejected, or work without a panic, and all
+//! functions agree on them.
 
 mod random;
 
+use bekstaudi::char16trie::{
+    Char16Trie, Char16TrieBuilder, Char16TrieCursor, CursorPlace, TrieResult,
+};
 use bekstaudi::codepointinvlist::CodePointInversionList;
 use bekstaudi::codepointtrie::binary::{
     AnyWidthTrie, SwappedError, binary_len, from_binary, from_binary_any, from_binary_swapped,
@@ -13,8 +16,11 @@ use bekstaudi::codepointtrie::{
     TypedCodePointTrie, text,
 };
 use bekstaudi::zerovec::ZeroVec;
-use random::Random;
+use random::{Random, damaged_units};
 use std::fmt::Debug;
+
+// Damaged tries: headers, indices, data and binary forms, changed at random. They are rejected, or
+// work without a panic, and all functions agree on them.
 
 const ROUNDS: usize = 34_000;
 
@@ -67,10 +73,16 @@ fn ask_at_length(trie: &CodePointTrie<'_, u8>, random: &mut Random) {
     let value = trie.get32(random.below(0x11_0000) as u32);
     let set = trie.get_set_for_value(value);
     let ranges: CodePointInversionList = trie.iter_ranges_for_value(value).collect();
-    let _ = trie.iter_ranges_mapped(|it| it.to_u32() % 2).take(300).count();
+    let _ = trie
+        .iter_ranges_mapped(|it| it.to_u32() % 2)
+        .take(300)
+        .count();
     let is_coherent = trie.is_coherent();
     assert!(set == ranges || !is_coherent);
-    let signed = trie.clone().try_into_converted::<i8>().expect("not converted");
+    let signed = trie
+        .clone()
+        .try_into_converted::<i8>()
+        .expect("not converted");
     let builder = CodePointTrieBuilder::from_trie(trie);
     for _ in 0..30 {
         let c = random.below(0x11_0800) as u32;
@@ -97,7 +109,11 @@ fn expect_written(trie: &CodePointTrie<'_, u8>) {
     assert_eq!(write_binary(trie, &mut written), Ok(bytes.len()));
     let (read, len) = from_binary::<u8>(&written).expect("not read");
     assert!(written == bytes && len == bytes.len());
-    assert!((0..0x11_0100).step_by(0xFFF).all(|c| read.get32(c) == trie.get32(c)));
+    assert!(
+        (0..0x11_0100)
+            .step_by(0xFFF)
+            .all(|c| read.get32(c) == trie.get32(c))
+    );
 }
 
 fn damaged_header(random: &mut Random, header: CodePointTrieHeader) -> CodePointTrieHeader {
@@ -127,7 +143,9 @@ fn parts() {
             _ => {}
         }
         let header = damaged_header(&mut random, header);
-        let Ok(index) = ZeroVec::parse_bytes(&index) else { continue };
+        let Ok(index) = ZeroVec::parse_bytes(&index) else {
+            continue;
+        };
         let data = ZeroVec::parse_bytes(&data).expect("bytes are values");
         if let Ok(trie) = CodePointTrie::try_new(header, index, data) {
             taken += 1;
@@ -161,7 +179,12 @@ fn made_up_binary_forms() {
 /// The bytes in the other byte order. In a trie of 16 bits, all numbers but the first have 16 bits.
 fn swapped(bytes: &[u8]) -> Vec<u8> {
     let (front, rest) = bytes.split_at(bytes.len().min(4));
-    front.iter().rev().chain(rest.chunks(2).flat_map(|it| it.iter().rev())).copied().collect()
+    front
+        .iter()
+        .rev()
+        .chain(rest.chunks(2).flat_map(|it| it.iter().rev()))
+        .copied()
+        .collect()
 }
 
 #[test]
@@ -195,4 +218,78 @@ fn binary_forms() {
         }
     }
     assert!(taken > 1_000, "{taken}");
+}
+
+// Damaged unit tries: units changed at random, and positions that no cursor had. Functions return
+// without a panic, and agree with each other.
+
+fn whole() -> Char16Trie<'static> {
+    let mut builder = Char16TrieBuilder::new();
+    for i in 0..200u16 {
+        let key = [0x61 + i % 26, 0x61 + i / 26, 0x3040 + i % 7];
+        builder.add(&key, i32::from(i) * 77_777).expect("not added");
+    }
+    builder.try_build().expect("not built")
+}
+
+fn walk(trie: &Char16Trie<'_>, random: &mut Random) {
+    let (mut iterator, mut cursor) = (trie.iter(), trie.cursor());
+    let mut text = Vec::new();
+    for _ in 0..6 {
+        let unit = [
+            0x61 + random.below(26),
+            0x3040 + random.below(7),
+            random.below(0x1_0000),
+        ];
+        let unit = random.one_of(&unit) as u16;
+        text.push(unit);
+        let result = iterator.next16(unit);
+        cursor.step16(unit);
+        let again = Char16TrieCursor::resume(trie.data.as_slice(), cursor.place());
+        assert_eq!(again.value(), cursor.value());
+        match result {
+            TrieResult::Intermediate(value) | TrieResult::FinalValue(value) => {
+                assert_eq!(cursor.value(), Some(value));
+            }
+            TrieResult::NoMatch | TrieResult::NoValue => {}
+        }
+    }
+    assert_eq!(trie.matches(&text).last(), trie.longest_match(&text));
+    let _ = (
+        trie.longest_match_str("az\u{3041}"),
+        trie.iter2().take(50).count(),
+    );
+}
+
+#[test]
+fn units() {
+    let mut random = Random(8);
+    let whole: Vec<u16> = whole().data.iter().collect();
+    for _ in 0..ROUNDS {
+        let units = damaged_units(&mut random, &whole);
+        walk(&Char16Trie::new(units.into_iter().collect()), &mut random);
+    }
+}
+
+#[test]
+fn places() {
+    let mut random = Random(9);
+    let whole = whole();
+    for _ in 0..ROUNDS {
+        let position = [
+            random.below(whole.data.len() + 2),
+            usize::MAX - random.below(3),
+            1 << 62,
+        ];
+        let left = [random.below(300) as u16, 0, 1, 256, u16::MAX];
+        let place = CursorPlace {
+            position: random.one_of(&position),
+            left: random.one_of(&left),
+        };
+        let mut cursor = Char16TrieCursor::resume(whole.data.as_slice(), place);
+        for _ in 0..4 {
+            let _ = (cursor.value(), cursor.is_empty(), cursor.place());
+            cursor.step32([0x61 + random.below(26) as u32, 0x3041, 0x1_F600][random.below(3)]);
+        }
+    }
 }

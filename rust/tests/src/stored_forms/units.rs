@@ -1,11 +1,11 @@
 //! Unit tries.
+
 use crate::icu_char16trie::char16trie::{Char16Trie, TrieResult};
 use crate::icu_zerovec::{MemoryError, ZeroVec};
 #[allow(unused_imports)]
 use crate::runtime::*;
-use crate::stored_forms::names::{by_bytes, by_unit_json};
-use crate::stored_forms::outcome::Outcome;
-use crate::stored_forms::stored::value_of;
+use crate::stored_forms::sets::{by_bytes, by_unit_json};
+use crate::stored_forms::{Outcome, value_of};
 use crate::support::AllocError;
 #[allow(unused_imports)]
 use crate::support::prelude::*;

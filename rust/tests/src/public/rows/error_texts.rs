@@ -1,9 +1,10 @@
-//! The texts of errors. Those of tries, sets and ranges are the Rust crate's, and the others ours.
+//! x
 
 use bekstaudi::char16trie::{AddError, BuildError, SortedError};
 use bekstaudi::codepointinvlist::{InvalidSetError, RangeError, SetError, TryRangeError};
+use bekstaudi::codepointtrie;
 use bekstaudi::codepointtrie::binary::{BinaryError, SwappedError, WriteError};
-use bekstaudi::codepointtrie::{self, ApplyRefused, CodePointTrieError, MapError};
+use bekstaudi::codepointtrie::{ApplyRefused, CodePointTrieError, MapError};
 use bekstaudi::zerovec::MemoryError;
 use bekstaudi::zerovec::ule::UleError;
 use std::fmt::Display;

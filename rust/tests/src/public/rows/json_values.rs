@@ -1,7 +1,7 @@
 //! JSON of sets, unit tries and tries: values that are read and written, and faults.
 
 use crate::sets::set_of;
-use crate::units::trie_of;
+use crate::unit_tries::trie_of;
 use bekstaudi::char16trie::{Char16JsonError, Char16Trie};
 use bekstaudi::codepointinvlist::{CodePointInversionList, SetJsonError};
 use bekstaudi::codepointinvliststringlist::CodePointInversionListAndStringList;

@@ -1,11 +1,18 @@
-//! Sets of code points and their builder, with the examples of UnicodeSet and of the Rust crate, and
-//! lists and ranges that are rejected.
+//! Sets of code points, sets of strings, and values along texts.
 
 use bekstaudi::codepointinvlist::{
     CodePointInversionList, CodePointInversionListBuilder, InvalidSetError, RangeError,
     TryRangeError,
 };
+use bekstaudi::codepointinvliststringlist::{
+    CodePointInversionListAndStringList, InvalidStringList,
+};
+use bekstaudi::codepointtrie::text::{Found, find_value, values_of_utf8};
+use bekstaudi::codepointtrie::{CodePointTrie, CodePointTrieBuilder, TrieType};
 use std::ops::Range;
+
+// Sets of code points and their builder, with the examples of UnicodeSet and of the Rust crate, and
+// lists and ranges that are rejected.
 
 /// Returns the set with these boundaries.
 pub fn set_of(ends: &[u32]) -> CodePointInversionList<'static> {
@@ -197,5 +204,118 @@ fn empty_and_reversed_ranges() {
     ];
     for (made, want) in rows {
         assert_eq!(made, Err(TryRangeError::Invalid(want)));
+    }
+}
+
+// Sets of code points and strings: lists of strings that are rejected, and members.
+
+/// Returns the set of these code points and strings, or the error.
+fn set_or_fault<'data>(
+    points: CodePointInversionList<'data>,
+    texts: &[&str],
+) -> Result<CodePointInversionListAndStringList<'data>, InvalidStringList> {
+    let strings: Vec<String> = texts.iter().map(ToString::to_string).collect();
+    CodePointInversionListAndStringList::try_from(points, strings)
+}
+
+/// Invalid lists of strings, and the texts of the errors.
+static REFUSED: [(&[&str], &str); 5] = [
+    (&["ab", "é"], "Invalid string length for string: é"),
+    (&["abc", "abc"], "String list has duplicate: abc"),
+    (
+        &["ab", "a"],
+        "Strings in string list not in sorted order: (ab, a)",
+    ),
+    (
+        &["xyz", "abc"],
+        "Strings in string list not in sorted order: (xyz, abc)",
+    ),
+    (&["a", "a"], "Invalid string length for string: a"),
+];
+
+#[test]
+fn lists_of_strings() {
+    for (texts, want) in &REFUSED {
+        let fault = set_or_fault(CodePointInversionList::bmp(), texts).expect_err("a set");
+        assert_eq!(fault.to_string(), *want);
+    }
+}
+
+/// A set of the last code points of some ranges, and of strings that name them.
+#[test]
+fn members_counted() {
+    let ends = [0, 1, 0x7F, 0x80, 0xFFFF, 0x1_0000, 0x10_FFFF, 0x11_0000];
+    let texts = ["ascii_max", "bmp_max", "unicode_max", "zero"];
+    let set = set_or_fault(set_of(&ends), &texts).expect("no set");
+    let found = (set.size(), set.code_points().size(), set.strings().len());
+    assert_eq!(found, (8, 4, 4));
+}
+
+#[test]
+fn shown_for_debugging() {
+    let set = set_or_fault(CodePointInversionList::all(), &["ab"]).expect("no set");
+    let shown = format!("{set:?}");
+    assert!(shown.contains("str_list: [\"ab\"]"), "{shown}");
+}
+
+// The values of the characters of a text.
+
+/// The value of each code point from 0x10000 on.
+const HIGH: u8 = 200;
+
+/// The value of everything that is not a code point.
+const ERROR: u8 = 255;
+
+/// Returns a trie in which each code point below 0x10000 has its last six bits as its value.
+fn six_bits() -> CodePointTrie<'static, u8> {
+    let mut builder = CodePointTrieBuilder::new(HIGH, ERROR, TrieType::Fast);
+    for c in 0..0x10000u32 {
+        builder.set_value(c, (c & 0x3F) as u8);
+    }
+    builder.build()
+}
+
+/// The search also returns the value it found.
+#[test]
+fn found_value() {
+    let found = find_value(&six_bits(), "é\u{1F600}\u{1F601}", |value| value == HIGH);
+    let want = Found {
+        offset: 2,
+        character: '\u{1F600}',
+        value: HIGH,
+    };
+    assert_eq!(found, Some(want));
+}
+
+/// Bytes, and the characters they become, with their values: the last and the first character of
+/// each length, a U+FFFD in the text, and one for an ill-formed sequence.
+static VALUES: [(&[u8], &[(char, u8)]); 5] = [
+    (b"", &[]),
+    (b"\x7F\xC2\x80", &[('\x7F', 0x3F), ('\u{80}', 0)]),
+    (
+        b"\xDF\xBF\xE0\xA0\x80",
+        &[('\u{7FF}', 0x3F), ('\u{800}', 0)],
+    ),
+    (
+        b"\xEF\xBF\xBF\xF0\x90\x80\x80\xF4\x8F\xBF\xBF",
+        &[
+            ('\u{FFFF}', 0x3F),
+            ('\u{10000}', HIGH),
+            ('\u{10FFFF}', HIGH),
+        ],
+    ),
+    (
+        b"\xEF\xBF\xBD\xEF\xBF\x41",
+        &[('\u{FFFD}', 0x3D), ('\u{FFFD}', ERROR), ('A', 1)],
+    ),
+];
+
+/// Each character has its value, and each ill-formed sequence has the error value.
+#[test]
+fn values() {
+    let trie = six_bits();
+    for (bytes, want) in VALUES {
+        let found: Vec<_> = values_of_utf8(&trie, bytes).collect();
+        assert_eq!(found, want, "{bytes:X?}");
     }
 }

@@ -1,5 +1,0 @@
-//! Unit tries that are built.
-
-mod refused_memory;
-mod sorted;
-mod support;
