@@ -2,13 +2,11 @@
 import os
 import shutil
 import subprocess
-import sys
 
 from running import BUILD, CC, CXX, STRICT, TOP, passes, prints
 
-sys.path.insert(0, f"{TOP}/tests/lib")
+# From tests/lib, which running.py puts on the path.
 import example_programs
-
 
 ILL_FORMED = "a Ll\nb Ll\nE4 B8 ill-formed\nc Ll\nd Ll\n"
 
@@ -36,7 +34,7 @@ def examples(room, icu):
         lines = f"{text}\n\n" * 9000
         yield prints("kept.cpp", [f"{room}/shown", tables[0]], "A\u00df7 \u4e16\n\n" * 9000, os.environ, lines)
     yield from dictionary(room, flags)
-    yield from graphemes(room, flags) if example_programs.has_unicode_data() else []
+    yield from graphemes(room, flags) if example_programs.has_unicode_data("graphemes.c") else []
 
 
 def dictionary(room, flags):

@@ -6,7 +6,7 @@ import signal
 import subprocess
 import time
 
-from running import BUILD, CC, TOP, passes
+from running import BUILD, CC, TOP, passes, read, write
 
 # A project that finds the library as CMake does, and one that asks for a later version.
 PROJECT = """cmake_minimum_required(VERSION 3.10)
@@ -31,8 +31,7 @@ sleep 600
 
 
 def version():
-    with open(f"{TOP}/VERSION", encoding="utf-8") as file:
-        return file.read().strip()
+    return read(f"{TOP}/VERSION").strip()
 
 
 def by_cmake(room, prefix):
@@ -41,11 +40,9 @@ def by_cmake(room, prefix):
         print("CMake is not tried: no cmake on PATH")
         return
     os.makedirs(f"{room}/user")
-    with open(f"{room}/user/main.c", "w", encoding="utf-8") as file:
-        file.write(MAIN)
+    write(f"{room}/user/main.c", MAIN)
     for wanted, is_found in ((version(), True), (version().rpartition(".")[0], True), ("", True), ("99.0", False)):
-        with open(f"{room}/user/CMakeLists.txt", "w", encoding="utf-8") as file:
-            file.write(PROJECT.format(wanted=wanted))
+        write(f"{room}/user/CMakeLists.txt", PROJECT.format(wanted=wanted))
         shutil.rmtree(f"{room}/made", ignore_errors=True)
         words = ["cmake", "-S", f"{room}/user", "-B", f"{room}/made", f"-DCMAKE_PREFIX_PATH={prefix}", f"-DCMAKE_C_COMPILER={CC}"]
         ran = subprocess.run(words, stdout=subprocess.PIPE, stderr=subprocess.STDOUT, text=True)
@@ -70,8 +67,7 @@ def ends(room, name):
     os.makedirs(f"{room}/waiting", exist_ok=True)
     if os.path.exists(f"{room}/started"):
         os.remove(f"{room}/started")
-    with open(f"{room}/waiting/cargo", "w", encoding="utf-8") as file:
-        file.write(WAITING.format(room=room))
+    write(f"{room}/waiting/cargo", WAITING.format(room=room))
     os.chmod(f"{room}/waiting/cargo", 0o755)
     where = {**os.environ, "PATH": f"{room}/waiting:{os.environ['PATH']}"}
     words = [BUILD[0], "--cargo", "--out", f"{room}/never"]
@@ -83,8 +79,7 @@ def ends(room, name):
             print("c/build did not start cargo: FAILED")
             return False
         time.sleep(0.05)
-    with open(f"{room}/started", encoding="utf-8") as file:
-        child = int(file.read())
+    child = int(read(f"{room}/started"))
     begun.send_signal(getattr(signal, name))
     status = begun.wait(600)
     while (left := running(child)) and time.monotonic() < until:
@@ -100,8 +95,7 @@ def by_pkg_config(room, prefix):
         return
     known = {**os.environ, "PKG_CONFIG_PATH": f"{prefix}/lib/pkgconfig"}
     ran = subprocess.run(["pkg-config", "--cflags", "--libs", "bekstaudi"], env=known, stdout=subprocess.PIPE, text=True)
-    with open(f"{room}/main.c", "w", encoding="utf-8") as file:
-        file.write(MAIN)
+    write(f"{room}/main.c", MAIN)
     words = [CC, f"{room}/main.c", *shlex.split(ran.stdout), f"-Wl,-rpath,{prefix}/lib", "-o", f"{room}/main"]
     yield passes("by pkg-config", words)
     yield passes("by pkg-config", [f"{room}/main"])
@@ -109,8 +103,7 @@ def by_pkg_config(room, prefix):
 
 def removing(room, prefix):
     """What is installed is removed, and nothing else is. Words that are no options install nothing."""
-    with open(f"{prefix}/lib/other", "w", encoding="utf-8"):
-        pass
+    write(f"{prefix}/lib/other", "")
     yield passes("c/build --uninstall", [BUILD[0], "--uninstall", prefix])
     left = [it for _, _, names in os.walk(prefix) for it in names]
     print(f"left: {left}")

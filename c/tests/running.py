@@ -6,7 +6,9 @@ import subprocess
 import sys
 
 PARTS = os.path.dirname(os.path.realpath(__file__))
-TOP = os.path.dirname(os.path.dirname(PARTS))
+sys.path.insert(0, f"{PARTS}/../../tests/lib")
+from scripts import TOP, read, write
+
 STRICT = ["-Wall", "-Wextra", "-pedantic", "-Werror", f"-I{TOP}/c"]
 SANITIZED = ["-g", "-O1", "-fsanitize=address,undefined", "-fno-sanitize-recover=all"]
 CC, CXX = os.environ.get("CC", "cc"), os.environ.get("CXX", "c++")
@@ -19,8 +21,7 @@ BUILD = [f"{TOP}/c/build", "--cargo" if IS_CARGO else "--proved", "--out", OUT]
 
 def functions():
     """The functions that bekstaudi.h declares, without the inline ones."""
-    with open(f"{TOP}/c/bekstaudi.h", encoding="utf-8") as file:
-        return re.findall(r"(?m)^(?!static)[a-z]\w* (bks_\w+)\(", file.read())
+    return re.findall(r"(?m)^(?!static)[a-z]\w* (bks_\w+)\(", read(f"{TOP}/c/bekstaudi.h"))
 
 
 def passes(what, words, **more):

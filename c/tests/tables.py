@@ -5,8 +5,8 @@ import shutil
 import struct
 import subprocess
 
-PARTS = os.path.dirname(os.path.realpath(__file__))
-TOP = os.path.dirname(os.path.dirname(PARTS))
+from running import TOP, read, write
+
 DATA = f"{TOP}/tests/data"
 # The tables, and the types and widths in which tries are built of them.
 TABLES = {
@@ -29,8 +29,7 @@ def runs_of(rows):
 def trie_of_toml(room):
     """Writes the trie that tests/data has in TOML in the binary form, and its runs. Returns its error
     value."""
-    with open(f"{DATA}/east_asian_width.toml", encoding="utf-8") as file:
-        text = file.read()
+    text = read(f"{DATA}/east_asian_width.toml")
     listed = lambda name: re.search(rf"(?ms)^{name} = \[(.*?)\]$", text)[1]
     cells = lambda name: [int(it, 0) for it in re.findall(r"\w+", listed(name))]
     field = lambda name: int(re.search(rf"^{name} = (\w+)", text, re.M)[1], 0)
@@ -43,8 +42,7 @@ def trie_of_toml(room):
         file.write(header + struct.pack(f"<{len(index)}H", *index) + bytes(data))
     rows = re.findall(r"\{a=(\w+), b=(\w+), v=(\d+)", text)
     rows = [(int(first, 16), int(last, 16), int(value)) for first, last, value in rows]
-    with open(f"{path}.runs.txt", "w", encoding="utf-8") as file:
-        file.writelines(f"{it[0]:X}..{it[1]:X};{it[2]}\n" for it in runs_of(rows))
+    write(f"{path}.runs.txt", "".join(f"{it[0]:X}..{it[1]:X};{it[2]}\n" for it in runs_of(rows)))
     return data[-1]
 
 

@@ -5,7 +5,8 @@ import re
 import shutil
 import sys
 
-TOP = os.path.dirname(os.path.dirname(os.path.dirname(os.path.realpath(__file__))))
+from scripts import TOP, read
+
 KIT = os.path.dirname(os.path.dirname(os.path.realpath(shutil.which("rt") or "/none/bin/rt")))
 # The folders of a crate that a proof reads.
 PARTS = ("src", "specs", "proofs")
@@ -50,9 +51,8 @@ class Crate:
 def crates():
     """The crates by their names, lowest first."""
     found = {}
-    with open(f"{TOP}/crates.txt", encoding="utf-8") as file:
-        for name, kind, words in re.findall(r"(?m)^(\w+) ?(\w*): ?(.*)$", file.read()):
-            found[name] = Crate(name, kind, words.split(), found)
+    for name, kind, words in re.findall(r"(?m)^(\w+) ?(\w*): ?(.*)$", read(f"{TOP}/crates.txt")):
+        found[name] = Crate(name, kind, words.split(), found)
     return found
 
 

@@ -2,14 +2,15 @@
 import os
 import sys
 
+from scripts import read
+
 
 def wrong_bodies_of(folder):
     """The wrong bodies of the crate in a folder: the text of each edit by its name."""
     path, found = f"{folder}/wrong-bodies.txt", {}
     if not os.path.exists(path):
         return found
-    with open(path, encoding="utf-8") as file:
-        blocks = file.read().split("\n\n")
+    blocks = read(path).split("\n\n")
     for block in blocks:
         lines = [it for it in block.split("\n") if it and not it.startswith("#")]
         if lines and lines[0] in found:
@@ -42,8 +43,7 @@ def edited(edit, folder):
             if not os.path.isfile(f"{folder}/{path}"):
                 faults.append(f"there is no file {path}")
                 break
-            with open(f"{folder}/{path}", encoding="utf-8") as file:
-                texts[path] = file.read()
+            texts[path] = read(f"{folder}/{path}")
         count = texts[path].count(old)
         if count != 1:
             faults.append(f"expected its text once in {path}, found {count} times: {old.strip()}")

@@ -5,6 +5,7 @@ import re
 import shutil
 
 from refusals import FUNCTION, OPENS, last_function, owner_of
+from scripts import read, write
 
 # A proof that is left open.
 HOLE = """use Rattle.{crate}.proofs.{path}.Statement.{{statement}}
@@ -21,8 +22,7 @@ def put_hole(crate, folder, names):
     proof = f"{folder}/proofs/{'/'.join(names)}"
     shutil.rmtree(proof, ignore_errors=True)
     os.makedirs(proof)
-    with open(f"{proof}/Proof.antt", "w", encoding="utf-8") as file:
-        file.write(HOLE.format(crate=crate.name, path=".".join(names), name=names[-1]))
+    write(f"{proof}/Proof.antt", HOLE.format(crate=crate.name, path=".".join(names), name=names[-1]))
 
 
 def module_of(inside):
@@ -38,7 +38,7 @@ def leave_open(crate, folder, texts, functions):
     changed in the same way, and the other files are added. A body keeps its number of lines."""
     for path in glob.glob(f"{folder}/src/**/*.rt", recursive=True):
         inside = path[len(f"{folder}/") :]
-        texts[inside] = texts.get(inside) or open(path, encoding="utf-8").read()
+        texts[inside] = texts.get(inside) or read(path)
     # The module that declares a type: rattle reports its functions there, whatever file the `impl` is in.
     homes = {name: module_of(it) for it, text in texts.items() for name in TYPE.findall(text)}
     for inside, text in texts.items():

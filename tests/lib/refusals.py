@@ -3,6 +3,7 @@ import os
 import re
 
 from edits import edited, pairs_of
+from scripts import read
 
 # An open statement: its file and line, and its name.
 OPEN = re.compile(
@@ -58,7 +59,7 @@ def function_at(crate, texts, path, line):
     """The function that an error at this line is about. `texts` replaces files of the crate."""
     if not path.startswith("src/"):
         return "::".join(path.split("/")[1:-1][-2:])
-    text = texts.get(path) or open(f"{crate.folder}/{path}", encoding="utf-8").read()
+    text = texts.get(path) or read(f"{crate.folder}/{path}")
     # Errors about an item are reported at its attributes.
     before = re.match(rf"(?:.*\n){{{line - 1}}}(?:\s*(?:#|//).*\n)*.*", text)
     return last_function(path, before[0])
@@ -77,8 +78,7 @@ def changed(crate, edit):
     """The functions that an edit changes, and whether it changes only their bodies."""
     found, bodies = {}, True
     for path, old, _ in pairs_of(edit):
-        with open(f"{crate.folder}/{path}", encoding="utf-8") as file:
-            whole = file.read()
+        whole = read(f"{crate.folder}/{path}")
         before = whole[: whole.find(old) + len(old)]
         found[last_function(path, before)] = None
         bodies = bodies and is_in_body(before) and not re.search(r"\bfn ", old)
