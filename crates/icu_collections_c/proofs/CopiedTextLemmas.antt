@@ -16,10 +16,10 @@ use Rattle.icu_zerovec.specs.Buffers.{written}
 use Rattle.icu_collections_c.specs.CopiedText.{IsCopiedText, number_of_part}
 
 -- A code point in a block of the fast index is below the fast limit.
-pub near_number : (kind : TrieType) (block place : ℕ) → block < fast_index_len kind → place < 64
+pub fast_block_number : (kind : TrieType) (block place : ℕ) → block < fast_index_len kind → place < 64
     → (block * 64 + place < fast_limit kind) × (block * 64 + place < 1114112)
-near_number Fast block place l s = (omega arith, omega arith)
-near_number Small block place l s = (omega arith, omega arith)
+fast_block_number Fast block place l s = (omega arith, omega arith)
+fast_block_number Small block place l s = (omega arith, omega arith)
 
 -- ---- the parts that have the values
 module _ {T : Type 0} (f : Option ℕ → T) where

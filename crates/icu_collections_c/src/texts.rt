@@ -49,7 +49,7 @@ struct TextValues<'a, T: UnsignedValue> {
         (parts_from T.unpack T.WIDTH header index.now cells.now)
         (values_of T.unpack T.WIDTH cells.now) ascii_end },
     ghost there: { blocks ≤ length (cells_of 2 index.now) },
-    ghost near: { blocks ≤ fast_index_len header.trie_type },
+    ghost fast: { blocks ≤ fast_index_len header.trie_type },
 }
 
 impl<'a, T: UnsignedValue> Clone for TextValues<'a, T> {
@@ -97,7 +97,7 @@ impl<'a, T: UnsignedValue> TextValues<'a, T> {
     /// Returns the value of any code point. It is a call, for tries that are not coherent.
     #[cold]
     #[inline(never)]
-    fn apart(&self, c: u32) -> T
+    fn outlined_value(&self, c: u32) -> T
         ensures { result ≡ unwrap_or (trie_value
             (parts_from T.unpack T.WIDTH self.now.header self.now.index.now self.now.cells.now) c)
             self.now.none }
@@ -114,7 +114,7 @@ impl<'a, T: UnsignedValue> PartValues<T> for TextValues<'a, T> {
 
     ghost end_of_ascii = { λ values. values.ascii_end };
 
-    ghost near_blocks = { λ values. values.blocks };
+    ghost fast_blocks = { λ values. values.blocks };
 
     #[inline(always)]
     fn ascii_end(&self) -> u8 {
@@ -132,22 +132,22 @@ impl<'a, T: UnsignedValue> PartValues<T> for TextValues<'a, T> {
     }
 
     #[inline(always)]
-    fn near(&self, block: u32, place: u32) -> T {
+    fn value_in_fast_block(&self, block: u32, place: u32) -> T {
         let offset = value_there::<u16>(self.index, block as usize);
         match value_at(self.cells, offset as usize + place as usize) {
             Some(value) => value,
-            None => self.apart(block * 64 + place),
+            None => self.outlined_value(block * 64 + place),
         }
     }
 
     #[inline(always)]
-    fn far(&self, c: u32) -> T {
+    fn value(&self, c: u32) -> T {
         value_of(&self.header, self.index, self.cells, c).unwrap_or(self.none)
     }
 
     #[inline(always)]
     fn error(&self) -> T {
-        self.far(CODE_POINT_LIMIT)
+        self.value(CODE_POINT_LIMIT)
     }
 }
 

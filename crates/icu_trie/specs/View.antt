@@ -1,4 +1,4 @@
--- What a view of a trie stands for.
+-- The header, the index and the data of a view.
 use Rattle.icu_zerovec.specs.Slice.{slice_values}
 use Rattle.icu_trie.specs.Parts.{Parts}
 use Rattle.icu_trie.specs.declared.view.TrieView.{TrieView}

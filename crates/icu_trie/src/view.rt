@@ -274,7 +274,7 @@ impl<'a, T: TrieValue> TrieView<'a, T> {
     /// Returns the position of the value of a code point from the fast limit on, and whether it is
     /// known to be inside the data.
     #[inline(always)]
-    fn far_place(&self, c: u32) -> (usize, bool)
+    fn slow_place(&self, c: u32) -> (usize, bool)
         requires from { fast_limit (view_parts self.now).header.trie_type ≤ c }
         requires within { c < 0x110000 }
         ensures inside { IsTrue result.1 → result.0 < length (view_parts self.now).values }
@@ -301,7 +301,7 @@ impl<'a, T: TrieValue> TrieView<'a, T> {
         if c > CODE_POINT_MAX {
             return (Self::outside_place(self.data.len()), true);
         }
-        self.far_place(c)
+        self.slow_place(c)
     }
 
     /// Returns the position of the value of `c`. An untrusted index may lead outside the data.
@@ -324,7 +324,7 @@ impl<'a, T: TrieValue> TrieView<'a, T> {
         if let Some(place) = self.fast_place(trie_type, c) {
             return (place, true);
         }
-        self.far_place(c)
+        self.slow_place(c)
     }
 
     /// Returns the value at a position, or the error value if it is outside the data. A position

@@ -108,7 +108,7 @@ pub fn look_up<T, C: Cells<T>>(header: &CodePointTrieHeader, cells: &mut C, c: u
         let offset = cells.index_cell((c >> FAST_TYPE_SHIFT) as usize)?;
         return cells.data_cell(offset as usize + (c & FAST_TYPE_DATA_MASK) as usize);
     }
-    look_up_far(header, cells, c)
+    look_up_slow(header, cells, c)
 }
 
 /// Returns what [`look_up`] returns for `c`, which is at or above the fast limit.
@@ -117,7 +117,7 @@ pub fn look_up<T, C: Cells<T>>(header: &CodePointTrieHeader, cells: &mut C, c: u
 /// extra test and jump.
 #[inline(always)]
 #[tactic(auto, unfolding(crate::specs::Format::answer))]
-fn look_up_far<T, C: Cells<T>>(header: &CodePointTrieHeader, cells: &mut C, c: u32) -> Option<T>
+fn look_up_slow<T, C: Cells<T>>(header: &CodePointTrieHeader, cells: &mut C, c: u32) -> Option<T>
     requires { fast_limit header.now.trie_type ≤ c }
     ensures answer { result ≡ answer header.now (C.contents cells.old) c }
     ensures reads { C.reads cells.new ≤ C.reads cells.old + 5 }
@@ -173,5 +173,5 @@ pub fn look_up_whole<T, C: Cells<T>>(
         let offset = cells.index_at((c >> FAST_TYPE_SHIFT) as usize);
         return Some(cells.data_at(offset as usize + (c & FAST_TYPE_DATA_MASK) as usize));
     }
-    look_up_far(header, cells, c)
+    look_up_slow(header, cells, c)
 }

@@ -100,7 +100,7 @@ fn walk_small<T: TrieValue, C: Cells<T>>(
 
 /// `look_up`, not inlined: few ranges start at or after the high start.
 #[inline(never)]
-fn look_up_apart<T: TrieValue, C: Cells<T>>(
+fn look_up_outlined<T: TrieValue, C: Cells<T>>(
     header: &CodePointTrieHeader,
     cells: &mut C,
     c: u32,
@@ -127,7 +127,7 @@ fn walk_high<T: TrieValue, C: Cells<T>>(
     if c >= CODE_POINT_LIMIT {
         return None;
     }
-    let value = look_up_apart(header, cells, c)?;
+    let value = look_up_outlined(header, cells, c)?;
     Some(CodePointMapRange {
         range: c..=CODE_POINT_LIMIT - 1,
         value,

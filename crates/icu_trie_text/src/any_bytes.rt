@@ -1,72 +1,44 @@
 //! The value of the first part of bytes that may be ill-formed UTF-8.
-ghost use Rattle.std.specs.Prelude.{◌≡◌, ◌+◌, ◌*◌, ◌<◌, ◌≤◌, length, slice_index, IfSome, Some, false};
-ghost use Rattle.std.specs.Option.{MatchOption};
-ghost use Rattle.std.specs.Str.{StartsWithNoChar};
+ghost use Rattle.std.specs.Prelude.{◌≡◌, ◌+◌, ◌*◌, ◌<◌, ◌≤◌, length, slice_index, IfSome, false};
 ghost use Rattle.icu_trie_text.specs.CopiedParts.{HasFirstValue};
-ghost use Rattle.icu_utf.specs.Utf8.{IsFirstPart};
 
 use crate::part_values::{PartValues, Reading};
-use icu_utf::first_utf8::{
-    ill_formed_size, is_high_of_four, is_high_of_three, of_four, of_three, of_two, trail_of,
-};
-
-/// Returns the character at the start of the bytes, which are not empty, and its size in bytes.
-/// `None` if they do not start with a character.
-#[inline(always)]
-fn first_character(bytes: &[u8]) -> Option<(u32, usize)>
-    requires { 0 < length bytes.now }
-    ensures { MatchOption result (StartsWithNoChar bytes.now)
-        (λ found. IsFirstPart bytes.now (Some found.0) found.1) }
-{
-    let lead = bytes[0];
-    if lead < 0xE0 {
-        if lead < 0x80 {
-            return Some((u32::from(lead), 1));
-        }
-        if lead < 0xC2 {
-            return None;
-        }
-        Some((u32::from(of_two(bytes)?), 2))
-    } else if lead < 0xF0 {
-        Some((u32::from(of_three(bytes)?), 3))
-    } else {
-        Some((u32::from(of_four(bytes)?), 4))
-    }
-}
+use icu_utf::characters::first_character;
+use icu_utf::first_utf8::{ill_formed_size, is_high_of_four, is_high_of_three, trail_of};
 
 /// Returns the value of the first part of the bytes, which are not empty, and its size in bytes. It
-/// is a call, for the parts that `near_value` leaves.
+/// is a call, for the parts that `inlined_first_value` leaves.
 #[inline(never)]
-pub(crate) fn value_apart<T, V: PartValues<T>>(trie: &V, bytes: &[u8]) -> (T, usize)
+pub(crate) fn outlined_first_value<T, V: PartValues<T>>(trie: &V, bytes: &[u8]) -> (T, usize)
     requires { 0 < length bytes.now }
     ensures { HasFirstValue (V.gives trie.now) bytes.now result.0 result.1 }
 {
     match first_character(bytes) {
-        Some((c, size)) => (trie.far(c), size),
+        Some((c, size)) => (trie.value(u32::from(c)), size),
         None => (trie.error(), ill_formed_size(bytes)),
     }
 }
 
 /// Returns the value of the two-byte character at the start of the bytes. `None` if there is none.
 #[inline(always)]
-fn near_two<T, V: PartValues<T>>(trie: &V, bytes: &[u8]) -> Option<T>
+fn two_byte_value<T, V: PartValues<T>>(trie: &V, bytes: &[u8]) -> Option<T>
     requires bytes { 2 ≤ length bytes.now }
     requires from { 0xC2 ≤ slice_index bytes.now 0 }
     requires to { slice_index bytes.now 0 < 0xE0 }
-    requires blocks { 0x20 ≤ V.near_blocks trie.now }
+    requires blocks { 0x20 ≤ V.fast_blocks trie.now }
     ensures { IfSome result (λ x. HasFirstValue (V.gives trie.now) bytes.now x 2) }
 {
     let second = trail_of(bytes[1]);
     if second >= 0x40 {
         return None;
     }
-    Some(trie.near(u32::from(bytes[0]) - 0xC0, second))
+    Some(trie.value_in_fast_block(u32::from(bytes[0]) - 0xC0, second))
 }
 
 /// Returns the value of the three-byte character at the start of the bytes, in two reads.
 /// `None` if there is none, or if its value takes more reads.
 #[inline(always)]
-fn near_three<T, V: PartValues<T>>(trie: &V, bytes: &[u8]) -> Option<T>
+fn three_byte_value<T, V: PartValues<T>>(trie: &V, bytes: &[u8]) -> Option<T>
     requires bytes { 3 ≤ length bytes.now }
     requires from { 0xE0 ≤ slice_index bytes.now 0 }
     requires to { slice_index bytes.now 0 < 0xF0 }
@@ -81,12 +53,12 @@ fn near_three<T, V: PartValues<T>>(trie: &V, bytes: &[u8]) -> Option<T>
     if !is_high_of_three(block) {
         return None;
     }
-    trie.near_below(block, third)
+    trie.value_in_block(block, third)
 }
 
 /// Returns the value of the four-byte character at the start of the bytes. `None` if there is none.
 #[inline(always)]
-fn near_four<T, V: PartValues<T>>(trie: &V, bytes: &[u8]) -> Option<T>
+fn four_byte_value<T, V: PartValues<T>>(trie: &V, bytes: &[u8]) -> Option<T>
     requires bytes { 4 ≤ length bytes.now }
     requires from { 0xF0 ≤ slice_index bytes.now 0 }
     ensures { IfSome result (λ x. HasFirstValue (V.gives trie.now) bytes.now x 4) }
@@ -101,16 +73,16 @@ fn near_four<T, V: PartValues<T>>(trie: &V, bytes: &[u8]) -> Option<T>
     if !is_high_of_four(high) {
         return None;
     }
-    Some(trie.far(high * 4096 + third * 64 + fourth))
+    Some(trie.value(high * 4096 + third * 64 + fourth))
 }
 
 /// Returns the value of the character at the start of the bytes, and its size in bytes. `None` if
 /// there is none, or if its value takes a call. There are at least four bytes.
 #[inline(always)]
-fn near_value<T, V: PartValues<T>>(trie: &V, bytes: &[u8]) -> Option<(T, usize)>
+fn inlined_first_value<T, V: PartValues<T>>(trie: &V, bytes: &[u8]) -> Option<(T, usize)>
     requires bytes { 4 ≤ length bytes.now }
     requires ascii { V.end_of_ascii trie.now ≡ 0x80 }
-    requires two { 0x20 ≤ V.near_blocks trie.now }
+    requires two { 0x20 ≤ V.fast_blocks trie.now }
     ensures { IfSome result (λ found. HasFirstValue (V.gives trie.now) bytes.now found.0 found.1) }
 {
     let lead = bytes[0];
@@ -121,11 +93,11 @@ fn near_value<T, V: PartValues<T>>(trie: &V, bytes: &[u8]) -> Option<(T, usize)>
         if lead < 0xC2 {
             return None;
         }
-        Some((near_two(trie, bytes)?, 2))
+        Some((two_byte_value(trie, bytes)?, 2))
     } else if lead < 0xF0 {
-        Some((near_three(trie, bytes)?, 3))
+        Some((three_byte_value(trie, bytes)?, 3))
     } else {
-        Some((near_four(trie, bytes)?, 4))
+        Some((four_byte_value(trie, bytes)?, 4))
     }
 }
 
@@ -139,9 +111,9 @@ impl<T, V: PartValues<T>> Reading<T, V> for AnyBytes {
 
     #[inline(always)]
     fn first_value(trie: &V, bytes: &[u8]) -> (T, usize) {
-        match near_value(trie, bytes) {
+        match inlined_first_value(trie, bytes) {
             Some(found) => found,
-            None => value_apart(trie, bytes),
+            None => outlined_first_value(trie, bytes),
         }
     }
 }

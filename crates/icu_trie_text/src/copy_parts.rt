@@ -4,7 +4,7 @@ ghost use Rattle.std.specs.Int.{w64, from_le_bytes};
 ghost use Rattle.std.specs.Str.{IsUtf8};
 ghost use Rattle.icu_trie_text.specs.CopiedParts.{AreCopiedParts, HasCopiedParts};
 
-use crate::any_bytes::{AnyBytes, value_apart};
+use crate::any_bytes::{AnyBytes, outlined_first_value};
 use crate::part_values::{PartValues, Reading, THREE_BYTE_BLOCKS, TWO_BYTE_BLOCKS};
 use crate::well_formed::WellFormed;
 
@@ -89,8 +89,8 @@ fn copy_block<T: Copy, V: PartValues<T>, R: Reading<T, V>>(
     front: Copied,
 ) -> Copied
     requires ascii { V.end_of_ascii trie.now ≡ 0x80 }
-    requires near { R.least_blocks ≤ V.near_blocks trie.now }
-    requires two { 0x20 ≤ V.near_blocks trie.now }
+    requires fast { R.least_blocks ≤ V.fast_blocks trie.now }
+    requires two { 0x20 ≤ V.fast_blocks trie.now }
     requires bytes { front.bytes + 32 ≤ length bytes.now }
     requires room { front.values + 16 ≤ length values.old }
     requires text { R.trusts ≡ true → IsUtf8 (drop front.bytes bytes.now) }
@@ -125,8 +125,8 @@ fn copy_front<T: Copy, V: PartValues<T>, R: Reading<T, V>>(
     values: &mut [T],
 ) -> Copied
     requires ascii { V.end_of_ascii trie.now ≡ 0x80 }
-    requires near { R.least_blocks ≤ V.near_blocks trie.now }
-    requires two { 0x20 ≤ V.near_blocks trie.now }
+    requires fast { R.least_blocks ≤ V.fast_blocks trie.now }
+    requires two { 0x20 ≤ V.fast_blocks trie.now }
     requires text { R.trusts ≡ true → IsUtf8 bytes.now }
     ensures { AreCopiedParts (V.gives trie.now) bytes.now values.old values.new
         result.bytes result.values }
@@ -167,7 +167,7 @@ fn copy_rest<T: Copy, V: PartValues<T>>(
             values[j] = trie.ascii(lead);
             i += 1;
         } else {
-            let (value, size) = value_apart(trie, &bytes[i..]);
+            let (value, size) = outlined_first_value(trie, &bytes[i..]);
             values[j] = value;
             i += size;
         }
@@ -186,7 +186,7 @@ fn copy_by<T: Copy, V: PartValues<T>, R: Reading<T, V>>(
     bytes: &[u8],
     values: &mut [T],
 ) -> Copied
-    requires near { R.least_blocks ≤ V.near_blocks trie.now }
+    requires fast { R.least_blocks ≤ V.fast_blocks trie.now }
     requires text { R.trusts ≡ true → IsUtf8 bytes.now }
     ensures { HasCopiedParts (V.gives trie.now) bytes.now values.old values.new result }
 {

@@ -38,7 +38,7 @@ pub(crate) struct TextLookup<'a, T: TrieValue> {
     ghost in_place: { HasAsciiInPlace (view_parts view) (view_parts view).values ascii_end },
     ghost bytes: { 0 < ascii_end
         → AreFirstBytes T.unpack T.WIDTH (view_parts view).values ascii.now },
-    ghost near: { blocks ≡ fast_index_len (view_parts view).header.trie_type },
+    ghost fast: { blocks ≡ fast_index_len (view_parts view).header.trie_type },
     ghost offsets: { AreFirstOffsets (view_parts view).index two_bytes.now },
 }
 
@@ -144,7 +144,7 @@ impl<'a, T: TrieValue> TextLookup<'a, T> {
         requires within { block * 64 + place < 0x110000 }
         ensures { Some result ≡ trie_value (lookup_parts self.now) (block * 64 + place) }
     {
-        match self.near_below(block, place) {
+        match self.value_in_block(block, place) {
             Some(value) => value,
             None => self.view.get32(block * 64 + place),
         }
@@ -174,7 +174,7 @@ impl<'a, T: TrieValue> TextLookup<'a, T> {
 
     /// Returns the value of a character, for those of four bytes: no fast index has their blocks.
     #[inline(always)]
-    pub(crate) fn get_far(&self, c: char) -> T
+    pub(crate) fn get_four(&self, c: char) -> T
         ensures { Some result ≡ trie_value (lookup_parts self.now) c }
     {
         self.view.get(c)
@@ -188,7 +188,7 @@ impl<'a, T: TrieValue> PartValues<T> for TextLookup<'a, T> {
 
     ghost end_of_ascii = { λ lookup. lookup.ascii_end };
 
-    ghost near_blocks = { λ lookup. lookup.blocks };
+    ghost fast_blocks = { λ lookup. lookup.blocks };
 
     #[inline(always)]
     fn ascii_end(&self) -> u8 {
@@ -212,18 +212,18 @@ impl<'a, T: TrieValue> PartValues<T> for TextLookup<'a, T> {
     }
 
     #[inline(always)]
-    fn near(&self, block: u32, place: u32) -> T {
+    fn value_in_fast_block(&self, block: u32, place: u32) -> T {
         self.view.value_in_fast_block(block as usize, place)
     }
 
     #[inline(always)]
-    fn near_below(&self, block: u32, place: u32) -> Option<T> {
+    fn value_in_block(&self, block: u32, place: u32) -> Option<T> {
         self.view
             .value_in_block(self.blocks as usize, block as usize, place)
     }
 
     #[inline(always)]
-    fn far(&self, c: u32) -> T {
+    fn value(&self, c: u32) -> T {
         self.view.get32(c)
     }
 

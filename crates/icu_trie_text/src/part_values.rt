@@ -18,16 +18,17 @@ pub trait PartValues<T>: Copy {
     ghost end_of_ascii: { Self → ℕ };
 
     /// The first so many blocks of 64 code points take two reads.
-    ghost near_blocks: { Self → ℕ };
+    ghost fast_blocks: { Self → ℕ };
 
     /// Returns the number up to which [`ascii`](Self::ascii) has the values: 0x80 or 0.
     fn ascii_end(&self) -> u8
         ensures end { result ≡ end_of_ascii self.now }
         ensures bound { result ≤ 0x80 };
 
-    /// Returns the number of blocks of 64 code points whose values [`near`](Self::near) has.
+    /// Returns the number of blocks of 64 code points whose values
+    /// [`value_in_fast_block`](Self::value_in_fast_block) has.
     fn blocks(&self) -> u32
-        ensures { result ≡ near_blocks self.now };
+        ensures { result ≡ fast_blocks self.now };
 
     /// Returns the value of an ASCII code point.
     fn ascii(&self, c: u8) -> T
@@ -35,27 +36,27 @@ pub trait PartValues<T>: Copy {
         ensures { gives self.now (Some c) ≡ Some result };
 
     /// Returns the value of the code point at a position in a block of 64 code points.
-    fn near(&self, block: u32, place: u32) -> T
-        requires block { block < near_blocks self.now }
+    fn value_in_fast_block(&self, block: u32, place: u32) -> T
+        requires block { block < fast_blocks self.now }
         requires place { place < 64 }
         ensures { gives self.now (Some (block * 64 + place)) ≡ Some result };
 
-    /// Returns the value that [`near`](Self::near) returns, or `None` if the block is not one of
+    /// Returns the value that [`value_in_fast_block`](Self::value_in_fast_block) returns, or `None` if the block is not one of
     /// [`blocks`](Self::blocks).
     #[inline(always)]
-    fn near_below(&self, block: u32, place: u32) -> Option<T>
+    fn value_in_block(&self, block: u32, place: u32) -> Option<T>
         requires { place < 64 }
-        ensures { MatchOption result (near_blocks self.now ≤ block)
+        ensures { MatchOption result (fast_blocks self.now ≤ block)
             (λ x. gives self.now (Some (block * 64 + place)) ≡ Some x) }
     {
         if block >= self.blocks() {
             return None;
         }
-        Some(self.near(block, place))
+        Some(self.value_in_fast_block(block, place))
     }
 
     /// Returns the value of any code point.
-    fn far(&self, c: u32) -> T
+    fn value(&self, c: u32) -> T
         ensures { gives self.now (Some c) ≡ Some result };
 
     /// Returns the value of an ill-formed part.
@@ -74,7 +75,7 @@ pub(crate) trait Reading<T, V: PartValues<T>> {
     /// Whether the bytes have to be well-formed.
     ghost trusts: { Bool };
 
-    /// The first so many blocks have to be near.
+    /// The first so many blocks have to be fast blocks.
     ghost least_blocks: { ℕ };
 
     /// Returns the value of the first part of the bytes, and its size in bytes. There are at least
@@ -83,7 +84,7 @@ pub(crate) trait Reading<T, V: PartValues<T>> {
         requires text { trusts ≡ true → IsUtf8 bytes.now }
         requires bytes { 4 ≤ length bytes.now }
         requires ascii { V.end_of_ascii trie.now ≡ 0x80 }
-        requires near { least_blocks ≤ V.near_blocks trie.now }
-        requires two { 0x20 ≤ V.near_blocks trie.now }
+        requires fast { least_blocks ≤ V.fast_blocks trie.now }
+        requires two { 0x20 ≤ V.fast_blocks trie.now }
         ensures { HasFirstValue (V.gives trie.now) bytes.now result.0 result.1 };
 }

@@ -4,13 +4,13 @@ ghost use Rattle.std.specs.Prelude.{true};
 use crate::part_values::{PartValues, Reading, THREE_BYTE_BLOCKS};
 use icu_utf::places::{number_of_four, place_of_three, place_of_two};
 
-/// Bytes that are well-formed UTF-8. The first `NEAR` blocks are known to be near.
-pub(crate) struct WellFormed<const NEAR: u32>;
+/// Bytes that are well-formed UTF-8. The first `FAST` blocks are known to be fast blocks.
+pub(crate) struct WellFormed<const FAST: u32>;
 
-impl<T, V: PartValues<T>, const NEAR: u32> Reading<T, V> for WellFormed<NEAR> {
+impl<T, V: PartValues<T>, const FAST: u32> Reading<T, V> for WellFormed<FAST> {
     ghost trusts = { true };
 
-    ghost least_blocks = { NEAR };
+    ghost least_blocks = { FAST };
 
     #[inline(always)]
     fn first_value(trie: &V, text: &[u8]) -> (T, usize) {
@@ -20,15 +20,15 @@ impl<T, V: PartValues<T>, const NEAR: u32> Reading<T, V> for WellFormed<NEAR> {
                 return (trie.ascii(lead), 1);
             }
             let (block, place) = place_of_two(text);
-            return (trie.near(block, place), 2);
+            return (trie.value_in_fast_block(block, place), 2);
         }
         if lead < 0xF0 {
             let (block, place) = place_of_three(text);
-            if NEAR >= THREE_BYTE_BLOCKS || block < trie.blocks() {
-                return (trie.near(block, place), 3);
+            if FAST >= THREE_BYTE_BLOCKS || block < trie.blocks() {
+                return (trie.value_in_fast_block(block, place), 3);
             }
-            return (trie.far(block * 64 + place), 3);
+            return (trie.value(block * 64 + place), 3);
         }
-        (trie.far(number_of_four(text)), 4)
+        (trie.value(number_of_four(text)), 4)
     }
 }

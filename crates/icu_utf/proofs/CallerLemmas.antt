@@ -5,6 +5,8 @@ pub use Rattle.icu_utf.proofs.CharacterLemmas.{last_same}
 -- A character has one to four bytes. The first character of the rest of bytes, and the last one of the
 -- first bytes, are within the bytes.
 pub use Rattle.icu_utf.proofs.CharacterLemmas.{last_part, past_part, size_of}
+-- The bytes of a character after its first one are trail bytes, and the first one is none.
+pub use Rattle.icu_utf.proofs.CharacterLemmas.{lead_of, trail_of}
 -- There are no more code points than units.
 pub use Rattle.icu_utf.proofs.Utf16Lemmas.{length-code_points}
 -- A part takes at least one byte and at most four, and is within the bytes.

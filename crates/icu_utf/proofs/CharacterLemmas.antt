@@ -81,7 +81,7 @@ not_inside c i s from to b =
     )
 
 -- The bytes of a character after its first one are trail bytes, and the first one is none.
-trail_of : (c i : ℕ) → IsScalar c → 0 < i → i < length (encode_utf8 c)
+pub trail_of : (c i : ℕ) → IsScalar c → 0 < i → i < length (encode_utf8 c)
     → (0x80 ≤ get_or (encode_utf8 c) i 0) × (get_or (encode_utf8 c) i 0 < 0xC0)
 trail_of c i s from to = elim (cases_lt (get_or (encode_utf8 c) i 0) 0x80) [
   | inl low ↦ absurd (not_inside c i s from to (omega arith, λ _ l. absurd (omega (arith, low, l))))
@@ -91,7 +91,7 @@ trail_of c i s from to = elim (cases_lt (get_or (encode_utf8 c) i 0) 0x80) [
   ]
 ]
 
-lead_of : (c : ℕ) → IsScalar c → 0x80 ≤ get_or (encode_utf8 c) 0 0 → 0xC0 ≤ get_or (encode_utf8 c) 0 0
+pub lead_of : (c : ℕ) → IsScalar c → 0x80 ≤ get_or (encode_utf8 c) 0 0 → 0xC0 ≤ get_or (encode_utf8 c) 0 0
 lead_of c s h = (IsCharBoundary-start (encode_utf8 c) (IsUtf8-encode c s)).1 (size_of c).0 h
 
 -- ---- the character at the end

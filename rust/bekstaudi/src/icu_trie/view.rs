@@ -200,7 +200,7 @@ impl<'a, T: TrieValue> TrieView<'a, T> {
     /// Returns the position of the value of a code point from the fast limit on, and whether it is
     /// known to be inside the data.
     #[inline(always)]
-    fn far_place(&self, c: u32) -> (usize, bool) {
+    fn slow_place(&self, c: u32) -> (usize, bool) {
         if c >= self.header.high_start {
             return (self.data.len() - HIGH_VALUE_NEG_DATA_OFFSET as usize, true);
         }
@@ -218,7 +218,7 @@ impl<'a, T: TrieValue> TrieView<'a, T> {
         if c > CODE_POINT_MAX {
             return (Self::outside_place(self.data.len()), true);
         }
-        self.far_place(c)
+        self.slow_place(c)
     }
 
     /// Returns the position of the value of `c`. An untrusted index may lead outside the data.
@@ -235,7 +235,7 @@ impl<'a, T: TrieValue> TrieView<'a, T> {
         if let Some(place) = self.fast_place(trie_type, c) {
             return (place, true);
         }
-        self.far_place(c)
+        self.slow_place(c)
     }
 
     /// Returns the value at a position, or the error value if it is outside the data. A position

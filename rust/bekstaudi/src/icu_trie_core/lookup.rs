@@ -81,7 +81,7 @@ pub fn look_up<T, C: Cells<T>>(header: &CodePointTrieHeader, cells: &mut C, c: u
         let offset = cells.index_cell((c >> FAST_TYPE_SHIFT) as usize)?;
         return cells.data_cell(offset as usize + (c & FAST_TYPE_DATA_MASK) as usize);
     }
-    look_up_far(header, cells, c)
+    look_up_slow(header, cells, c)
 }
 
 /// Returns what [`look_up`] returns for `c`, which is at or above the fast limit.
@@ -89,7 +89,7 @@ pub fn look_up<T, C: Cells<T>>(header: &CodePointTrieHeader, cells: &mut C, c: u
 /// Each case reads its own data cell, since one shared read at the end would cost each case an
 /// extra test and jump.
 #[inline(always)]
-fn look_up_far<T, C: Cells<T>>(header: &CodePointTrieHeader, cells: &mut C, c: u32) -> Option<T> {
+fn look_up_slow<T, C: Cells<T>>(header: &CodePointTrieHeader, cells: &mut C, c: u32) -> Option<T> {
     if c > CODE_POINT_MAX {
         return None;
     }
@@ -125,5 +125,5 @@ pub(crate) fn look_up_whole<T, C: Cells<T>>(
         let offset = cells.index_at((c >> FAST_TYPE_SHIFT) as usize);
         return Some(cells.data_at(offset as usize + (c & FAST_TYPE_DATA_MASK) as usize));
     }
-    look_up_far(header, cells, c)
+    look_up_slow(header, cells, c)
 }

@@ -1,6 +1,6 @@
 //! The values of the parts of bytes, written to a buffer.
 
-use crate::icu_trie_text::any_bytes::{AnyBytes, value_apart};
+use crate::icu_trie_text::any_bytes::{AnyBytes, outlined_first_value};
 use crate::icu_trie_text::part_values::{PartValues, Reading, THREE_BYTE_BLOCKS, TWO_BYTE_BLOCKS};
 use crate::icu_trie_text::well_formed::WellFormed;
 use crate::support::prelude::*;
@@ -124,7 +124,7 @@ fn copy_rest<T: Copy, V: PartValues<T>>(
             values[j] = trie.ascii(lead);
             i += 1;
         } else {
-            let (value, size) = value_apart(trie, &bytes[i..]);
+            let (value, size) = outlined_first_value(trie, &bytes[i..]);
             values[j] = value;
             i += size;
         }

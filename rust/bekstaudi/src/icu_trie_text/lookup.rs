@@ -105,7 +105,7 @@ impl<'a, T: TrieValue> TextLookup<'a, T> {
     /// Returns the value of the code point at index `place` in a block of 64.
     #[inline(always)]
     pub(crate) fn at(&self, block: u32, place: u32) -> T {
-        match self.near_below(block, place) {
+        match self.value_in_block(block, place) {
             Some(value) => value,
             None => self.view.get32(block * 64 + place),
         }
@@ -129,7 +129,7 @@ impl<'a, T: TrieValue> TextLookup<'a, T> {
 
     /// Returns the value of a character, for those of four bytes: no fast index has their blocks.
     #[inline(always)]
-    pub(crate) fn get_far(&self, c: char) -> T {
+    pub(crate) fn get_four(&self, c: char) -> T {
         self.view.get(c)
     }
 }
@@ -157,18 +157,18 @@ impl<'a, T: TrieValue> PartValues<T> for TextLookup<'a, T> {
     }
 
     #[inline(always)]
-    fn near(&self, block: u32, place: u32) -> T {
+    fn value_in_fast_block(&self, block: u32, place: u32) -> T {
         self.view.value_in_fast_block(block as usize, place)
     }
 
     #[inline(always)]
-    fn near_below(&self, block: u32, place: u32) -> Option<T> {
+    fn value_in_block(&self, block: u32, place: u32) -> Option<T> {
         self.view
             .value_in_block(self.blocks as usize, block as usize, place)
     }
 
     #[inline(always)]
-    fn far(&self, c: u32) -> T {
+    fn value(&self, c: u32) -> T {
         self.view.get32(c)
     }
 

@@ -11,27 +11,28 @@ pub trait PartValues<T>: Copy {
     /// Returns the number up to which [`ascii`](Self::ascii) has the values: 0x80 or 0.
     fn ascii_end(&self) -> u8;
 
-    /// Returns the number of blocks of 64 code points whose values [`near`](Self::near) has.
+    /// Returns the number of blocks of 64 code points whose values
+    /// [`value_in_fast_block`](Self::value_in_fast_block) has.
     fn blocks(&self) -> u32;
 
     /// Returns the value of an ASCII code point.
     fn ascii(&self, c: u8) -> T;
 
     /// Returns the value of the code point at a position in a block of 64 code points.
-    fn near(&self, block: u32, place: u32) -> T;
+    fn value_in_fast_block(&self, block: u32, place: u32) -> T;
 
-    /// Returns the value that [`near`](Self::near) returns, or `None` if the block is not one of
+    /// Returns the value that [`value_in_fast_block`](Self::value_in_fast_block) returns, or `None` if the block is not one of
     /// [`blocks`](Self::blocks).
     #[inline(always)]
-    fn near_below(&self, block: u32, place: u32) -> Option<T> {
+    fn value_in_block(&self, block: u32, place: u32) -> Option<T> {
         if block >= self.blocks() {
             return None;
         }
-        Some(self.near(block, place))
+        Some(self.value_in_fast_block(block, place))
     }
 
     /// Returns the value of any code point.
-    fn far(&self, c: u32) -> T;
+    fn value(&self, c: u32) -> T;
 
     /// Returns the value of an ill-formed part.
     fn error(&self) -> T;

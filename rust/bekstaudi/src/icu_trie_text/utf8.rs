@@ -78,7 +78,7 @@ fn character_item<T: TrieValue>(
         Some(item_of(block * 64 + place, trie.at(block, place), 3))
     } else {
         let c = of_four(bytes)?;
-        Some(((c, trie.get_far(c)), 4))
+        Some(((c, trie.get_four(c)), 4))
     }
 }
 

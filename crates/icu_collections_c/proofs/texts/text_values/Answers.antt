@@ -11,5 +11,5 @@ invariant_of-result g c =
           (parts_from g.T.AsULE.unpack g.T.AsULE.WIDTH c.header_of-header.result c.args.trie.now.index.now c.args.trie.now.values.now)
           _ _ c.ascii_end.result refl refl found.bound found.first found.second found.there;
       there = omega arith;
-      near = omega arith;
+      fast = omega arith;
     }

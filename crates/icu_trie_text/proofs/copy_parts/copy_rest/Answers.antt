@@ -16,8 +16,8 @@ loop-i-preserved g c = λ old before.
           (omega (arith, c.ascii_end.ensures.bound)) w.ascii.ensures)
           (omega arith))
       | else-lead-ascii_end w ↦ rw (w.values-is, w.i-is)
-          (copied_more gives c.args.bytes.now old c.loop-i.values c.loop-i.i c.loop-i.j w.value_apart-value.result.1
-          w.value_apart-value.result.0 r (rw (take_rest c.args.bytes.now c.loop-i.i) at w.value_apart-value.ensures) (omega arith))
+          (copied_more gives c.args.bytes.now old c.loop-i.values c.loop-i.i c.loop-i.j w.outlined_first_value-value.result.1
+          w.outlined_first_value-value.result.0 r (rw (take_rest c.args.bytes.now c.loop-i.i) at w.outlined_first_value-value.ensures) (omega arith))
     ]
 
 pub returns-after-loop-i : goal.returns-after-loop-i

@@ -11,7 +11,7 @@ invariant_of-result g c =
       in_place = rw c.parts.ensures.values at (ascii_known t _ _ c.ascii_end.result c.parts.ensures.index
           c.parts.ensures.values found.bound found.first found.second found.there);
       bytes = λ some. rw c.parts.ensures.values at (c.first_bytes.ensures (found.there some));
-      near = c.fast_blocks.ensures;
+      fast = c.fast_blocks.ensures;
       offsets = rw c.parts.ensures.index at (c.first_cells.ensures (rw (c.parts.ensures.index)
           (index_at_least g.T.TrieValue.of_number t c.parts.ensures.whole)));
     }

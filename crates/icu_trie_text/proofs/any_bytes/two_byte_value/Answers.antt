@@ -1,7 +1,7 @@
 use Rattle.std.proofs.Common.{◌≡◌, ℕ, ◌+◌, ◌-◌, ◌*◌, get_or, Some, arith}
 use Rattle.icu_utf.specs.Trails.{IsTrail}
 use Rattle.icu_utf.proofs.CallerLemmas.{two_found}
-use Rattle.icu_trie_text.proofs.any_bytes.near_two.Goals as goal
+use Rattle.icu_trie_text.proofs.any_bytes.two_byte_value.Goals as goal
 
 pub returns : goal.returns
 returns g c =
@@ -13,5 +13,5 @@ returns g c =
     let second : IsTrail bytes 1 b = record { there = omega arith; byte = byte; six = omega arith } in (
       Some (a * 64 + b),
       two_found bytes a b lead (omega (arith, lead, c.requires.from)) (omega (arith, lead, c.requires.to)) second,
-      c.near.ensures,
+      c.value_in_fast_block.ensures,
     )

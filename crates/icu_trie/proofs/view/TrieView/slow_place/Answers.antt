@@ -2,7 +2,7 @@
 use Rattle.std.proofs.Common.{◌≤◌, length, arith}
 use Rattle.icu_trie.specs.View.{view_parts}
 use Rattle.icu_trie.proofs.Positions.{values_at_least}
-use Rattle.icu_trie.proofs.view.TrieView.far_place.Goals as goal
+use Rattle.icu_trie.proofs.view.TrieView.slow_place.Goals as goal
 
 pub overflow_sub-result : goal.overflow_sub-result
 overflow_sub-result g c =

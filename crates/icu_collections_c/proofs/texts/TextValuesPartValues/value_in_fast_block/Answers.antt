@@ -6,8 +6,8 @@ use Rattle.icu_trie_core.specs.Format.{answer}
 use Rattle.icu_trie_core.proofs.CallerLemmas.{fast_answer}
 use Rattle.icu_collections_c.specs.BytesTrie.{cells_of}
 use Rattle.icu_collections_c.proofs.CellLemmas.{length-values_of}
-use Rattle.icu_collections_c.proofs.CopiedTextLemmas.{near_number}
-use Rattle.icu_collections_c.proofs.texts.TextValuesPartValues.near.Goals as goal
+use Rattle.icu_collections_c.proofs.CopiedTextLemmas.{fast_block_number}
+use Rattle.icu_collections_c.proofs.texts.TextValuesPartValues.value_in_fast_block.Goals as goal
 
 pub value_there-offset-requires : goal.value_there-offset-requires
 value_there-offset-requires g c =
@@ -23,8 +23,8 @@ returns-in-Some g c =
     let values = values_of g.T.AsULE.unpack g.T.AsULE.WIDTH c.args.self.now.cells.now in
     let u : ℕ = c.args.block * 64 + c.args.place in
     let offset : ℕ = c.value_there-offset.result in
-    let near = c.args.self.now.near in
-    let below = near_number header.trie_type c.args.block c.args.place (omega (arith, near, c.requires.block)) c.requires.place in
+    let near = c.args.self.now.fast in
+    let below = fast_block_number header.trie_type c.args.block c.args.place (omega (arith, near, c.requires.block)) c.requires.place in
     let own : u / 64 ≡ c.args.block = omega (arith, c.requires.place) in
     let low : u % 64 ≡ c.args.place = omega (arith, c.requires.place) in
     let known : slice_get index (u / 64) ≡ Some offset = rw own c.value_there-offset.ensures in

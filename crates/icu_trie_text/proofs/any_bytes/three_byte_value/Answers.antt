@@ -2,15 +2,15 @@ use Rattle.std.proofs.Common.{◌≡◌, ℕ, ◌+◌, ◌-◌, ◌*◌, ◌<◌
 use Rattle.std.proofs.lemmas.Nat.{le_or_l, le_or_r}
 use Rattle.icu_trie_text.proofs.CopiedLemmas.{value_if}
 use Rattle.icu_utf.proofs.CallerLemmas.{three_found, trail_at}
-use Rattle.icu_trie_text.proofs.any_bytes.near_three.Goals as goal
+use Rattle.icu_trie_text.proofs.any_bytes.three_byte_value.Goals as goal
 
 pub is_high_of_three-requires : goal.is_high_of_three-requires
 is_high_of_three-requires g c =
     let small = le_or_l c.trail_of-second.result c.trail_of-third.result in
     omega (arith, small, c.if-second-third-ge64.false, c.from.ensures, c.requires.to)
 
-pub near_below-requires : goal.near_below-requires
-near_below-requires g c =
+pub value_in_block-requires : goal.value_in_block-requires
+value_in_block-requires g c =
     omega (arith, le_or_r c.trail_of-second.result c.trail_of-third.result, c.if-second-third-ge64.false)
 
 pub returns : goal.returns
@@ -25,5 +25,5 @@ returns g c =
     let second = trail_at bytes 1 s (omega arith) (omega (arith, c.trail_of-second.ensures.byte small)) small in
     let third = trail_at bytes 2 t (omega arith) (omega (arith, c.trail_of-third.ensures.byte small_too)) small_too in
     let high = c.is_high_of_three.ensures.0 c.if-not-is_high_of_three.false in
-    value_if (g.V.PartValues.gives c.args.trie.now) bytes ((a * 64 + s) * 64 + t) 3 (g.V.PartValues.near_blocks c.args.trie.now) (a * 64 + s)
-    c.near_below.result (three_found bytes a s t lead (omega (arith, lead, c.requires.to)) second high third) c.near_below.ensures
+    value_if (g.V.PartValues.gives c.args.trie.now) bytes ((a * 64 + s) * 64 + t) 3 (g.V.PartValues.fast_blocks c.args.trie.now) (a * 64 + s)
+    c.value_in_block.result (three_found bytes a s t lead (omega (arith, lead, c.requires.to)) second high third) c.value_in_block.ensures

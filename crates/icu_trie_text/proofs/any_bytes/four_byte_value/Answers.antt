@@ -1,7 +1,7 @@
 use Rattle.std.proofs.Common.{◌≡◌, ℕ, ◌+◌, ◌-◌, ◌*◌, ◌<◌, get_or, bit_or, Some, arith}
 use Rattle.std.proofs.lemmas.Nat.{le_or_l, le_or_r}
 use Rattle.icu_utf.proofs.CallerLemmas.{four_found, trail_at}
-use Rattle.icu_trie_text.proofs.any_bytes.near_four.Goals as goal
+use Rattle.icu_trie_text.proofs.any_bytes.four_byte_value.Goals as goal
 
 pub returns : goal.returns
 returns g c =
@@ -19,4 +19,4 @@ returns g c =
     let third = trail_at bytes 2 t (omega arith) (omega (arith, c.trail_of-third.ensures.byte small_too)) small_too in
     let fourth = trail_at bytes 3 u (omega arith) (omega (arith, c.trail_of-fourth.ensures.byte small_last)) small_last in
     let high = c.is_high_of_four.ensures.0 c.if-not-is_high_of_four.false in
-    (Some ((a * 64 + s) * 4096 + t * 64 + u), four_found bytes a s t u lead second high third fourth, c.far.ensures)
+    (Some ((a * 64 + s) * 4096 + t * 64 + u), four_found bytes a s t u lead second high third fourth, c.value.ensures)

@@ -1,6 +1,0 @@
-use Rattle.std.proofs.Common.{inl}
-use Rattle.icu_utf.proofs.CallerLemmas.{not_first}
-use Rattle.icu_trie_text.proofs.any_bytes.first_character.Goals as goal
-
-pub returns-then-lead-lt194 : goal.returns-then-lead-lt194
-returns-then-lead-lt194 c = (not_first c.args.bytes.now c.requires c.if-lead-lt128.false (inl c.if-lead-lt194.true)).no_character
