@@ -1,7 +1,7 @@
 -- The merge into a buffer that may be too short.
 use Rattle.std.proofs.Common.{◌≡◌, ℕ, ◌+◌, ◌-◌, ◌<◌, ◌≤◌, ◌^◌, List, [], ◌∷◌, ◌++◌, length, set, take, drop, get_or, refl, ap, sym, ◌∙◌, subst, arith, suc, Bool, true, false, not, inl, inr}
 use Rattle.std.specs.Prelude.{if◌then◌else◌, ◌⊎◌}
-use Rattle.std.proofs.lemmas.List.{append-nil, drop_all, length-append, length-drop, length_push}
+use Rattle.std.proofs.lemmas.List.{append-nil, drop_all, length-append, length-drop, length_push, set_past}
 use Rattle.icu_invlist.specs.InversionList.{is_odd, IsValid}
 use Rattle.icu_invlist.specs.Inside.Merging.{Merging, MovesOver}
 use Rattle.icu_zerovec.specs.Buffers.{written}
@@ -168,6 +168,12 @@ write_more out xs w i h =
 pub write_none : (out xs : List ℕ) (w i : ℕ) → length xs ≤ i → filled_from out w (drop i xs) ≡ out
 unfolding filled_from
 write_none out xs w i h = rw (drop_all i xs h) refl
+
+-- Past the end of the buffer nothing is put.
+pub write_past : (out xs : List ℕ) (w : ℕ) → length out ≤ w → filled_from out w xs ≡ out
+unfolding filled_from
+write_past out [] w h = refl
+write_past out (x ∷ xs) w h = rw (set_past out w x h) (write_past out xs (suc w) (omega arith))
 
 -- There is a next index.
 pub walks_small : (f : Bool → Bool → Bool) (a b base out : List ℕ) (i j w : ℕ) → MergeSteps f a b base out i j w → w + 1 < 2 ^ 64

@@ -242,11 +242,13 @@ fn put_rest<A: Boundaries>(a: A, from: usize, out: &mut [u32], written: usize) -
     let count = a.count();
     let mut i = from;
     let mut next = written;
-    while i < count {
-        next = put(out, next, a.at(i), true);
+    // Two tests end the loop and none is inside, so the compiler vectorises it.
+    while i < count && next < out.len() {
+        out[next] = a.at(i);
+        next += 1;
         i += 1;
     }
-    next
+    written + (count - from)
 }
 
 /// Writes the boundaries of the result of an operation on two sets into a buffer, as many as fit,
