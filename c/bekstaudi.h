@@ -798,8 +798,9 @@ bool bks_frozen_contains(const uint64_t *table, size_t count, uint32_t c);
  *
  * It ends at a character boundary. An ill-formed sequence ends it too. So spans with true and false
  * in turn reach the end of the text, or BKS_INVALID_UTF8 at its first ill-formed sequence; skip a byte
- * to go on. It reads at most the nine bytes after the span, and none outside the text. A long span
- * is tested eight bytes at a time. Any words are accepted: see bks_frozen_contains.
+ * to go on, or call bks_frozen_span_lossy. It reads at most the nine bytes after the span, and none
+ * outside the text. A long span is tested eight bytes at a time. Any words are accepted: see
+ * bks_frozen_contains.
  *
  * @param table the words of the frozen set
  * @param count how many words there are
@@ -831,6 +832,41 @@ int64_t bks_frozen_span(const uint64_t *table, size_t count, const char *text, s
  * ICU: uset_spanBackUTF8 of a frozen set. */
 int64_t bks_frozen_span_back(const uint64_t *table, size_t count, const char *text, size_t size,
                              bool held);
+
+/** Returns the size of the longest prefix of a text whose characters are all in a frozen set, or all
+ * outside it. The text may be ill-formed UTF-8.
+ *
+ * An ill-formed sequence counts as U+FFFD: it ends the span only if bks_frozen_contains of 0xFFFD is
+ * not `held`. So spans with true and false in turn reach the end of any text. Any words are
+ * accepted: see bks_frozen_contains.
+ *
+ * @param table the words of the frozen set
+ * @param count how many words there are
+ * @param text any bytes
+ * @param size how many bytes the text has
+ * @param held true: characters in the set; false: characters outside it
+ * @return a number of bytes
+ *
+ * ICU: uset_spanUTF8 of a frozen set. */
+size_t bks_frozen_span_lossy(const uint64_t *table, size_t count, const char *text, size_t size,
+                             bool held);
+
+/** Returns the offset of the longest suffix of a text whose characters are all in a frozen set, or
+ * all outside it. The text may be ill-formed UTF-8.
+ *
+ * An ill-formed sequence counts as U+FFFD: it ends the span only if bks_frozen_contains of 0xFFFD is
+ * not `held`. Any words are accepted: see bks_frozen_contains.
+ *
+ * @param table the words of the frozen set
+ * @param count how many words there are
+ * @param text any bytes
+ * @param size how many bytes the text has
+ * @param held true: characters in the set; false: characters outside it
+ * @return an offset in bytes
+ *
+ * ICU: uset_spanBackUTF8 of a frozen set. */
+size_t bks_frozen_span_back_lossy(const uint64_t *table, size_t count, const char *text,
+                                  size_t size, bool held);
 
 /** Returns the length of the longest prefix of a UTF-16 text whose code points are all in a frozen
  * set, or all outside it.

@@ -477,6 +477,22 @@ public:
             words_.data(), words_.size(), bytes.data(), bytes.size(), held)));
     }
 
+    /// Returns the longest prefix of a text in UTF-8 whose characters are all in the set or, if
+    /// `held` is false, all outside it. An ill-formed sequence counts as U+FFFD.
+    std::string_view span_lossy(std::string_view text, bool held = true) const {
+        view<char> bytes(text);
+        return text.substr(0, bks_frozen_span_lossy(words_.data(), words_.size(), bytes.data(),
+                                                    bytes.size(), held));
+    }
+
+    /// Returns the longest suffix of a text in UTF-8 whose characters are all in the set or, if
+    /// `held` is false, all outside it. An ill-formed sequence counts as U+FFFD.
+    std::string_view span_back_lossy(std::string_view text, bool held = true) const {
+        view<char> bytes(text);
+        return text.substr(bks_frozen_span_back_lossy(words_.data(), words_.size(), bytes.data(),
+                                                      bytes.size(), held));
+    }
+
     /// Returns the longest prefix of a text in UTF-16 whose code points are all in the set or, if
     /// `held` is false, all outside it. An unpaired surrogate is a code point of its own.
     std::u16string_view span(std::u16string_view text, bool held = true) const {
@@ -496,6 +512,12 @@ public:
     }
     std::u8string_view span_back(std::u8string_view text, bool held = true) const {
         return text.substr(text.size() - span_back(detail::bytes_of(text), held).size());
+    }
+    std::u8string_view span_lossy(std::u8string_view text, bool held = true) const {
+        return text.substr(0, span_lossy(detail::bytes_of(text), held).size());
+    }
+    std::u8string_view span_back_lossy(std::u8string_view text, bool held = true) const {
+        return text.substr(text.size() - span_back_lossy(detail::bytes_of(text), held).size());
     }
 #endif
 

@@ -202,6 +202,8 @@ static void sets(const library *l) {
     for (int i = 0; i < 30; i++) PUT(ASK(bks_frozen_contains, SLICE(table, room), point()));
     PUT(ASK(bks_frozen_span, SLICE(table, room), SLICE(text, size), held));
     PUT(ASK(bks_frozen_span_back, SLICE(table, room), SLICE(text, size), held));
+    PUT(ASK(bks_frozen_span_lossy, SLICE(table, room), SLICE(text, size), held));
+    PUT(ASK(bks_frozen_span_back_lossy, SLICE(table, room), SLICE(text, size), held));
     PUT(ASK(bks_frozen_span_utf16, SLICE(table, room), SLICE(units, count), held));
 }
 

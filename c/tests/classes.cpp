@@ -163,6 +163,10 @@ static void spans() {
     CHECK(letters.span_back("7 Stra\xC3\x9F" "e") == "Stra\xC3\x9F" "e" && letters.span_back("a7", false) == "7");
     CHECK(letters.span_back("").empty() && letters.span_back(std::string_view()).empty());
     CHECK(letters.span_back("\xFF" "a") == "a" && throws<bekstaudi::invalid_utf8>([&] { letters.span_back("a\xFF"); }));
+    bekstaudi::frozen_set frozen(letters);
+    CHECK(frozen.span_lossy("a\xFF" "a") == "a" && frozen.span_lossy("7\xFF\xE4\xB8" "a", false) == "7\xFF\xE4\xB8");
+    CHECK(frozen.span_back_lossy("a7\xFF", false) == "7\xFF" && frozen.span_back_lossy("\xFF").empty());
+    CHECK(frozen.span_lossy("").empty() && frozen.span_back_lossy(std::string_view()).empty());
     CHECK(letters.span(u"a\u00DF7") == u"a\u00DF" && letters.span(u"7\xD800" "a", false) == u"7\xD800");
     CHECK(letters.span(std::u16string_view()).empty() && letters.span(u"").empty());
     for (size_t size = 0; size < 600; size++)
@@ -208,6 +212,7 @@ static void texts_of_all_kinds() {
         [&] { bekstaudi::unit_trie::build(std::map<std::u32string, int>{{U"\x110000", 1}}); }));
 #ifdef __cpp_lib_char8_t
     CHECK(set.span(u8"a\u00E9!") == u8"a\u00E9" && frozen.span(u8"a\u00E9!") == u8"a\u00E9");
+    CHECK(frozen.span_lossy(u8"a\u00E9!") == u8"a\u00E9" && frozen.span_back_lossy(u8"!\u00E9") == u8"\u00E9");
     CHECK(set.span_back(u8"!\u00E9") == u8"\u00E9" && frozen.span_back(u8"!\u00E9") == u8"\u00E9");
     CHECK(trie.values_of(u8"a\u00E9\u4E16\U0001F600!") == values);
     uint16_t one[1];

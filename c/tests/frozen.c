@@ -147,6 +147,68 @@ static void ill_formed(void) {
     CHECK(bks_frozen_span_back(room, (size_t)size, "", 0, true) == 0 && bks_set_span_back(all, 2, "", 0, false) == 0);
 }
 
+/* What the header says of bytes that may be ill-formed, byte by byte: which ones count as held. */
+static void count_as(const uint64_t *table, size_t size, const char *text, size_t bytes, bool *held) {
+    for (size_t i = 0; i < bytes; i++) held[i] = bks_frozen_contains(table, size, 0xFFFD);
+    for (size_t i = 0; i < bytes; i++)
+        for (size_t n = 1; n <= 4 && i + n <= bytes; n++) {
+            char own[4];
+            uint32_t lead = (uint8_t)text[i], c = n == 1 ? lead : lead & (0x7Fu >> n);
+            for (size_t k = 1; k < n; k++) c = c << 6 | ((uint8_t)text[i + k] & 0x3F);
+            if (c >= CODE_POINTS || (c >= 0xD800 && c < 0xE000) || write_utf8(c, own) != n) continue;
+            if (memcmp(own, text + i, n) == 0)
+                for (size_t k = 0; k < n; k++) held[i + k] = bks_frozen_contains(table, size, c);
+        }
+}
+
+/* Texts of characters, of parts of their bytes and of any bytes, and ICU's spans of them. */
+static void lossy(void) {
+    static const uint32_t sets[][4] = {
+        {0, CODE_POINTS, 0, 0},       {'a', 'c', 0xDF, 0x4E17},    {0xFFFD, 0xFFFE, 0x1F600, 0x1F601},
+        {'a', 'c', 0x1F600, 0x1F601}, {'a', 'c', 0xFFFD, 0xFFFE}, {0, 0xFFFD, 0xFFFE, CODE_POINTS}};
+    static const char *const parts[] = {
+        "a",        "b",    "c",        "\xC3\x9F",     "\xE4\xB8\x96", "\xEF\xBF\xBD", "\xF0\x9F\x98\x80",
+        "\x80",     "\xC2", "\xE4\xB8", "\xF0\x9F\x98", "\xED\xA0\x80", "\xC0\x80",     "\xF4\x90",
+        "\xE0\x9F", "\xFF", "\xF0\x9F", "\xBF\xBF"};
+    for (int turn = 0; turn < 60000; turn++) {
+        const uint32_t *ends = sets[below(6)];
+        size_t count = ends[2] < ends[3] ? 4 : 2, end = 0;
+        char bytes[300];
+        bool held[300], is_plain = below(3) == 0;
+        for (uint32_t n = below(turn % 16 ? 8 : 60); n > 0; n--) {
+            const char *part = parts[below(is_plain ? 7 : 18)];
+            char any[2] = {(char)(below(255) + 1), 0};
+            if (!is_plain && below(8) == 0) part = any;
+            for (uint32_t times = below(6) ? 1 : 1 + below(3); times > 0 && end < 280; times--) {
+                memcpy(bytes + end, part, strlen(part));
+                end += strlen(part);
+            }
+        }
+        int64_t size = bks_set_freeze(ends, count, room, BKS_FROZEN_MOST);
+        char *text = (char *)memcpy(before_closed_page(end), bytes, end);
+        count_as(room, (size_t)size, text, end, held);
+        for (int is_held = 0; is_held < 2; is_held++) {
+            size_t front = 0, back = end;
+            while (front < end && held[front] == is_held) front++;
+            while (back > 0 && held[back - 1] == is_held) back--;
+            CHECK(bks_frozen_span_lossy(room, (size_t)size, text, end, is_held) == front);
+            CHECK(bks_frozen_span_back_lossy(room, (size_t)size, text, end, is_held) == back);
+#ifdef WITH_ICU
+            USet *icu = uset_openEmpty();
+            for (size_t i = 0; i < count; i += 2) uset_addRange(icu, (UChar32)ends[i], (UChar32)ends[i + 1] - 1);
+            if (turn % 2) uset_freeze(icu);
+            USetSpanCondition kind = is_held ? USET_SPAN_SIMPLE : USET_SPAN_NOT_CONTAINED;
+            CHECK((size_t)uset_spanUTF8(icu, text, (int32_t)end, kind) == front);
+            CHECK((size_t)uset_spanBackUTF8(icu, text, (int32_t)end, kind) == back);
+            uset_close(icu);
+#endif
+        }
+        released(text, end);
+    }
+    CHECK(bks_frozen_span_lossy(room, 0, "\xFF" "a", 2, false) == 2);
+    CHECK(bks_frozen_span_back_lossy(room, 0, "\xFF", 1, true) == 1);
+}
+
 /* A set of a surrogate: pairs are one code point, and unpaired surrogates one each (ICU: uset_span). */
 static void surrogates(void) {
     static const uint32_t high[] = {0xD835, 0xD836}, pair[] = {0x1D400, 0x1D401};
@@ -196,6 +258,7 @@ int main(int count, char **words) {
     extremes();
     refused();
     ill_formed();
+    lossy();
     surrogates();
     printf("%s frozen sets, each damaged %s times\n", words[1], words[2]);
     return 0;

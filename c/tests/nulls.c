@@ -33,6 +33,7 @@ static void empty_sets(void) {
     CHECK(bks_set_span_back(NULL, 0, NULL, 0, true) == 0 && bks_set_span_back(NULL, 0, "A", 1, false) == 0);
     CHECK(bks_set_span_utf16(NULL, 0, NULL, 0, true) == 0 && bks_frozen_span_utf16(NULL, 0, NULL, 0, true) == 0);
     CHECK(bks_frozen_span_back(NULL, 0, NULL, 0, true) == 0 && bks_frozen_span(NULL, 0, "A", 1, false) == 1);
+    CHECK(bks_frozen_span_lossy(NULL, 0, NULL, 0, true) == 0 && bks_frozen_span_back_lossy(NULL, 0, NULL, 0, true) == 0);
     CHECK(bks_set_union(NULL, 0, letters, 2, ends, 4) == 2 && bks_set_union(letters, 2, NULL, 0, NULL, 0) == 2);
     CHECK(bks_set_intersection(NULL, 0, letters, 2, NULL, 0) == 0);
     CHECK(bks_set_difference(letters, 2, NULL, 0, NULL, 0) == 2);

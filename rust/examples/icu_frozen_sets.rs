@@ -24,6 +24,17 @@ let letters = FrozenCodePointSet::freeze(&('A'..='Z').collect());
 let words = letters.as_words();
 let view = FrozenView::new(words);
 assert!(view.contains('A') && !view.contains('a'));
+//# lossy_spans span_utf8_lossy
+use bekstaudi::codepointinvlist::FrozenCodePointSet;
+
+let letters = FrozenCodePointSet::freeze(&('a'..='z').collect());
+assert_eq!(letters.span_utf8_lossy(b"ab\xFFc", true), 2);
+assert_eq!(letters.span_utf8_lossy(b"\xFF1a", false), 2);
+//# lossy_spans span_back_utf8_lossy
+use bekstaudi::codepointinvlist::FrozenCodePointSet;
+
+let letters = FrozenCodePointSet::freeze(&('a'..='z').collect());
+assert_eq!(letters.span_back_utf8_lossy(b"a1\xFF", false), 1);
 //# spans spans
 use bekstaudi::codepointinvlist::FrozenCodePointSet;
 

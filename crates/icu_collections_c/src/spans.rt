@@ -5,7 +5,7 @@ ghost use Rattle.std.specs.Str.{StartsWithNoChar};
 ghost use Rattle.icu_utf.specs.Utf8.{EndsWithNoChar};
 ghost use Rattle.icu_invlist.specs.InversionList.{IsValid, holds};
 ghost use Rattle.icu_frozen_sets.specs.FrozenWords.{IsFrozenOf, is_held};
-ghost use Rattle.icu_frozen_sets.specs.LongestSpans.{IsSpan, IsSpanBack, unit_span};
+ghost use Rattle.icu_frozen_sets.specs.LongestSpans.{IsLossySpan, IsLossySpanBack, IsSpan, IsSpanBack, unit_span};
 ghost use Rattle.icu_collections_c.specs.Spans.{AnswersSpan, AnswersSpanBack, AnswersTextSpan, AnswersTextSpanBack};
 
 use crate::error::Error;
@@ -87,7 +87,8 @@ fn start_or_no_text(text: &[u8], start: usize) -> i64
 /// eight bytes at a time. Any words are accepted, as by
 /// [`bks_frozen_contains`](crate::frozen::bks_frozen_contains).
 ///
-/// ICU: `uset_spanUTF8`, which takes an ill-formed sequence for U+FFFD instead.
+/// ICU: `uset_spanUTF8`, which takes an ill-formed sequence for U+FFFD instead, as
+/// [`bks_frozen_span_lossy`] does.
 ///
 /// # Errors
 /// Returns the number of [`Error::InvalidUtf8`] if the text is not empty and does not start with a
@@ -126,6 +127,34 @@ pub extern "C" fn bks_frozen_span_back(table: &[u64], text: &[u8], held: bool) -
         → AnswersSpanBack (holds ends) held text.now result }
 {
     start_or_no_text(text, FrozenView::new(table).span_back_utf8(text, held))
+}
+
+/// Returns the length in bytes of the longest prefix of the text whose characters are all in the
+/// frozen set at the start of the words or, if `held` is false, all outside it. The text may be
+/// ill-formed UTF-8: an ill-formed sequence counts as U+FFFD. Any words are accepted.
+///
+/// ICU: `uset_spanUTF8`.
+#[unsafe(no_mangle)]
+pub extern "C" fn bks_frozen_span_lossy(table: &[u64], text: &[u8], held: bool) -> usize
+    ensures exact { IsLossySpan (is_held table.now) held text.now result }
+    ensures set { (ends words rest : List ℕ) → IsFrozenOf ends words → table.now ≡ words ++ rest
+        → IsLossySpan (holds ends) held text.now result }
+{
+    FrozenView::new(table).span_utf8_lossy(text, held)
+}
+
+/// Returns the offset in bytes of the longest suffix of the text whose characters are all in the
+/// frozen set at the start of the words or, if `held` is false, all outside it. The text may be
+/// ill-formed UTF-8: an ill-formed sequence counts as U+FFFD. Any words are accepted.
+///
+/// ICU: `uset_spanBackUTF8`.
+#[unsafe(no_mangle)]
+pub extern "C" fn bks_frozen_span_back_lossy(table: &[u64], text: &[u8], held: bool) -> usize
+    ensures exact { IsLossySpanBack (is_held table.now) held text.now result }
+    ensures set { (ends words rest : List ℕ) → IsFrozenOf ends words → table.now ≡ words ++ rest
+        → IsLossySpanBack (holds ends) held text.now result }
+{
+    FrozenView::new(table).span_back_utf8_lossy(text, held)
 }
 
 /// Returns the number of units of the longest prefix of 16-bit units whose code points are all in

@@ -7,6 +7,7 @@ pub mod FillingLemmas
 pub mod FreezeLemmas
 pub mod FrozenWordLemmas
 pub mod LongestSpanLemmas
+pub mod LossySpanLemmas
 pub mod MarkLemmas
 pub mod OneCharacter
 pub mod PlaceLemmas

@@ -5,6 +5,7 @@
 //!   and those that are not
 //! - `ranges`: whether a frozen set contains a range
 //! - `bytes`: spans of bytes that may not be valid UTF-8
+//! - `lossy_spans`: the same if an ill-formed sequence counts as U+FFFD
 //! - `text_sets`: [`FrozenCodePointSetAndStrings`](text_sets::FrozenCodePointSetAndStrings), a
 //!   frozen set with strings
 //! - `view`: [`FrozenView`](view::FrozenView), a frozen set in borrowed words: look-ups and spans
@@ -25,6 +26,7 @@ mod bytes;
 mod filling;
 pub mod frozen;
 mod longest_span;
+mod lossy_spans;
 mod ranges;
 mod same_length;
 mod span_condition;

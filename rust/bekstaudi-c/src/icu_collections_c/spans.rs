@@ -65,7 +65,8 @@ fn start_or_no_text(text: &[u8], start: usize) -> i64 {
 /// eight bytes at a time. Any words are accepted, as by
 /// [`bks_frozen_contains`](crate::icu_collections_c::frozen::bks_frozen_contains).
 ///
-/// ICU: `uset_spanUTF8`, which takes an ill-formed sequence for U+FFFD instead.
+/// ICU: `uset_spanUTF8`, which takes an ill-formed sequence for U+FFFD instead, as
+/// [`bks_frozen_span_lossy`] does.
 ///
 /// # Errors
 /// Returns the number of [`Error::InvalidUtf8`] if the text is not empty and does not start with a
@@ -90,6 +91,24 @@ pub fn bks_frozen_span(table: &[u64], text: &[u8], held: bool) -> i64 {
 /// character.
 pub fn bks_frozen_span_back(table: &[u64], text: &[u8], held: bool) -> i64 {
     start_or_no_text(text, FrozenView::new(table).span_back_utf8(text, held))
+}
+
+/// Returns the length in bytes of the longest prefix of the text whose characters are all in the
+/// frozen set at the start of the words or, if `held` is false, all outside it. The text may be
+/// ill-formed UTF-8: an ill-formed sequence counts as U+FFFD. Any words are accepted.
+///
+/// ICU: `uset_spanUTF8`.
+pub fn bks_frozen_span_lossy(table: &[u64], text: &[u8], held: bool) -> usize {
+    FrozenView::new(table).span_utf8_lossy(text, held)
+}
+
+/// Returns the offset in bytes of the longest suffix of the text whose characters are all in the
+/// frozen set at the start of the words or, if `held` is false, all outside it. The text may be
+/// ill-formed UTF-8: an ill-formed sequence counts as U+FFFD. Any words are accepted.
+///
+/// ICU: `uset_spanBackUTF8`.
+pub fn bks_frozen_span_back_lossy(table: &[u64], text: &[u8], held: bool) -> usize {
+    FrozenView::new(table).span_back_utf8_lossy(text, held)
 }
 
 /// Returns the number of units of the longest prefix of 16-bit units whose code points are all in
