@@ -1,22 +1,25 @@
 -- Ranges that are joined in order, and complements.
-use Rattle.std.proofs.Common.{◌≡◌, ◌∙◌, refl, sym, ap, ℕ, zero, suc, ◌+◌, ◌-◌, ◌*◌, ◌%◌, ◌<◌, ◌≤◌, min, max, Bool, true, false, ◌||◌, not, ◌⊎◌, List, [], ◌∷◌, ◌++◌, length, take, drop, get_or, arith, inl, inr}
-use Rattle.std.specs.Prelude.{◌==◌, if◌then◌else◌}
-use Rattle.std.specs.List.{list_any}
+use Rattle.std.proofs.Common.{◌≡◌, ◌∙◌, refl, sym, ap, ℕ, zero, suc, ◌+◌, ◌-◌, ◌*◌, ◌%◌, ◌<◌, ◌≤◌, min, max, Bool, true, false, ◌||◌, not, ◌⊎◌, List, [], ◌∷◌, ◌++◌, length, take, drop, get_or, arith, inl, inr, Bor}
+use Rattle.std.specs.Prelude.{◌==◌, if◌then◌else◌, nat_le}
+use denote.Param.Members.{Mut}
+use Rattle.std.specs.Fn.{Called, ComputesOnPairs}
+use Rattle.std.specs.List.{IsAllAdjacentAnswer, list_any}
 use Rattle.std.specs.List.Sorted.{IsNonDecreasingBy, IsPermutation, IsStrictlyIncreasing}
-use Rattle.std.proofs.lemmas.Bool.{cases_lt, cases_eq, eq-eqb, le-leb, lt-leb, ne_eqb}
+use Rattle.std.proofs.lemmas.Bool.{cases_lt, cases_eq, eq-eqb, le-leb, leb-true, lt-leb, ne_eqb}
 use Rattle.std.proofs.lemmas.Bool.Decides.{nat_tests}
 use Rattle.std.proofs.lemmas.Grind.{get_or_default_zero}
 use Rattle.std.proofs.lemmas.List.{get_or-set_other, get_or-set_same, get_or_append_left, get_or_default, length-append, length-set}
 use Rattle.std.proofs.lemmas.List.Folds.{list_any_more}
 use Rattle.std.proofs.Math.ListN.{set}
 use Rattle.std.proofs.Math.Seq.{drop-nil, get_or-append_seam, take-length, take-nil}
-use Rattle.std.proofs.lemmas.List.Sorted.{length_permutation, list_any-IsPermutation}
+use Rattle.std.proofs.lemmas.Fn.{always_returns_same}
+use Rattle.std.proofs.lemmas.List.Sorted.{IsNonDecreasingBy-from_all_adjacent, length_permutation, list_any-IsPermutation}
 use Rattle.icu_zerovec.specs.CodePoints.{code_point_limit}
 use Rattle.icu_invlist.specs.InversionList.{Acts, IsValid, complement_of, either, holds, toggle_back, toggle_front}
 use Rattle.icu_invlist.proofs.CallerLemmas.{complement-holds, complement_valid}
 use Rattle.icu_zerovec.specs.Buffers.{written}
 use Rattle.icu_collections_c.specs.Inside.Joined.{IsJoined, StartsUpTo}
-use Rattle.icu_collections_c.specs.SetBuilding.{HoldsExactly, in_range, is_one_of}
+use Rattle.icu_collections_c.specs.SetBuilding.{HoldsExactly, in_range, in_some, is_one_of}
 use Rattle.icu_collections_c.specs.declared.set_building.Interval.{Interval}
 use Rattle.icu_collections_c.proofs.SetPlaceLemmas.{even, holds_at, odd, place_of}
 
@@ -285,6 +288,24 @@ module _ {X : Type 0} (range : X → Interval) (items : List X) where
         (rw take-length at (joined.set c h)) ∙ sym (list_any-IsPermutation (λ x. in_range (range x) c) given items moved);
     few = (let a = joined.few in let b = length_permutation given items moved in omega arith);
   }
+
+-- The order of the ranges does not matter.
+pub holds_moved : (given sorted : List Interval) (ends : List ℕ) → IsPermutation given sorted
+    → HoldsExactly (in_some sorted) (2 * length sorted) ends → HoldsExactly (in_some given) (2 * length given) ends
+holds_moved given sorted ends moved h = record {
+  held = λ c l. h.held c l ∙ sym (list_any-IsPermutation (λ r. in_range r c) given sorted moved);
+  few = (let a = h.few in let b = length_permutation given sorted moved in omega arith);
+}
+
+-- The first numbers ascend if each one is at most the next.
+pub ascending_if_sorted : {F : Type 0} {g : Mut F (Bor Interval × (Bor Interval × Unit {0})) Bool} {f : F} (xs : List Interval) (r : Bool)
+    → ((e : Interval → Interval → Bool) → ComputesOnPairs g e f → IsAllAdjacentAnswer (λ x y b. b ≡ e x y) xs r)
+    → ((a : Bor Interval × (Bor Interval × Unit {0})) (b : Bool) (f' : F) → Called g f a b f'
+    → (b ≡ nat_le a.0.now.first a.1.0.now.first) × (f' ≡ f))
+    → r ≡ true → IsNonDecreasingBy (λ (x : Interval). x.first) xs
+ascending_if_sorted {g = g} {f = f} xs r clause called is =
+    let by = clause (λ x y. nat_le x.first y.first) (always_returns_same g (λ a b. b ≡ nat_le a.0.now.first a.1.0.now.first) f called) in
+    IsNonDecreasingBy-from_all_adjacent (λ (x : Interval). x.first) xs (λ k d h. leb-true _ _ (sym ((rw is at by) k d h)))
 
 -- A single code point as a range.
 abbrev pub point_range : ℕ → Interval

@@ -1,14 +1,16 @@
 -- A number among the boundaries of a set: whether the set contains it, and how many members are
 -- below it.
-use Rattle.std.proofs.Common.{◌≡◌, ◌∙◌, refl, sym, ap, ℕ, zero, suc, ◌+◌, ◌-◌, ◌%◌, ◌<◌, ◌≤◌, Bool, true, false, cond, List, length, get_or, arith, inl, inr}
+use Rattle.std.proofs.Common.{◌≡◌, ◌∙◌, refl, sym, ap, ℕ, zero, suc, ◌+◌, ◌-◌, ◌%◌, ◌<◌, ◌≤◌, Bool, true, false, cond, List, length, take, drop, get_or, arith, inl, inr}
 use Rattle.std.specs.Prelude.{nat_le}
 use Rattle.std.specs.List.{AllWithin}
-use Rattle.std.proofs.lemmas.Bool.{cases_lt, cases_eq, both_ways, eq-eqb, eqb-true, le-leb, lt-leb, ne_eqb}
+use Rattle.std.proofs.lemmas.Bool.{cases_lt, cases_eq, both_ways, eq-eqb, eqb-true, le-leb, leb-false, leb-true, lt-leb, ne_eqb}
 use Rattle.std.proofs.lemmas.Grind.{get_or_default_zero}
+use Rattle.std.proofs.lemmas.List.{get_or-drop, get_or-take, length-drop, length-take-le}
+use Rattle.std.specs.List.Sorted.{IsStrictlyIncreasing}
 use Rattle.icu_zerovec.specs.CodePoints.{code_point_limit}
 use Rattle.icu_invlist.specs.InversionList.{HoldsAll, IsSubset, IsValid, ends_up_to, holds, is_odd, members_below}
 use Rattle.icu_invlist.proofs.CallerLemmas.{fewer_below}
-use Rattle.icu_collections_c.specs.Inside.SetPlaces.{IsPlaceFrom}
+use Rattle.icu_collections_c.specs.Inside.SetPlaces.{Gap, IsPlaceFrom}
 use Rattle.icu_collections_c.specs.SetQueries.{GivesIndex, GivesNth}
 use Rattle.icu_frozen_sets.proofs.CallerLemmas.{IsNonDecreasingBy-strictly, count-at, members_below-le}
 
@@ -40,6 +42,68 @@ holds_at xs i c v l before next = ap is_odd (count-at (λ e. nat_le e c) xs i pa
         let r = IsNonDecreasingBy-strictly xs v.ascending i k 0 a h in
         let b = next (omega arith) in
         rw (get_or_default_zero xs k d h) (lt-leb _ _ (omega arith))
+
+-- The boundaries before the first one above c are at most c.
+pub before_place : (xs : List ℕ) (c place : ℕ) → IsPlaceFrom xs 0 c place → 0 < place → get_or xs (place - 1) 0 ≤ c
+before_place xs c place p h = p.passed (place - 1) (omega arith) (omega arith)
+
+pub holds_by_place : (xs : List ℕ) (c place : ℕ) → IsValid xs → IsPlaceFrom xs 0 c place → holds xs c ≡ is_odd place
+holds_by_place xs c place v p = holds_at xs place c v p.within (before_place xs c place p) p.next
+
+-- All boundaries are at most c if the last one is.
+pub place_last : (xs : List ℕ) (c : ℕ) → IsStrictlyIncreasing xs → 0 < length xs → get_or xs (length xs - 1) 0 ≤ c
+    → IsPlaceFrom xs 0 c (length xs)
+place_last xs c up some last = record {
+  least = omega arith;
+  within = omega arith;
+  passed = λ k a b. (let r = IsNonDecreasingBy-strictly xs up k (length xs - 1) 0 (omega arith) (omega arith) in omega arith);
+  next = λ h. absurd (omega arith);
+}
+
+-- The boundaries that are at most c come first.
+pub place_at_point : (xs : List ℕ) (c place : ℕ) → AllWithin (λ y. nat_le y c ≡ true) xs 0 place
+    → AllWithin (λ y. nat_le y c ≡ false) xs place (length xs) → place ≤ length xs → IsPlaceFrom xs 0 c place
+place_at_point xs c place passed failed within = record {
+  least = omega arith;
+  within = within;
+  passed = λ k a b. leb-true _ _ (passed k 0 (omega arith) b);
+  next = λ h. leb-false _ _ (failed place 0 (omega arith) h);
+}
+
+-- ---- a search in a part of the boundaries
+part_at : (xs : List ℕ) (low n k : ℕ) → k < n → get_or (take n (drop low xs)) k 0 ≡ get_or xs (low + k) 0
+part_at xs low n k l = get_or-take n (drop low xs) k 0 l ∙ get_or-drop low xs k 0
+
+pub part_ascends : (xs : List ℕ) (low n : ℕ) → IsStrictlyIncreasing xs → low + n ≤ length xs → IsStrictlyIncreasing (take n (drop low xs))
+part_ascends xs low n up room k h =
+    let long : length (take n (drop low xs)) ≡ n = length-take-le n (drop low xs) (omega (arith, length-drop low xs)) in
+    let first = part_at xs low n k (omega arith) in
+    let second = part_at xs low n (k + 1) (omega arith) in
+    let same : low + (k + 1) ≡ low + k + 1 = omega arith in
+    rw (first, second, same) (up (low + k) (omega arith))
+
+pub place_in_part : (xs : List ℕ) (from low n c place : ℕ) → low + n ≤ length xs → from ≤ low
+    → ((k : ℕ) → from ≤ k → k < low → get_or xs k 0 ≤ c) → (low + n < length xs → c < get_or xs (low + n) 0)
+    → IsPlaceFrom (take n (drop low xs)) 0 c place → IsPlaceFrom xs from c (low + place)
+place_in_part xs from low n c place room least passed next p =
+    let long : length (take n (drop low xs)) ≡ n = length-take-le n (drop low xs) (omega (arith, length-drop low xs)) in
+    let within = p.within in
+    record {
+      least = omega arith;
+      within = omega arith;
+      passed = λ k a b. elim (cases_lt k low) [
+        | inl h ↦ passed k a h
+        | inr h ↦
+            (let same : low + (k - low) ≡ k = omega arith in
+            let here = part_at xs low n (k - low) (omega arith) in
+            let up = p.passed (k - low) (omega arith) (omega arith) in
+            rw same at (rw here at up))
+      ];
+      next = λ h. elim (cases_lt place n) [
+        | inl l ↦ rw (part_at xs low n place l) at (p.next (omega arith))
+        | inr l ↦ (let same : place ≡ n = omega arith in rw same (next (omega arith)))
+      ];
+    }
 
 -- The index of the first boundary above c.
 pub record Place (xs : List ℕ) (n c : ℕ) : Type 0 where
@@ -189,11 +253,6 @@ members_out xs a (suc n) none =
 no_members : (xs : List ℕ) → members_below xs 0 ≡ 0
 unfolding members_below
 no_members xs = refl
-
--- `before` members are below each number of the gap before the range at index i, or after the last
--- range.
-abbrev pub Gap : List ℕ → ℕ → ℕ → Type 0
-Gap xs i before = (c : ℕ) → (0 < i → get_or xs (i - 1) 0 ≤ c) → (i < length xs → c ≤ get_or xs i 0) → members_below xs c ≡ before
 
 pub gap_first : (xs : List ℕ) → IsValid xs → Gap xs 0 0
 gap_first xs v c from to =

@@ -1,5 +1,6 @@
 //! Sets made from ranges, from single code points or from another set.
 ghost use Rattle.std.specs.Prelude.{◌≡◌, ◌≢◌, ◌⊎◌, ◌+◌, ◌*◌, [], ◌∷◌, ◌++◌, length, not, take, drop, IfOk, OnOk};
+ghost use Rattle.std.specs.List.Sorted.{IsNonDecreasingBy};
 ghost use Rattle.icu_zerovec.specs.CodePoints.{code_point_limit};
 ghost use Rattle.icu_invlist.specs.InversionList.{IsValid, holds, toggle_back, toggle_front};
 ghost use Rattle.icu_collections_c.specs.Answers.{AnswersEnds, GivesEnds};
@@ -44,19 +45,32 @@ fn join(ends: &mut Vec<u32>, range: Interval) -> Result<(), AllocError>
     }
 }
 
+/// Returns the boundaries of the set of all code points in the ranges, whose first numbers ascend.
+fn joined(alloc: Global, ranges: &[Interval]) -> Result<Vec<u32>, AllocError>
+    requires { IsNonDecreasingBy (λ range. range.first) ranges.now }
+    ensures valid { IfOk result (λ ends. IsValid ends.items) }
+    ensures set { IfOk result
+        (λ ends. HoldsExactly (in_some ranges.now) (2 * length ranges.now) ends.items) }
+{
+    let mut ends = Vec::new(alloc);
+    for range in ranges {
+        join(&mut ends, *range)?;
+    }
+    Ok(ends)
+}
+
 /// Returns the boundaries of the set of all code points in the ranges.
 fn ends_of_ranges(alloc: Global, ranges: &[Interval]) -> Result<Vec<u32>, AllocError>
     ensures valid { IfOk result (λ ends. IsValid ends.items) }
     ensures set { IfOk result
         (λ ends. HoldsExactly (in_some ranges.now) (2 * length ranges.now) ends.items) }
 {
+    if ranges.is_sorted_by(|before, after| before.first <= after.first) {
+        return joined(alloc, ranges);
+    }
     let mut sorted = Vec::from_slice(alloc, ranges)?;
     sorted.sort_unstable_by_key(|range| range.first);
-    let mut ends = Vec::new(alloc);
-    for range in &sorted {
-        join(&mut ends, *range)?;
-    }
-    Ok(ends)
+    joined(alloc, &sorted)
 }
 
 /// Returns the boundaries of the set of these code points.

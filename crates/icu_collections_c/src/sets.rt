@@ -1,8 +1,10 @@
 //! Sets of code points as lists of their boundaries.
-ghost use Rattle.std.specs.Prelude.{◌≡◌, ◌↔◌, IsTrue};
+ghost use Rattle.std.specs.Prelude.{◌≡◌, ◌↔◌, ◌≤◌, IsTrue, length};
+ghost use Rattle.std.specs.List.Sorted.{IsStrictlyIncreasing};
 ghost use Rattle.icu_zerovec.specs.CodePoints.{code_point_limit};
 ghost use Rattle.icu_invlist.specs.InversionList.{IsValid, holds, members_below};
 ghost use Rattle.icu_collections_c.specs.Answers.{CountsMembers};
+ghost use Rattle.icu_collections_c.specs.Inside.SetPlaces.{IsPlaceFrom};
 
 use crate::error::Error;
 use icu_invlist::codepointinvlist::sizes::size_of;
@@ -19,6 +21,23 @@ pub extern "C" fn bks_set_test(ends: &[u32]) -> bool
     is_valid_slice(ends)
 }
 
+/// Returns how many of the boundaries are at most `c`. A number below the first boundary, or above
+/// the last one, takes no search.
+#[inline(always)]
+pub(crate) fn place_of(ends: &[u32], c: u32) -> usize
+    ensures within { result ≤ length ends.now }
+    ensures place { IsStrictlyIncreasing ends.now → IsPlaceFrom ends.now 0 c result }
+{
+    let count = ends.len();
+    if count == 0 || c < ends[0] {
+        0
+    } else if ends[count - 1] <= c {
+        count
+    } else {
+        ends.partition_point(|end| *end <= c)
+    }
+}
+
 /// Returns whether the set with these boundaries contains the code point `c`. No set contains a
 /// number above 0x10FFFF. The result is unspecified (but memory-safe) if [`bks_set_test`] returns
 /// false.
@@ -28,7 +47,7 @@ pub extern "C" fn bks_set_test(ends: &[u32]) -> bool
 pub extern "C" fn bks_set_contains(ends: &[u32], c: u32) -> bool
     ensures { IsValid ends.now → result ≡ holds ends.now c }
 {
-    ends.partition_point(|end| *end <= c) % 2 == 1
+    place_of(ends, c) % 2 == 1
 }
 
 /// Returns how many code points the set with these boundaries contains, surrogates included.

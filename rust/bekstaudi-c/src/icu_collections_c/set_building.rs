@@ -33,16 +33,25 @@ fn join(ends: &mut Vec<u32>, range: Interval) -> Result<(), AllocError> {
     }
 }
 
-/// Returns the boundaries of the set of all code points in the ranges.
+/// Returns the boundaries of the set of all code points in the ranges, whose first numbers ascend.
 #[inline]
-fn ends_of_ranges(ranges: &[Interval]) -> Result<Vec<u32>, AllocError> {
-    let mut sorted = Vec::from_slice(ranges)?;
-    sorted.sort_unstable_by_key(|range| range.first);
+fn joined(ranges: &[Interval]) -> Result<Vec<u32>, AllocError> {
     let mut ends = Vec::new();
-    for range in &sorted {
+    for range in ranges {
         join(&mut ends, *range)?;
     }
     Ok(ends)
+}
+
+/// Returns the boundaries of the set of all code points in the ranges.
+#[inline]
+fn ends_of_ranges(ranges: &[Interval]) -> Result<Vec<u32>, AllocError> {
+    if ranges.is_sorted_by(|before, after| before.first <= after.first) {
+        return joined(ranges);
+    }
+    let mut sorted = Vec::from_slice(ranges)?;
+    sorted.sort_unstable_by_key(|range| range.first);
+    joined(&sorted)
 }
 
 /// Returns the boundaries of the set of these code points.

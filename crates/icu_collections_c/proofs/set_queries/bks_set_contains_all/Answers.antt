@@ -22,7 +22,7 @@ loop-i-preserved c =
       place = c.place_from-place.ensures.within;
       checked = λ v.
           checked_more c.args.a.now c.args.b.now c.loop-i.i c.loop-i.place c.place_from-place.result v.0 v.1 i.is_even
-          c.loop-i-test.true (i.checked v) c.place_from-place.ensures r.0 r.1 r.2;
+          c.loop-i-test.true (i.checked v) (c.place_from-place.ensures.place v.0) r.0 r.1 r.2;
     }
 
 pub returns-then-not-reaches : goal.returns-then-not-reaches
@@ -32,7 +32,7 @@ returns-then-not-reaches c = λ v.
       λ sub. absurd (both_ways _ c.if-not-reaches.true
           (c.reaches.ensures.1
           (checked_last c.args.a.now c.args.b.now c.loop-i.i c.loop-i.place c.place_from-place.result v.0 v.1 i.is_even
-          c.loop-i-test.true (i.checked v) c.place_from-place.ensures sub))),
+          c.loop-i-test.true (i.checked v) (c.place_from-place.ensures.place v.0) sub))),
     )
 
 pub returns : goal.returns

@@ -1,49 +1,35 @@
 -- The ranges before the one that contains the code point have all members below it.
-use Rattle.std.proofs.Common.{◌≡◌, ◌+◌, ◌-◌, refl, arith, get_or}
-use Rattle.icu_collections_c.proofs.SetPlaceLemmas.{gap_first, gap_next, index_found, index_none, members_small}
+use Rattle.std.proofs.Common.{◌≡◌, ◌+◌, ◌-◌, ◌*◌, ◌/◌, ◌%◌, ◌<◌, ◌≤◌, refl, arith, length, get_or}
+use Rattle.icu_collections_c.specs.Inside.SetPlaces.{Gap}
+use Rattle.icu_collections_c.proofs.SetPlaceLemmas.{before_place, index_found, index_none, members_up_to}
+use Rattle.icu_frozen_sets.proofs.CallerLemmas.{members_below-le}
 use Rattle.icu_collections_c.proofs.set_queries.bks_set_index_of.Goals as goal
 
-pub loop-i-init : goal.loop-i-init
-loop-i-init c = record {
-  is_even = refl;
-  same = refl;
-  within = omega arith;
-  passed = λ h. absurd (omega arith);
-  gap = λ v. gap_first c.args.ends.now v;
-}
+pub returns-then-place-eq0 : goal.returns-then-place-eq0
+returns-then-place-eq0 c = λ v.
+    let xs = c.args.ends.now in
+    let place = c.place_of-place.result in
+    let p = c.place_of-place.ensures.place v.ascending in
+    index_none xs place c.args.c c.args.index.now c.args.index.now v c.if-place-eq0.true p.within (before_place xs c.args.c place p)
+    (λ h. p.next (omega arith)) refl
 
-pub returns-then-c-end : goal.returns-then-c-end
-returns-then-c-end c = λ v.
-    let i = c.loop-i.invariant in
-    let small = members_small c.args.ends.now c.loop-i.i c.loop-i.before v i.is_even c.loop-i-test.true (i.gap v) in
-    index_found c.args.ends.now c.loop-i.i c.loop-i.before v i.is_even c.loop-i-test.true (i.gap v) c.args.c c.args.index.now
-    c.saturating_add.result c.if-ends-i.true c.if-c-end.true (omega (arith, c.saturating_add.ensures))
-
-pub loop-i-preserved : goal.loop-i-preserved
-loop-i-preserved c =
-    let i = c.loop-i.invariant in
-    let last : c.loop-i.i + 2 - 1 ≡ c.loop-i.i + 1 = omega arith in
-    record {
-      is_even = (let e = i.is_even in omega arith);
-      same = i.same;
-      within = omega arith;
-      passed = λ h. rw last (omega arith);
-      gap = λ v.
-          let small = members_small c.args.ends.now c.loop-i.i c.loop-i.before v i.is_even c.loop-i-test.true (i.gap v) in
-          let same : c.saturating_add-before.result
-          ≡ c.loop-i.before + (get_or c.args.ends.now (c.loop-i.i + 1) 0 - get_or c.args.ends.now c.loop-i.i 0) =
-          omega (arith, c.saturating_add-before.ensures, c.saturating_sub.ensures) in
-          rw same (gap_next c.args.ends.now c.loop-i.i c.loop-i.before v i.is_even c.loop-i-test.true (i.gap v));
-    }
-
-pub returns-else-ends-i : goal.returns-else-ends-i
-returns-else-ends-i c = λ v.
-    let i = c.loop-i.invariant in
-    index_none c.args.ends.now c.loop-i.i c.args.c c.args.index.now c.loop-i.index v i.is_even i.within i.passed
-    (λ h. omega (arith, c.if-ends-i.false)) i.same
-
-pub returns-after-loop-i : goal.returns-after-loop-i
-returns-after-loop-i c = λ v.
-    let i = c.loop-i.invariant in
-    index_none c.args.ends.now c.loop-i.i c.args.c c.args.index.now c.loop-i.index v i.is_even i.within i.passed
-    (λ h. absurd (omega (arith, c.loop-i-test.false))) i.same
+pub returns : goal.returns
+returns c = λ v.
+    let xs = c.args.ends.now in
+    let place = c.place_of-place.result in
+    let p = c.place_of-place.ensures.place v.ascending in
+    let i = place - 1 in
+    let even = v.even in
+    let within = p.within in
+    let odd : place % 2 ≡ 1 = omega (arith, c.if-place-eq0.false) in
+    let inside : i + 1 < length xs = omega (arith, odd, even, within) in
+    let half : 2 * (place / 2) ≡ i = omega (arith, odd) in
+    let same : i + 1 ≡ place = omega (arith, odd) in
+    let before = c.members_before-before.result in
+    let gap : Gap xs i before = rw half at (c.members_before-before.ensures v (omega (arith, within))) in
+    let from : get_or xs i 0 ≤ c.args.c = before_place xs c.args.c place p (omega (arith, odd)) in
+    let to : c.args.c < get_or xs (i + 1) 0 = rw same (p.next (omega (arith, same, inside))) in
+    let is_even : i % 2 ≡ 0 = omega (arith, odd) in
+    let all = members_up_to xs i before v is_even inside gap c.args.c from (omega (arith, to)) in
+    let few = members_below-le xs c.args.c in
+    index_found xs i before v is_even inside gap c.args.c c.args.index.now _ from to (omega (arith, all, few, from, c.ranges.c.fits))

@@ -1,6 +1,6 @@
 use Rattle.std.proofs.Common.{◌≡◌, ◌-◌, ◌%◌, ◌≤◌, length}
 use Rattle.icu_invlist.specs.InversionList.{IsValid}
-use Rattle.icu_collections_c.proofs.SetPlaceLemmas.{Gap}
+use Rattle.icu_collections_c.specs.Inside.SetPlaces.{Gap}
 use Rattle.icu_collections_c.proofs.set_queries.bks_set_nth.Given as goal
 
 abbrev pub invariant-loop-i : goal.invariant-loop-i

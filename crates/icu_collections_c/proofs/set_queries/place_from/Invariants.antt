@@ -1,12 +1,14 @@
-use Rattle.std.proofs.Common.{ℕ, ◌-◌, ◌<◌, ◌≤◌, length, get_or}
+use Rattle.std.proofs.Common.{◌≡◌, ℕ, ◌+◌, ◌-◌, ◌<◌, ◌≤◌, length, get_or}
+use Rattle.icu_invlist.specs.InversionList.{IsValid}
 use Rattle.icu_collections_c.proofs.set_queries.place_from.Given as goal
 
-abbrev pub invariant-loop-place : goal.invariant-loop-place
-invariant-loop-place l = record {
-  least : l.from ≤ l.place;
-  within : l.place ≤ length l.ends;
-  passed : (k : ℕ) → l.from ≤ k → k < l.place → get_or l.ends k 0 ≤ l.c;
+abbrev pub invariant-loop-low : goal.invariant-loop-low
+invariant-loop-low l = record {
+  least : l.from ≤ l.low;
+  within : l.low ≤ length l.ends;
+  size : l.size + l.from ≡ l.low + l.step;
+  passed : IsValid l.ends → (k : ℕ) → l.from ≤ k → k < l.low → get_or l.ends k 0 ≤ l.c;
 }
 
-abbrev pub decreases-loop-place : goal.decreases-loop-place
-decreases-loop-place l = length l.ends - l.place
+abbrev pub decreases-loop-low : goal.decreases-loop-low
+decreases-loop-low l = length l.ends - l.low

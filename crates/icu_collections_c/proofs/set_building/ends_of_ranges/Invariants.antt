@@ -1,5 +1,0 @@
-use Rattle.icu_collections_c.proofs.SetMakingLemmas.{AreJoined}
-use Rattle.icu_collections_c.proofs.set_building.ends_of_ranges.Given as goal
-
-abbrev pub invariant-loop-range : goal.invariant-loop-range
-invariant-loop-range l = AreJoined (λ r. r) l.range-items l.range-index l.ends.items
