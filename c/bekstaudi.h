@@ -1158,6 +1158,67 @@ int64_t bks_units_list_below(const void *units, size_t size, const char *prefix,
                              uint64_t skipped, bks_word *words, size_t words_room, char *texts,
                              size_t texts_room, size_t *texts_size);
 
+/* ---- Sets of code points and strings --------------------------------------------------------- */
+/** Returns whether a set of code points and strings contains a text.
+ *
+ * Such a set is a frozen set and a unit trie whose keys are the strings: bks_set_freeze writes its
+ * words, bks_units_build or bks_units_build_utf8 its units. The values of the keys are not used. A
+ * text of exactly one character is a member if the frozen set contains it. Any other text, even the
+ * empty one, is a member if it is a key; keys of exactly one character do not count. Any words and
+ * any units are accepted: see bks_frozen_contains and bks_units_get_utf8.
+ *
+ * @param table the words of the frozen set
+ * @param count how many words there are
+ * @param units the bytes of the unit trie, at any address
+ * @param size how many bytes it has
+ * @param text the text in UTF-8, which need not end with NUL
+ * @param text_size how many bytes the text has
+ * @return true if the set contains the text; false if not, or if the text is not UTF-8
+ *
+ * ICU: uset_contains, uset_containsString. */
+bool bks_text_set_contains(const uint64_t *table, size_t count, const void *units, size_t size,
+                           const char *text, size_t text_size);
+
+/** Finds the longest member of a set of code points and strings that is a prefix of a UTF-8 text.
+ *
+ * The set is that of bks_text_set_contains. The empty string does not count. It reads the first
+ * character, and no more of the text than some string continues with. An ill-formed sequence ends
+ * the text.
+ *
+ * @param table the words of the frozen set
+ * @param count how many words there are
+ * @param units the bytes of the unit trie, at any address
+ * @param size how many bytes it has
+ * @param text the text in UTF-8, which need not end with NUL
+ * @param text_size how many bytes the text has
+ * @return how many bytes of the text the member takes; 0 if no member is a prefix; or
+ *     BKS_INVALID_UTF8, exactly if the text is not empty and does not start with a character */
+int64_t bks_text_set_longest(const uint64_t *table, size_t count, const void *units, size_t size,
+                             const char *text, size_t text_size);
+
+/** Returns the size of the span at the start of a UTF-8 text over a set of code points and strings.
+ *
+ * The set is that of bks_text_set_contains. If `held` is true, the span goes on by the longest
+ * member at each position, until there is none. If `held` is false, it goes on by one character at
+ * each position, until a member starts there. The empty string does not count. With the members
+ * "a", "ab" and "bc", the span of "abc" is "ab", although "a" and "bc" are more. An ill-formed
+ * sequence ends a span.
+ *
+ * @param table the words of the frozen set
+ * @param count how many words there are
+ * @param units the bytes of the unit trie, at any address
+ * @param size how many bytes it has
+ * @param text the text in UTF-8, which need not end with NUL
+ * @param text_size how many bytes the text has
+ * @param held true: members; false: characters with which no member starts
+ * @return a number of bytes; or BKS_INVALID_UTF8, exactly if the text is not empty and does not start
+ *     with a character
+ *
+ * ICU: uset_spanUTF8 with USET_SPAN_SIMPLE, or USET_SPAN_NOT_CONTAINED if `held` is false; it takes an
+ * ill-formed sequence for U+FFFD. */
+int64_t bks_text_set_span(const uint64_t *table, size_t count, const void *units, size_t size,
+                          const char *text, size_t text_size, bool held);
+
 /* ---- Inline functions ------------------------------------------------------------------------ */
 /* They read without a test what the proved functions guarantee. The README of
  * crates/icu_collections_c lists each such read and the guarantee. */

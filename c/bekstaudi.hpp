@@ -1066,6 +1066,74 @@ private:
     view<std::uint8_t> units_;
 };
 
+/// A frozen set of code points and strings, such as sequences of emoji (ICU: a frozen UnicodeSet with
+/// strings). A text of exactly one character is a member if the code points contain it. Any other text
+/// is a member if it is one of the strings.
+class text_set {
+public:
+    /// Makes the set of these code points and strings, which are in UTF-8 and in any order. A string of
+    /// exactly one character does not count: put it among the code points. Throws invalid_entries if a
+    /// string occurs twice or is not UTF-8.
+    template <class Strings>
+    text_set(const code_point_set &code_points, const Strings &strings)
+        : code_points_(code_points), strings_(unit_trie::build(entries_of(strings))) {}
+    text_set(const code_point_set &code_points, std::initializer_list<std::string_view> strings)
+        : code_points_(code_points), strings_(unit_trie::build(entries_of(strings))) {}
+
+    bool contains(std::uint32_t c) const noexcept { return code_points_.contains(c); }
+
+    /// Returns whether a text in UTF-8 is a member; false if it is not UTF-8.
+    bool contains(std::string_view text) const noexcept {
+        view<std::uint64_t> words(code_points_.words());
+        view<char> bytes(text);
+        return bks_text_set_contains(words.data(), words.size(), strings_.data(), strings_.size(),
+                                     bytes.data(), bytes.size());
+    }
+
+    /// Returns the longest member that is a prefix of a text in UTF-8, or an empty text if none is. An
+    /// ill-formed sequence ends the text. Throws invalid_utf8 if the text is not empty and does not
+    /// start with a character.
+    std::string_view longest(std::string_view text) const {
+        view<std::uint64_t> words(code_points_.words());
+        view<char> bytes(text);
+        return text.substr(0, detail::answered(bks_text_set_longest(
+                                  words.data(), words.size(), strings_.data(), strings_.size(),
+                                  bytes.data(), bytes.size())));
+    }
+
+    /// Returns the span at the start of a text in UTF-8. It goes on by the longest member at each
+    /// position or, if `held` is false, by one character at each position, until a member starts there.
+    /// An ill-formed sequence ends it. Throws invalid_utf8 if the text is not empty and does not start
+    /// with a character.
+    std::string_view span(std::string_view text, bool held = true) const {
+        view<std::uint64_t> words(code_points_.words());
+        view<char> bytes(text);
+        return text.substr(0, detail::answered(bks_text_set_span(
+                                  words.data(), words.size(), strings_.data(), strings_.size(),
+                                  bytes.data(), bytes.size(), held)));
+    }
+#ifdef __cpp_lib_char8_t
+    bool contains(std::u8string_view text) const noexcept { return contains(detail::bytes_of(text)); }
+    std::u8string_view span(std::u8string_view text, bool held = true) const {
+        return text.substr(0, span(detail::bytes_of(text), held).size());
+    }
+    std::u8string_view longest(std::u8string_view text) const {
+        return text.substr(0, longest(detail::bytes_of(text)).size());
+    }
+#endif
+
+private:
+    template <class Strings>
+    static std::vector<std::pair<std::string_view, std::int32_t>> entries_of(const Strings &strings) {
+        std::vector<std::pair<std::string_view, std::int32_t>> entries;
+        for (std::string_view text : strings) entries.emplace_back(text, 0);
+        return entries;
+    }
+
+    frozen_set code_points_;
+    std::vector<std::uint8_t> strings_;
+};
+
 using trie8 = trie<std::uint8_t>;
 using trie16 = trie<std::uint16_t>;
 using trie32 = trie<std::uint32_t>;

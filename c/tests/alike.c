@@ -220,6 +220,13 @@ static void keys(const library *l, const uint8_t *bytes, size_t size) {
     PUT(ASK(bks_units_longest, SLICE(bytes, size), SLICE(key, n), &value)), PUT(value);
     PUT(ASK(bks_units_longest_utf8, SLICE(bytes, size), SLICE(text, m), &value)), PUT(value);
     PUT(ASK(bks_units_get_utf8, SLICE(bytes, size), SLICE(text, m), &value)), PUT(value);
+    static uint64_t words[1400];
+    size_t n_words = any(3) ? 1400 : any(1401);
+    FILLED(words);
+    for (int i = 0; i < 3; i++) words[any(1400)] = any(0);
+    PUT(ASK(bks_text_set_contains, SLICE(words, n_words), SLICE(bytes, size), SLICE(text, m)));
+    PUT(ASK(bks_text_set_longest, SLICE(words, n_words), SLICE(bytes, size), SLICE(text, m)));
+    PUT(ASK(bks_text_set_span, SLICE(words, n_words), SLICE(bytes, size), SLICE(text, m), any(2)));
     static bks_prefix found[8];
     static uint16_t next[40];
     size_t room = any(9);

@@ -377,6 +377,27 @@ static void unit_tries_built() {
     CHECK(refusal_of(std::u16string(65536, u'a')) == BKS_LONG_KEY);
 }
 
+/* Sets of code points and strings. */
+static void text_sets() {
+    const auto points = bekstaudi::code_point_set::from_points({0x61, 0x1F44B});
+    const bekstaudi::text_set set(points, {"ab", "\U0001F44B\U0001F3FF", "", "b"});
+    for (const char *in : {"a", "ab", "\U0001F44B", "\U0001F44B\U0001F3FF", ""}) CHECK(set.contains(in));
+    for (const char *out : {"b", "aa", "\U0001F3FF", "abc", "\xFF", "a\xFF"}) CHECK(!set.contains(out));
+    CHECK(set.contains(0x1F44B) && !set.contains(0x62) && !set.contains(0x110000));
+    CHECK(set.longest("abc") == "ab" && set.longest("ac") == "a" && set.longest("ba").empty());
+    CHECK(set.longest("\U0001F44B\U0001F3FF\U0001F3FF") == "\U0001F44B\U0001F3FF" && set.longest("").empty());
+    CHECK(set.longest("a\xFF") == "a" && throws<bekstaudi::invalid_utf8>([&] { set.longest("\xFF"); }));
+    CHECK(set.span("abaac") == "abaa" && set.span("bba", false) == "bb" && set.span("ba").empty());
+    CHECK(set.span("a\xFF") == "a" && throws<bekstaudi::invalid_utf8>([&] { set.span("\xFF", false); }));
+    const std::vector<std::string> twice = {"ab", "ab"};
+    CHECK(throws<bekstaudi::invalid_entries>([&] { bekstaudi::text_set(points, twice); }));
+    CHECK(bekstaudi::text_set(points, std::vector<std::string>()).longest("ab") == "a");
+#ifdef __cpp_lib_char8_t
+    CHECK(set.contains(u8"ab") && set.longest(u8"\u00DF").empty() && set.longest(u8"abc") == u8"ab");
+    CHECK(set.span(u8"aabc") == u8"aab" && set.span(u8"aabc", false).empty());
+#endif
+}
+
 /* Tries of the runs of a table, and of rows that are errors. */
 template <class Value>
 static void built(size_t count, uint32_t error) {
@@ -436,6 +457,7 @@ int main(int argc, char **argv) {
     unit_tries();
     frozen_sets();
     unit_tries_built();
+    text_sets();
     operations();
     sets_of_ranges();
     sets_of_points();

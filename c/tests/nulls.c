@@ -68,6 +68,9 @@ static void empty_units(void) {
     CHECK(bks_units_unique(NULL, 0, &cursor, &value) == 0 && value == 77);
     CHECK(bks_units_list_below(NULL, 0, NULL, 0, 0, NULL, 0, NULL, 0, &size) == 0 && size == 0);
     CHECK(bks_units_build_utf8(NULL, 0, NULL, 0, NULL, 0, NULL, 0) == 0);
+    CHECK(!bks_text_set_contains(NULL, 0, NULL, 0, NULL, 0) && !bks_text_set_contains(NULL, 0, NULL, 0, "a", 1));
+    CHECK(bks_text_set_longest(NULL, 0, NULL, 0, NULL, 0) == 0 && bks_text_set_longest(NULL, 0, NULL, 0, "a", 1) == 0);
+    CHECK(bks_text_set_span(NULL, 0, NULL, 0, NULL, 0, true) == 0 && bks_text_set_span(NULL, 0, NULL, 0, "a", 1, false) == 1);
 }
 
 /* Opens into memory whose bytes are all the same, whatever they are. */

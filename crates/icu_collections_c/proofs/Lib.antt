@@ -22,3 +22,5 @@ mod TextStepLemmas
 mod UnitPageLemmas
 mod Utf8LeadLemmas
 mod Utf8PositionLemmas
+mod TextSetLemmas
+mod TextSpanLemmas

@@ -12,6 +12,8 @@ pub mod SetOperations
 pub mod SetQueries
 pub mod Spans
 pub mod Status
+pub mod TextSets
+pub mod TextSpans
 pub mod UnitBuilding
 pub mod UnitNodes
 pub mod UnitPages

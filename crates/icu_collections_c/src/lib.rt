@@ -18,6 +18,7 @@
 //! - `frozen`: frozen sets in words, and look-ups in them
 //! - `spans`: the spans of a text
 //! - `unit_tries`: look-ups in unit tries; `units`: helpers of them
+//! - `text_sets`: sets of code points and strings; `text_spans`: their spans of a text
 //! - `text_steps`: steps of a cursor along a text in UTF-8
 //! - `unit_texts`: unit tries whose keys are texts in UTF-8; `unit_keys`: transcodes them
 //! - `unit_prefixes`: the keys that are prefixes of a text
@@ -44,6 +45,8 @@ pub mod set_operations;
 pub mod set_queries;
 pub mod sets;
 pub mod spans;
+pub mod text_sets;
+pub mod text_spans;
 mod text_steps;
 pub mod texts;
 pub mod tries;

@@ -12,7 +12,6 @@ use crate::unit_building::{bks_units_build, has_units};
 use crate::unit_keys::transcoded;
 use crate::units::{give, trie_in};
 use std::alloc::Global;
-use std::fmt::Write;
 
 /// Looks up a key in UTF-8, by its UTF-16 units. Returns true and stores its value in `value`.
 /// Returns false if the key is not UTF-8 or the trie does not have it; `value` is then unchanged.
@@ -33,12 +32,7 @@ pub extern "C" fn bks_units_get_utf8(units: &[u8], key: &[u8], value: &mut i32) 
     let Ok(text) = str::from_utf8(key) else {
         return false;
     };
-    let trie = trie_in(units);
-    let mut cursor = trie.cursor();
-    let Ok(()) = cursor.write_str(text) else {
-        unreachable!();
-    };
-    give(cursor.value(), value)
+    give(trie_in(units).get_str(text), value)
 }
 
 /// Returns whether each key is UTF-8. Each one is the next `length` of the bytes.

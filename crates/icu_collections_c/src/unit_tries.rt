@@ -55,12 +55,7 @@ pub extern "C" fn bks_units_get(units: &[u8], key: &[u16], value: &mut i32) -> b
     // For any units: the value at the position to which the steps of the key lead.
     ensures exact { GivesValueAlong (units_of units.now) key.now value.old result value.new }
 {
-    let trie = trie_in(units);
-    let mut cursor = trie.cursor();
-    for unit in key {
-        cursor.step16(*unit);
-    }
-    give(cursor.value(), value)
+    give(trie_in(units).get(key), value)
 }
 
 /// Finds the longest key that is a prefix of a text. Returns how many units it has and stores its
@@ -82,7 +77,7 @@ pub extern "C" fn bks_units_longest(units: &[u8], text: &[u16], value: &mut i32)
 /// Finds the longest key that consists of the first characters of bytes that may be ill-formed.
 /// Returns how many bytes it takes, and its value.
 #[inline(always)]
-fn longest_in(units: &[u8], bytes: &[u8]) -> Option<(usize, i32)>
+pub(crate) fn longest_in(units: &[u8], bytes: &[u8]) -> Option<(usize, i32)>
     ensures keys { (m : UnitMap) → IsTrieOf (units_of units.now) m
         → (n : ℕ) × IsTextUpTo bytes.now n × IsLongestInText m (take n bytes.now) result }
     ensures exact { (n : ℕ) × IsTextUpTo bytes.now n

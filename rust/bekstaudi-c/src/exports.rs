@@ -324,6 +324,40 @@ pub unsafe extern "C" fn bks_frozen_span_back(
 }
 
 #[unsafe(no_mangle)]
+pub unsafe extern "C" fn bks_frozen_span_lossy(
+    table: *const u64,
+    table_count: usize,
+    text: *const u8,
+    text_count: usize,
+    held: bool,
+) -> usize {
+    unsafe {
+        crate::icu_collections_c::spans::bks_frozen_span_lossy(
+            slice(table, table_count),
+            slice(text, text_count),
+            held,
+        )
+    }
+}
+
+#[unsafe(no_mangle)]
+pub unsafe extern "C" fn bks_frozen_span_back_lossy(
+    table: *const u64,
+    table_count: usize,
+    text: *const u8,
+    text_count: usize,
+    held: bool,
+) -> usize {
+    unsafe {
+        crate::icu_collections_c::spans::bks_frozen_span_back_lossy(
+            slice(table, table_count),
+            slice(text, text_count),
+            held,
+        )
+    }
+}
+
+#[unsafe(no_mangle)]
 pub unsafe extern "C" fn bks_frozen_span_utf16(
     table: *const u64,
     table_count: usize,
@@ -385,6 +419,62 @@ pub unsafe extern "C" fn bks_set_span_utf16(
     unsafe {
         crate::icu_collections_c::spans::bks_set_span_utf16(
             slice(ends, ends_count),
+            slice(text, text_count),
+            held,
+        )
+    }
+}
+
+#[unsafe(no_mangle)]
+pub unsafe extern "C" fn bks_text_set_contains(
+    table: *const u64,
+    table_count: usize,
+    units: *const u8,
+    units_count: usize,
+    text: *const u8,
+    text_count: usize,
+) -> bool {
+    unsafe {
+        crate::icu_collections_c::text_sets::bks_text_set_contains(
+            slice(table, table_count),
+            slice(units, units_count),
+            slice(text, text_count),
+        )
+    }
+}
+
+#[unsafe(no_mangle)]
+pub unsafe extern "C" fn bks_text_set_longest(
+    table: *const u64,
+    table_count: usize,
+    units: *const u8,
+    units_count: usize,
+    text: *const u8,
+    text_count: usize,
+) -> i64 {
+    unsafe {
+        crate::icu_collections_c::text_sets::bks_text_set_longest(
+            slice(table, table_count),
+            slice(units, units_count),
+            slice(text, text_count),
+        )
+    }
+}
+
+#[unsafe(no_mangle)]
+pub unsafe extern "C" fn bks_text_set_span(
+    table: *const u64,
+    table_count: usize,
+    units: *const u8,
+    units_count: usize,
+    text: *const u8,
+    text_count: usize,
+    held: bool,
+) -> i64 {
+    unsafe {
+        crate::icu_collections_c::text_spans::bks_text_set_span(
+            slice(table, table_count),
+            slice(units, units_count),
             slice(text, text_count),
             held,
         )

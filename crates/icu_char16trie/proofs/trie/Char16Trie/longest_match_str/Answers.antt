@@ -7,7 +7,7 @@ use Rattle.std.proofs.lemmas.Iterator.{YieldsList-from_chars}
 use Rattle.std.proofs.lemmas.Iterator.Consumers.{YieldsList-end}
 use Rattle.icu_char16trie.specs.UnitPlaces.{is_empty_at, value_at}
 use Rattle.icu_char16trie.specs.Steps.{StepsAlong}
-use Rattle.icu_char16trie.specs.Matches.{HasCharsStepped, LongestWithin, front_units, in_bytes}
+use Rattle.icu_char16trie.specs.Matches.{HasCharsStepped, LongestWithin, front_units}
 use Rattle.icu_char16trie.specs.Inside.Fronts.{longer}
 use Rattle.icu_char16trie.specs.declared.place.Place.{Place}
 use Rattle.icu_char16trie.specs.declared.place.Place.TheVariants.{Node}
