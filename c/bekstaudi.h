@@ -1371,6 +1371,206 @@ static inline uint32_t bks_get32(const bks_trie *trie, uint32_t c) {
     return value;
 }
 
+/** Reads the next character of a text that may be ill-formed UTF-8: for bks_next8_utf8 and its like.
+ *
+ * @param text any bytes
+ * @param size how many bytes the text has
+ * @param at the offset of the character in bytes; becomes the offset after it, or after the
+ *     ill-formed part. It is unchanged, and no byte is read, if it is not below `size`
+ * @return the code point; UINT32_MAX for an ill-formed part, and if there is no character
+ *
+ * ICU: U8_NEXT. */
+static inline uint32_t bks_read_utf8(const char *text, size_t size, size_t *at) {
+    uint32_t c, least = 0x80, most = 0xBF;
+    size_t i = *at, trails;
+    if (i >= size) return UINT32_MAX;
+    c = (uint8_t)text[i++];
+    *at = i;
+    if (c < 0x80) return c;
+    if (c < 0xC2 || c > 0xF4) return UINT32_MAX;
+    if (c < 0xE0) {
+        c &= 0x1F, trails = 1;
+    } else if (c < 0xF0) {
+        if (c == 0xE0) least = 0xA0;
+        if (c == 0xED) most = 0x9F;
+        c &= 0x0F, trails = 2;
+    } else {
+        if (c == 0xF0) least = 0x90;
+        if (c == 0xF4) most = 0x8F;
+        c &= 0x07, trails = 3;
+    }
+    for (; trails > 0; trails--, least = 0x80, most = 0xBF) {
+        uint32_t trail = i < size ? (uint8_t)text[i] : 0;
+        if (trail < least || trail > most) {
+            *at = i;
+            return UINT32_MAX;
+        }
+        c = c << 6 | (trail & 0x3F);
+        i++;
+    }
+    *at = i;
+    return c;
+}
+
+/** Reads the next code point of a text in UTF-16: for bks_next8_utf16 and its like.
+ *
+ * @param text the units, in any order
+ * @param count how many units there are
+ * @param at the index of the code point; becomes the index after it. It is unchanged, and no unit is
+ *     read, if it is not below `count`
+ * @return the code point, which is a surrogate if it is not part of a pair; UINT32_MAX if there is
+ *     none
+ *
+ * ICU: U16_NEXT. */
+static inline uint32_t bks_read_utf16(const uint16_t *text, size_t count, size_t *at) {
+    uint32_t c;
+    size_t i = *at;
+    if (i >= count) return UINT32_MAX;
+    c = text[i++];
+    if (c >> 10 == 0x36 && i < count && text[i] >> 10 == 0x37)
+        c = 0x10000 + ((c & 0x3FF) << 10 | (uint32_t)(text[i++] & 0x3FF));
+    *at = i;
+    return c;
+}
+
+/** Returns the value of the next character of a text that may be ill-formed UTF-8, in a trie with
+ * values of 8 bits, inline.
+ *
+ * An ill-formed part gets the error value: each part that the Unicode Standard replaces by one
+ * U+FFFD. For the values of a whole text, bks_trie8_copy_utf8 is faster. Unspecified (but
+ * memory-safe) for a trie of another width.
+ *
+ * @param trie a trie that bks_open opened
+ * @param text any bytes
+ * @param size how many bytes the text has
+ * @param at the offset of the character in bytes; becomes the offset after it, or after the
+ *     ill-formed part. It is unchanged, and no byte is read, if it is not below `size`
+ * @param c receives the code point; 0xFFFD for an ill-formed part, and if there is no character
+ * @return its value; the error value for an ill-formed part, and if there is no character
+ *
+ * ICU: UCPTRIE_FAST_U8_NEXT. */
+static inline uint8_t bks_next8_utf8(const bks_trie *trie, const char *text, size_t size,
+                                     size_t *at, uint32_t *c) {
+    uint32_t found = bks_read_utf8(text, size, at);
+    *c = found <= 0x10FFFF ? found : 0xFFFD;
+    return bks_get8(trie, found);
+}
+
+/** Returns the value of the next character of a text that may be ill-formed UTF-8, in a trie with
+ * values of 16 bits, inline.
+ *
+ * An ill-formed part gets the error value: each part that the Unicode Standard replaces by one
+ * U+FFFD. For the values of a whole text, bks_trie16_copy_utf8 is faster. Unspecified (but
+ * memory-safe) for a trie of another width.
+ *
+ * @param trie a trie that bks_open opened
+ * @param text any bytes
+ * @param size how many bytes the text has
+ * @param at the offset of the character in bytes; becomes the offset after it, or after the
+ *     ill-formed part. It is unchanged, and no byte is read, if it is not below `size`
+ * @param c receives the code point; 0xFFFD for an ill-formed part, and if there is no character
+ * @return its value; the error value for an ill-formed part, and if there is no character
+ *
+ * ICU: UCPTRIE_FAST_U8_NEXT. */
+static inline uint16_t bks_next16_utf8(const bks_trie *trie, const char *text, size_t size,
+                                     size_t *at, uint32_t *c) {
+    uint32_t found = bks_read_utf8(text, size, at);
+    *c = found <= 0x10FFFF ? found : 0xFFFD;
+    return bks_get16(trie, found);
+}
+
+/** Returns the value of the next character of a text that may be ill-formed UTF-8, in a trie with
+ * values of 32 bits, inline.
+ *
+ * An ill-formed part gets the error value: each part that the Unicode Standard replaces by one
+ * U+FFFD. For the values of a whole text, bks_trie32_copy_utf8 is faster. Unspecified (but
+ * memory-safe) for a trie of another width.
+ *
+ * @param trie a trie that bks_open opened
+ * @param text any bytes
+ * @param size how many bytes the text has
+ * @param at the offset of the character in bytes; becomes the offset after it, or after the
+ *     ill-formed part. It is unchanged, and no byte is read, if it is not below `size`
+ * @param c receives the code point; 0xFFFD for an ill-formed part, and if there is no character
+ * @return its value; the error value for an ill-formed part, and if there is no character
+ *
+ * ICU: UCPTRIE_FAST_U8_NEXT. */
+static inline uint32_t bks_next32_utf8(const bks_trie *trie, const char *text, size_t size,
+                                     size_t *at, uint32_t *c) {
+    uint32_t found = bks_read_utf8(text, size, at);
+    *c = found <= 0x10FFFF ? found : 0xFFFD;
+    return bks_get32(trie, found);
+}
+
+/** Returns the value of the next code point of a text in UTF-16, in a trie with values of 8 bits,
+ * inline.
+ *
+ * A high surrogate and the low surrogate after it are one code point. Each other unit is a code
+ * point of its own, even an unpaired surrogate. Unspecified (but memory-safe) for a trie of another
+ * width.
+ *
+ * @param trie a trie that bks_open opened
+ * @param text the units, in any order
+ * @param count how many units there are
+ * @param at the index of the code point; becomes the index after it. It is unchanged, and no unit is
+ *     read, if it is not below `count`
+ * @param c receives the code point; 0xFFFD if there is none
+ * @return its value; the error value if there is none
+ *
+ * ICU: UCPTRIE_FAST_U16_NEXT. */
+static inline uint8_t bks_next8_utf16(const bks_trie *trie, const uint16_t *text, size_t count,
+                                      size_t *at, uint32_t *c) {
+    uint32_t found = bks_read_utf16(text, count, at);
+    *c = found <= 0x10FFFF ? found : 0xFFFD;
+    return bks_get8(trie, found);
+}
+
+/** Returns the value of the next code point of a text in UTF-16, in a trie with values of 16 bits,
+ * inline.
+ *
+ * A high surrogate and the low surrogate after it are one code point. Each other unit is a code
+ * point of its own, even an unpaired surrogate. Unspecified (but memory-safe) for a trie of another
+ * width.
+ *
+ * @param trie a trie that bks_open opened
+ * @param text the units, in any order
+ * @param count how many units there are
+ * @param at the index of the code point; becomes the index after it. It is unchanged, and no unit is
+ *     read, if it is not below `count`
+ * @param c receives the code point; 0xFFFD if there is none
+ * @return its value; the error value if there is none
+ *
+ * ICU: UCPTRIE_FAST_U16_NEXT. */
+static inline uint16_t bks_next16_utf16(const bks_trie *trie, const uint16_t *text, size_t count,
+                                      size_t *at, uint32_t *c) {
+    uint32_t found = bks_read_utf16(text, count, at);
+    *c = found <= 0x10FFFF ? found : 0xFFFD;
+    return bks_get16(trie, found);
+}
+
+/** Returns the value of the next code point of a text in UTF-16, in a trie with values of 32 bits,
+ * inline.
+ *
+ * A high surrogate and the low surrogate after it are one code point. Each other unit is a code
+ * point of its own, even an unpaired surrogate. Unspecified (but memory-safe) for a trie of another
+ * width.
+ *
+ * @param trie a trie that bks_open opened
+ * @param text the units, in any order
+ * @param count how many units there are
+ * @param at the index of the code point; becomes the index after it. It is unchanged, and no unit is
+ *     read, if it is not below `count`
+ * @param c receives the code point; 0xFFFD if there is none
+ * @return its value; the error value if there is none
+ *
+ * ICU: UCPTRIE_FAST_U16_NEXT. */
+static inline uint32_t bks_next32_utf16(const bks_trie *trie, const uint16_t *text, size_t count,
+                                      size_t *at, uint32_t *c) {
+    uint32_t found = bks_read_utf16(text, count, at);
+    *c = found <= 0x10FFFF ? found : 0xFFFD;
+    return bks_get32(trie, found);
+}
+
 /** Returns whether a frozen set contains a code point: bks_frozen_contains, inline.
  *
  * Two reads, both inside the words. For words that bks_set_freeze did not write, such as untrusted

@@ -49,14 +49,13 @@ static void add(struct before *before, uint8_t next) {
    error value, and is a cluster as any other character. */
 static size_t first_cluster(const bks_trie *classes, const char *text, size_t size) {
     struct before before = {breaks_Other, false, false, false};
-    size_t end = 0;
+    size_t end = 0, after = 0;
     while (end < size) {
-        uint8_t class;
-        size_t taken; /* with room for one value: the size of one character */
-        bks_trie8_copy_utf8(classes, text + end, size - end, &class, 1, &taken);
+        uint32_t c;
+        uint8_t class = bks_next8_utf8(classes, text, size, &after, &c);
         if (end > 0 && is_boundary(&before, class)) break;
         add(&before, class);
-        end += taken;
+        end = after;
     }
     return end;
 }

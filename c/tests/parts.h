@@ -122,6 +122,20 @@ static inline size_t of_units(const bks_trie *trie, const uint16_t *text, size_t
                : bks_trie32_get_utf16(trie, text, count, (uint32_t *)values, room);
 }
 
+static inline uint32_t next_of_text(const bks_trie *trie, const char *text, size_t size, size_t *at,
+                                    uint32_t *c) {
+    return trie->width == 1   ? bks_next8_utf8(trie, text, size, at, c)
+           : trie->width == 2 ? bks_next16_utf8(trie, text, size, at, c)
+                              : bks_next32_utf8(trie, text, size, at, c);
+}
+
+static inline uint32_t next_of_units(const bks_trie *trie, const uint16_t *text, size_t count,
+                                     size_t *at, uint32_t *c) {
+    return trie->width == 1   ? bks_next8_utf16(trie, text, count, at, c)
+           : trie->width == 2 ? bks_next16_utf16(trie, text, count, at, c)
+                              : bks_next32_utf16(trie, text, count, at, c);
+}
+
 /* Writes a code point in UTF-8, and returns its size. */
 static inline size_t write_utf8(uint32_t c, char *text) {
     size_t more = c < 0x80 ? 0 : c < 0x800 ? 1 : c < 0x10000 ? 2 : 3, size = more + 1;

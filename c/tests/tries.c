@@ -27,10 +27,26 @@ static void look_ups(const bks_trie *trie, uint32_t error) {
     CHECK(called(trie, UINT32_MAX) == error && in_line(trie, UINT32_MAX) == error);
 }
 
-/* The text, which may be ill-formed, in pieces for buffers of `room` values. Each value is that of a
-   code point, or for ILL the error value. */
+/* For ILL the error value is wanted. */
 enum { ILL = CODE_POINTS };
 
+/* The characters of the text and their values, one by one, and what comes after the last. */
+static void one_by_one(const bks_trie *trie, const char *bytes, size_t size, const uint32_t *wanted,
+                       size_t count) {
+    size_t at = 0, done = 0;
+    uint32_t c;
+    for (; at < size; done++) {
+        const uint32_t value = next_of_text(trie, bytes, size, &at, &c);
+        CHECK(done < count && at <= size && value == expected[wanted[done]]);
+        CHECK(c == (wanted[done] == ILL ? 0xFFFD : wanted[done]));
+    }
+    CHECK(done == count && next_of_text(trie, bytes, size, &at, &c) == expected[ILL] && at == size && c == 0xFFFD);
+    at = SIZE_MAX;
+    CHECK(next_of_text(trie, bytes, size, &at, &c) == expected[ILL] && at == SIZE_MAX);
+}
+
+/* The text, which may be ill-formed, in pieces for buffers of `room` values. Each value is that of a
+   code point, or for ILL the error value. */
 static void copied_pieces(const bks_trie *trie, const char *bytes, size_t size,
                           const uint32_t *wanted, size_t count, size_t room) {
     size_t at = 0, done = 0, taken;
@@ -45,6 +61,7 @@ static void copied_pieces(const bks_trie *trie, const char *bytes, size_t size,
         at += taken, done += n;
     }
     CHECK(at == size && done == count);
+    if (room == 1 || room == count || room > 50) one_by_one(trie, bytes, size, wanted, count);
 }
 
 /* All characters in one text, into a buffer for all values, and into one for a few. */
@@ -164,6 +181,13 @@ static void of_these_units(const bks_trie *trie, const uint16_t *units, size_t n
     for (size_t i = 0; i < count / 2; i++) CHECK(value_in(trie, values, i) == expected[points[i]]);
     CHECK(((uint8_t *)values)[count / 2 * trie->width] == 0x55);
     CHECK(of_units(trie, units, n, values, 0) == count);
+    size_t at = 0, done = 0;
+    uint32_t c;
+    for (; at < n; done++) {
+        const uint32_t value = next_of_units(trie, units, n, &at, &c);
+        CHECK(done < count && at <= n && c == points[done] && value == expected[c]);
+    }
+    CHECK(done == count && next_of_units(trie, units, n, &at, &c) == expected[ILL] && at == n && c == 0xFFFD);
 }
 
 /* All units one after another, all pairs of surrogates, and surrogates in any order. The last one
@@ -245,6 +269,33 @@ static void set_of(const bks_trie *trie, uint32_t value, size_t count) {
 }
 
 #ifdef WITH_ICU
+/* The bytes of all code points, also of surrogates, each followed by those of others cut off: ICU's macro
+   goes to the same offsets, with the same values. */
+#define AS_MACRO(data)                                                                                   \
+    for (size_t at = 0; at < size;) {                                                                    \
+        uint32_t value, c;                                                                               \
+        const uint32_t own = next_of_text(trie, text, size, &at, &c);                                    \
+        UCPTRIE_FAST_U8_NEXT(icu, data, source, limit, value);                                           \
+        CHECK(own == value && (const uint8_t *)text + at == source);                                     \
+    }                                                                                                    \
+    CHECK(source == limit)
+
+static void as_macro(const bks_trie *trie, const UCPTrie *icu) {
+    size_t size = 0;
+    for (uint32_t c = 0; c < CODE_POINTS; c += c < 0x30000 ? 1 : 61) {
+        size += write_utf8(c, text + size);
+        if (c % 7 == 0) size += write_utf8(c, text + size) - 1;
+    }
+    const uint8_t *source = (const uint8_t *)text, *limit = source + size;
+    if (trie->width == 1) {
+        AS_MACRO(UCPTRIE_8);
+    } else if (trie->width == 2) {
+        AS_MACRO(UCPTRIE_16);
+    } else {
+        AS_MACRO(UCPTRIE_32);
+    }
+}
+
 static void as_icu(const bks_trie *trie, uint8_t *bytes, size_t size) {
     UErrorCode status = U_ZERO_ERROR;
     int32_t taken = 0;
@@ -265,6 +316,7 @@ static void as_icu(const bks_trie *trie, uint8_t *bytes, size_t size) {
         CHECK(i < n && same_range(&found[i++], &r));
     }
     CHECK(i == n);
+    if (trie->fast_limit == 0x10000) as_macro(trie, icu);
     ucptrie_close(icu);
     free(aligned);
 }
