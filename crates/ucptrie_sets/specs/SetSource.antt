@@ -1,5 +1,6 @@
 -- A set as source: its exact text in C and in Rust.
-use Rattle.std.specs.Prelude.{◌≡◌, ℕ, ◌+◌, ◌%◌, ◌==◌, List, [], ◌∷◌, ◌++◌, codes, length, max, if◌then◌else◌}
+use Rattle.std.specs.Prelude.{◌≡◌, ℕ, ◌+◌, ◌%◌, ◌==◌, List, [], ◌∷◌, ◌++◌, codes, length, map, max, if◌then◌else◌}
+use Rattle.std.specs.Char.{to_ascii_uppercase}
 use Rattle.icu_zerovec.specs.CodePoints.{code_point_limit}
 use Rattle.icu_invlist.specs.InversionList.{members_below, ranges_of}
 use Rattle.icu_frozen_sets.specs.FrozenWords.{IsFrozenOf}
@@ -73,6 +74,24 @@ rust_search =
 -- A set in Rust: a module with its boundaries, and the search.
 abbrev pub rust_text : List ℕ → List ℕ → List ℕ
 rust_text name set = title set ++ rust_head name (length set) ++ cells_from 0 set ++ rust_search
+
+-- ---- A static set in Rust
+
+-- What precedes the boundaries of a static set with this name, which is written in capitals.
+unfoldable pub static_head : List ℕ → List ℕ
+static_head name = named (map to_ascii_uppercase name)
+    (codes "/// The set `@`.\n#[allow(dead_code)]\n#[rustfmt::skip]\n"
+    ++ codes "pub static @: bekstaudi::codepointinvlist::CodePointInversionList<'static> =\n"
+    ++ codes "    bekstaudi::codepointinvlist::CodePointInversionList::from_static("
+    ++ codes "bekstaudi::zeroslice!(\n        bekstaudi::zerovec::PotentialCodePoint as u32; [\n")
+
+-- What follows the boundaries.
+unfoldable pub static_end : List ℕ
+static_end = codes "\n    ]));\n"
+
+-- A set in Rust as a static set: its boundaries in a call of the library, which tests them.
+abbrev pub static_text : List ℕ → List ℕ → List ℕ
+static_text name set = title set ++ static_head name ++ cells_from 0 set ++ static_end
 
 -- ---- A frozen set in C
 

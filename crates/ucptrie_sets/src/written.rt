@@ -5,7 +5,7 @@ ghost use Rattle.serde_json.specs.Written.{compact_text};
 ghost use Rattle.icu_invlist.specs.SetJson.{written_of};
 ghost use Rattle.icu_invlist_binary.specs.SerializedSet.{HasForm, units_of};
 ghost use Rattle.ucptrie_sets.specs.Rows.{rows_of};
-ghost use Rattle.ucptrie_sets.specs.SetSource.{c_text, IsFrozenC, IsFrozenRust, rust_text};
+ghost use Rattle.ucptrie_sets.specs.SetSource.{c_text, IsFrozenC, IsFrozenRust, rust_text, static_text};
 ghost use Rattle.ucptrie_sets.specs.SetToml.{toml_text};
 ghost use Rattle.ucptrie_sets.specs.Sets.{bytes_of_units};
 ghost use Rattle.ucptrie_sets.specs.WrittenSets.{IsWhyNotWritten};
@@ -15,6 +15,7 @@ use crate::error::SetWriteError;
 use crate::rows::rows_text;
 use crate::rust_source::{frozen_rust_text, rust_text};
 use crate::serialized::serialized_bytes;
+use crate::static_source::static_text;
 use crate::toml_text::toml_text;
 use icu_invlist::codepointinvlist::CodePointInversionList;
 use icu_zerovec::MemoryError;
@@ -36,6 +37,8 @@ pub enum SetForm<'a> {
     C(&'a str),
     /// Source in Rust: a module of this name with the boundaries and a search in them.
     Rust(&'a str),
+    /// Source in Rust: a static set of the crate `bekstaudi`, whose name is this one in capitals.
+    RustStatic(&'a str),
     /// Source in C: the words of a frozen set. Each of its names starts with this one.
     FrozenC(&'a str),
     /// Source in Rust: a module of this name with the tables of a frozen set.
@@ -75,6 +78,8 @@ pub fn written(
         → IfOk result (λ bytes. bytes.items ≡ c_text name.now set.now) }
     ensures rust { (name : Bor (List ℕ)) → form.entry ≡ SetForm.Rust name
         → IfOk result (λ bytes. bytes.items ≡ rust_text name.now set.now) }
+    ensures rust_static { (name : Bor (List ℕ)) → form.entry ≡ SetForm.RustStatic name
+        → IfOk result (λ bytes. bytes.items ≡ static_text name.now set.now) }
     ensures frozen_c { (name : Bor (List ℕ)) → form.entry ≡ SetForm.FrozenC name
         → IfOk result (λ bytes. IsFrozenC name.now set.now bytes.items) }
     ensures frozen_rust { (name : Bor (List ℕ)) → form.entry ≡ SetForm.FrozenRust name
@@ -89,6 +94,7 @@ pub fn written(
         SetForm::Toml(name) => toml_text(alloc, set, name)?,
         SetForm::C(name) => c_text(alloc, set, name)?,
         SetForm::Rust(name) => rust_text(alloc, set, name)?,
+        SetForm::RustStatic(name) => static_text(alloc, set, name)?,
         SetForm::FrozenC(name) => frozen_c_text(alloc, set, name)?,
         SetForm::FrozenRust(name) => frozen_rust_text(alloc, set, name)?,
     };

@@ -1,2 +1,3 @@
+mod ByteLemmas
 mod RowSteps
 mod WordSteps

@@ -3,3 +3,4 @@ pub mod Words
 pub mod Rows
 pub mod Units
 pub mod Messages
+pub mod StaticSource

@@ -6,7 +6,7 @@
 //! - `built`: the trie of a word list, and the trie that a file of units has
 //! - `written`: a trie in one of the forms, as the bytes of a file
 //! - `rows`: the entries of a trie, in lines
-//! - `source`: the units as source in C and in Rust
+//! - `source`: the units as source in C and in Rust; `static_source`: as a static trie in Rust
 //! - `error`: what is wrong with a line, and why there is no trie or no text
 #![tactic(auto)]
 
@@ -16,4 +16,5 @@ pub mod line;
 pub mod read;
 mod rows;
 mod source;
+mod static_source;
 pub mod written;

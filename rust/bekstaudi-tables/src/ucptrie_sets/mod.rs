@@ -6,7 +6,8 @@
 //! - `serialized`: a set in ICU's serialized form, as bytes
 //! - `written`: a set in one of the forms, as the bytes of a file
 //! - `rows`: a row for each range; `toml_text`: TOML as icuexportdata writes it
-//! - `source`: what the sources have in common; `c_source` and `rust_source` write these
+//! - `source`: what the sources have in common; `c_source` and `rust_source` write these, and
+//!   `static_source` a static set in Rust
 //! - `error`: why there is no set, or why it is not written
 
 use crate::host::*;
@@ -18,6 +19,7 @@ mod rows;
 mod rust_source;
 pub mod serialized;
 mod source;
+mod static_source;
 pub mod toml_file;
 mod toml_text;
 pub mod written;

@@ -7,6 +7,7 @@ use crate::ucptrie_sets::error::SetWriteError;
 use crate::ucptrie_sets::rows::rows_text;
 use crate::ucptrie_sets::rust_source::{frozen_rust_text, rust_text};
 use crate::ucptrie_sets::serialized::serialized_bytes;
+use crate::ucptrie_sets::static_source::static_text;
 use crate::ucptrie_sets::toml_text::toml_text;
 use bekstaudi::codepointinvlist::CodePointInversionList;
 use bekstaudi::zerovec::MemoryError;
@@ -27,6 +28,8 @@ pub enum SetForm<'a> {
     C(&'a str),
     /// Source in Rust: a module of this name with the boundaries and a search in them.
     Rust(&'a str),
+    /// Source in Rust: a static set of the crate `bekstaudi`, whose name is this one in capitals.
+    RustStatic(&'a str),
     /// Source in C: the words of a frozen set. Each of its names starts with this one.
     FrozenC(&'a str),
     /// Source in Rust: a module of this name with the tables of a frozen set.
@@ -57,6 +60,7 @@ pub fn written(
         SetForm::Toml(name) => toml_text(set, name)?,
         SetForm::C(name) => c_text(set, name)?,
         SetForm::Rust(name) => rust_text(set, name)?,
+        SetForm::RustStatic(name) => static_text(set, name)?,
         SetForm::FrozenC(name) => frozen_c_text(set, name)?,
         SetForm::FrozenRust(name) => frozen_rust_text(set, name)?,
     };

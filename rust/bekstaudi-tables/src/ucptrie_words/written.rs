@@ -6,6 +6,7 @@ use crate::support::prelude::*;
 use crate::ucptrie_words::error::RowsError;
 use crate::ucptrie_words::rows::rows_text;
 use crate::ucptrie_words::source::{c_text, rust_text};
+use crate::ucptrie_words::static_source::static_text;
 use bekstaudi::char16trie::Char16Trie;
 
 /// The forms in which a trie is written.
@@ -17,6 +18,8 @@ pub enum Form<'a> {
     C(&'a str),
     /// Source in Rust: a module of this name.
     Rust(&'a str),
+    /// Source in Rust: a static trie of the crate `bekstaudi`, whose name is this one in capitals.
+    RustStatic(&'a str),
     /// The lines `KEY;VALUE` of the entries, in unit order of the keys.
     Rows,
 }
@@ -36,6 +39,7 @@ pub fn written(trie: &Char16Trie<'_>, form: Form<'_>) -> Result<Vec<u8>, RowsErr
         Form::Icu => return Ok(units_bytes(trie)?),
         Form::C(name) => c_text(trie.data.as_slice(), name)?,
         Form::Rust(name) => rust_text(trie.data.as_slice(), name)?,
+        Form::RustStatic(name) => static_text(trie.data.as_bytes(), name)?,
         Form::Rows => rows_text(trie)?,
     };
     Ok(text.into_bytes())

@@ -11,6 +11,7 @@ include!("categories_small.rs");
 include!("upper.rs");
 include!("scripts.rs");
 include!("many.rs");
+include!("joined.rs");
 include!("keywords.rs");
 
 trie_values! {
@@ -77,6 +78,12 @@ fn main() {
     assert_eq!(CATEGORIES.get('A'), Category::Lu);
     assert_eq!((SCRIPTS.get('B'), SCRIPTS.get('β')), (Scripts::Latin, Scripts::Greek));
     assert_eq!(KEYWORDS.longest_match_str("integer"), Some((3, 3)));
+    // The properties of a joined table.
+    let properties_of = |c| (JOINED.get(c).script(), JOINED.get(c).vowel());
+    assert_eq!(properties_of('A'), (Script::Latin, true));
+    assert_eq!(properties_of('B'), (Script::Latin, false));
+    assert_eq!(properties_of('α'), (Script::Greek, true));
+    assert_eq!(properties_of('1'), (Script::Unlisted, false));
     // An enum of more than 256 values.
     for number in 0..0x1_0000 {
         let value = Many::from_unaligned(&u16::to_le_bytes(number as u16));

@@ -1,0 +1,6 @@
+use Rattle.ucptrie_sets.specs.SetSource.{static_head}
+use Rattle.ucptrie_sets.proofs.static_source.push_head.Goals as goal
+
+pub returns : goal.returns
+unfolding static_head
+returns c = rw (c.as_str.ensures.value, c.in_ok-capitals.ensures) at c.push_named.ensures
