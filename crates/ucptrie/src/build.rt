@@ -1,7 +1,7 @@
 //! The command `build`: a table of rows, or of a file of the Unicode Character Database.
 use crate::compressed::expect_lines;
 use crate::error::{Error, about, said};
-use crate::forms::is_made;
+use crate::file_forms::is_made;
 use crate::names::expect_names;
 use crate::tables::{form, number, trie_type, width};
 use crate::unicode_files::{build_file, column_option, named_kind, not_of_rows, with_names};
@@ -32,7 +32,7 @@ pub fn options(matches: &ArgMatches<'_>) -> TableOptions {
 
 /// Returns what a table of rows is to be. Comments among the rows may state the values that the
 /// arguments do not give.
-fn options_of_rows(matches: &ArgMatches<'_>, rows: &[u8]) -> TableOptions {
+pub fn options_of_rows(matches: &ArgMatches<'_>, rows: &[u8]) -> TableOptions {
     let stated = stated_values(rows);
     TableOptions {
         default: number(matches, "default").or(stated.null).unwrap_or(0),

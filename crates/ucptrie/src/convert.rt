@@ -69,7 +69,7 @@ fn with_names_of_file(
     width: ValueWidth,
 ) -> Result<Vec<u8>, Error> {
     let form = form(matches);
-    if !matches!(form, Form::C(_) | Form::Rust(_)) && !is_list(matches) {
+    if !matches!(form, Form::C(_) | Form::Bks(_) | Form::Rust(_)) && !is_list(matches) {
         return Ok(with_names(rt.alloc(), matches, bytes, form, width, &[])?);
     }
     let names = match property_names(rt.alloc(), file, matches.get_str("property")) {

@@ -1,6 +1,6 @@
 //! What is said of values that can be read in two ways, or not as they are written: numbers that
 //! are no whole ones, and words of hexadecimal digits.
-use crate::choice::{UnicodeFile, numbering};
+use crate::numbering::{UnicodeFile, numbering};
 use crate::properties::push_text;
 use crate::streams::say;
 use clap::ArgMatches;

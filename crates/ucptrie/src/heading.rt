@@ -1,6 +1,7 @@
 //! The first lines of source: the command that makes it, and what its input says of itself.
+use crate::arguments::{Argument, arguments_of};
+use crate::columns::Input;
 use crate::tables::number;
-use crate::words::{Argument, arguments_of};
 use clap::ArgMatches;
 use clap::builder::ValueParser;
 use std::alloc::{AllocError, Global};
@@ -65,6 +66,15 @@ fn push_aliases(text: &mut String, matches: &ArgMatches<'_>) -> Result<(), Alloc
     Ok(())
 }
 
+/// Appends the files of a join, without their folders, and their properties.
+fn push_files(text: &mut String, matches: &ArgMatches<'_>) -> Result<(), AllocError> {
+    for path in matches.get_strs("files").unwrap_or(&[]) {
+        text.push(' ')?;
+        push_word(text, base_name(path))?;
+    }
+    Ok(())
+}
+
 /// Appends an option with a number, if it is given.
 fn push_number(text: &mut String, matches: &ArgMatches<'_>, id: &str) -> Result<(), AllocError> {
     match number(matches, id) {
@@ -98,6 +108,7 @@ fn push_argument(
             text.push(' ')?;
             push_word(text, base_name(matches.get_str("file").unwrap_or("-")))
         }
+        ("files", _) => push_files(text, matches),
         ("aliases", _) => push_aliases(text, matches),
         (id, ValueParser::Signed(_, _)) => push_number(text, matches, id),
         (id, _) => push_text(text, matches, id, argument.default),
@@ -163,7 +174,7 @@ fn push_origin(text: &mut String, path: &str, input: &[u8]) -> Result<(), AllocE
 fn is_source(matches: &ArgMatches<'_>) -> bool {
     matches!(
         matches.get_str("as"),
-        Some("c" | "rust" | "c-frozen" | "rust-frozen" | "rust-static")
+        Some("bks" | "c" | "rust" | "c-frozen" | "rust-frozen" | "rust-static")
     )
 }
 
@@ -194,6 +205,35 @@ pub fn with_heading(
         return Ok(bytes);
     }
     let mut whole = heading(alloc, command, matches, path, input)?.into_bytes();
+    whole.extend_from_slice(&bytes)?;
+    Ok(whole)
+}
+
+/// Returns the first lines of source that `join` makes of these inputs.
+fn headings(
+    alloc: Global,
+    matches: &ArgMatches<'_>,
+    inputs: &[Input<'_>],
+) -> Result<String, AllocError> {
+    let mut text = String::new(alloc);
+    push_command(&mut text, "join", matches)?;
+    for input in inputs {
+        push_origin(&mut text, input.path, &input.bytes)?;
+    }
+    Ok(text)
+}
+
+/// Returns what `join` writes, with the first lines before it if it is source.
+pub fn with_headings(
+    alloc: Global,
+    matches: &ArgMatches<'_>,
+    inputs: &[Input<'_>],
+    bytes: Vec<u8>,
+) -> Result<Vec<u8>, AllocError> {
+    if !is_source(matches) {
+        return Ok(bytes);
+    }
+    let mut whole = headings(alloc, matches, inputs)?.into_bytes();
     whole.extend_from_slice(&bytes)?;
     Ok(whole)
 }

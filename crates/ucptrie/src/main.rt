@@ -3,19 +3,25 @@
 #![tactic(auto)]
 
 mod aliases;
-mod asked;
+mod arguments;
 mod build;
-mod choice;
+mod columns;
+mod combinations;
 mod compressed;
 mod convert;
 mod error;
-mod forms;
+mod file_forms;
 mod fractions;
+mod functions;
+mod get_arguments;
 mod groups;
 mod heading;
+mod join;
 mod line_errors;
+mod list;
 mod missing;
 mod names;
+mod numbering;
 mod offsets;
 mod output;
 mod overlap;
@@ -28,23 +34,24 @@ mod tables;
 mod unicode_files;
 mod wide;
 mod word_lists;
-mod words;
 
-use crate::asked::asked;
+use crate::arguments::program_words;
 use crate::build::build;
 use crate::compressed::compressed_line;
 use crate::convert::convert;
 use crate::error::{Error, about, about_arguments, said};
+use crate::get_arguments::asked;
 use crate::heading::with_heading;
+use crate::join::join;
+use crate::list::list;
 use crate::names::test_name;
 use crate::offsets::{Start, start_of};
 use crate::output::{deliver, target_of};
 use crate::progress::{report, started};
 use crate::sets::set;
-use crate::streams::{INPUT, bytes_at, input_name, put, say, without_mark};
+use crate::streams::{bytes_at, input_name, put, read_twice, say, without_mark};
 use crate::tables::{number, table_at};
 use crate::word_lists::word_list;
-use crate::words::program_words;
 use clap::ArgMatches;
 use clap::error::ErrorKind;
 use std::alloc::{AllocError, Global};
@@ -58,11 +65,6 @@ use ucptrie_tables::table::Table;
 /// Returns whether an input is standard input.
 fn is_input(path: &str) -> bool {
     path == "-"
-}
-
-/// Returns the fault of two inputs that are standard input.
-fn read_twice(alloc: Global) -> Error {
-    about_arguments(alloc, INPUT, "can be read once, and two inputs are -")
 }
 
 /// Tests that not both of two inputs are standard input, all of which the first one reads.
@@ -205,6 +207,8 @@ fn diff(rt: &HostRuntime, matches: &ArgMatches<'_>) -> Result<u8, Error> {
 fn run(rt: &HostRuntime, name: &str, matches: &ArgMatches<'_>) -> Result<u8, Error> {
     match name {
         "build" | "convert" | "set" | "words" => make(rt, name, matches)?,
+        "join" => join(rt, matches)?,
+        "list" => list(rt, matches)?,
         "show" => show(rt, matches)?,
         "get" | "explain" => get(rt, name, matches)?,
         _ => return diff(rt, matches),

@@ -1,7 +1,7 @@
 //! The values of code points without a line.
 use crate::aliases::name_in_values;
-use crate::choice::UnicodeFile;
 use crate::error::{Error, about, said};
+use crate::numbering::UnicodeFile;
 use crate::properties::push_text;
 use crate::streams::say;
 use crate::unicode_files::unread;

@@ -1,6 +1,6 @@
 //! Names in source, and lists of the names of values.
-use crate::choice::{UnicodeFile, numbering};
 use crate::error::{Error, about};
+use crate::numbering::{UnicodeFile, numbering};
 use crate::streams::say;
 use clap::ArgMatches;
 use std::alloc::{AllocError, Global};
@@ -33,6 +33,16 @@ fn why_no_module(name: &str) -> Option<&'static str> {
     None
 }
 
+/// Returns whether a name can't be that of a function in Rust.
+pub fn is_reserved(name: &str) -> bool {
+    RESERVED_BY_RUST.contains(&name)
+}
+
+/// Returns whether `bekstaudi.h` may have a name that starts with this one and `_`.
+fn is_of_header(name: &str) -> bool {
+    name == "bks" || name.starts_with("bks_")
+}
+
 /// Returns the name in source that the arguments give.
 pub fn name_in<'a>(matches: &ArgMatches<'a>) -> &'a str {
     matches.get_str("name").unwrap_or("table")
@@ -45,6 +55,9 @@ pub fn test_name(alloc: Global, matches: &ArgMatches<'_>) -> Result<(), Error> {
     if !is_name(name) {
         let why = "expected letters, digits and _, not starting with a digit";
         return Err(about(alloc, name, why));
+    }
+    if matches.get_str("as") == Some("bks") && is_of_header(name) {
+        return Err(about(alloc, name, "a name that bekstaudi.h may use"));
     }
     if !matches!(
         matches.get_str("as"),
@@ -97,7 +110,10 @@ pub fn say_many(
     name: &str,
     names: &[Name<'_>],
 ) -> Result<(), AllocError> {
-    let is_source = matches!(matches.get_str("as"), Some("c" | "rust" | "rust-static"));
+    let is_source = matches!(
+        matches.get_str("as"),
+        Some("bks" | "c" | "rust" | "rust-static")
+    );
     if is_source && names.len() > MOST {
         say(rt, &many_line(rt.alloc(), name, names.len())?);
     }

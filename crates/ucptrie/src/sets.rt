@@ -1,12 +1,12 @@
 //! The command `set`: the set of the code points with a value, or of a file of sets, in a form.
 use crate::build::unbuilt;
-use crate::choice::UnicodeFile;
 use crate::compressed::expect_lines;
 use crate::error::{Error, about, about_arguments};
-use crate::forms::{is_json, is_toml};
+use crate::file_forms::{is_json, is_toml};
 use crate::groups::numbers_in_group;
 use crate::missing::{default_of, test_numbers, test_own_names};
 use crate::names::name_in;
+use crate::numbering::UnicodeFile;
 use crate::offsets::{has_tries, start_of, starts_trie};
 use crate::streams::say;
 use crate::tables::{number, table_in};
@@ -398,6 +398,7 @@ fn set_form<'a>(matches: &ArgMatches<'a>) -> SetForm<'a> {
         Some("c") => SetForm::C(name),
         Some("c-frozen") => SetForm::FrozenC(name),
         Some("rust") => SetForm::Rust(name),
+        Some("rust-static") => SetForm::RustStatic(name),
         Some("rust-frozen") => SetForm::FrozenRust(name),
         _ => SetForm::Rows,
     }

@@ -1,6 +1,6 @@
 //! Files and streams, and the names by which faults call them.
 use crate::compressed::{expect_decompressed, expect_lines};
-use crate::error::{Error, about};
+use crate::error::{Error, about, about_arguments};
 use std::alloc::Global;
 use std::io::{Read, Write};
 use std::{fs, io};
@@ -10,6 +10,11 @@ pub const INPUT: &str = "standard input";
 
 /// The name of standard output in messages.
 const OUTPUT: &str = "standard output";
+
+/// Returns the fault of two inputs that are standard input.
+pub fn read_twice(alloc: Global) -> Error {
+    about_arguments(alloc, INPUT, "can be read once, and two inputs are -")
+}
 
 /// Returns the name of an input in messages. `-` is standard input.
 pub fn input_name(path: &str) -> &str {

@@ -1,7 +1,7 @@
 //! The tables of files, and how a table is to be written.
 use crate::compressed::expect_text;
 use crate::error::{Error, about, said};
-use crate::forms::is_toml;
+use crate::file_forms::is_toml;
 use crate::names::name_in;
 use crate::offsets::{Start, from_trie, starts_trie};
 use crate::streams::{bytes_at, input_name, without_mark};
@@ -51,6 +51,7 @@ pub fn form<'a>(matches: &ArgMatches<'a>) -> Form<'a> {
         Some("toml") => Form::Toml,
         Some("json") => Form::Json,
         Some("c") => Form::C(name),
+        Some("bks") => Form::Bks(name),
         Some("rust" | "rust-static") => Form::Rust(name),
         _ => Form::Rows,
     }

@@ -1,12 +1,12 @@
 //! Tables of files of the Unicode Character Database.
 use crate::aliases::{Aliases, name_in_lines, name_in_values, named_aliases};
 use crate::build::{options, unbuilt};
-use crate::choice::{UnicodeFile, choice_of, numbering};
 use crate::error::{Error, about, about_arguments, said};
 use crate::fractions::{say_fractions, say_reading};
 use crate::line_errors::fault_line;
 use crate::missing::{default_of, say_missing, test_numbers, test_own_names};
 use crate::names::{is_list, say_many_in};
+use crate::numbering::{UnicodeFile, choice_of, numbering};
 use crate::overlap::{Conflict, conflict_of_texts, find_conflict, has_values_of};
 use crate::properties::{expect_field, has_unihan_property, missing_property};
 use crate::static_trie::{is_static, with_static};
@@ -71,7 +71,7 @@ pub fn not_of_rows(alloc: Global, option: &str) -> Error {
 
 /// The properties of `UnicodeData.txt` with one value for each code point: the short and the long
 /// name, and the field.
-static UNICODE_DATA: [(&str, &str, usize); 11] = [
+pub static UNICODE_DATA: [(&str, &str, usize); 11] = [
     ("na", "Name", 1),
     ("gc", "General_Category", 2),
     ("ccc", "Canonical_Combining_Class", 3),
@@ -118,7 +118,7 @@ fn unicode_data_field(alloc: Global, name: &str, property: Option<&str>) -> Resu
 
 /// Returns whether a file is `CaseFolding.txt`, and no property but the simple case folding is
 /// named.
-fn is_simple_folding(file: &[u8], property: Option<&str>) -> bool {
+pub fn is_simple_folding(file: &[u8], property: Option<&str>) -> bool {
     match title_of(file) {
         Some(title) if title.starts_with(b"CaseFolding".as_slice()) => match property {
             Some(property) => is_named("scf", "Simple_Case_Folding", property.as_bytes()),
@@ -423,13 +423,15 @@ fn written_of_file(
     Ok(with_names(alloc, matches, bytes, form, table.width, &[])?)
 }
 
-/// Returns what the table of a file is to be.
+/// Returns what the table of a file is to be. `how` is what is said if no line says which value
+/// the other code points have.
 fn options_of_file(
     alloc: Global,
     matches: &ArgMatches<'_>,
     file: &UnicodeFile<'_>,
     choice: &Choice<'_>,
     numbering: Numbering<'_>,
+    how: &'static str,
 ) -> Result<TableOptions, Error> {
     let given = options(matches);
     let needs_default = match choice.kind {
@@ -438,7 +440,6 @@ fn options_of_file(
         ValueKind::Set | ValueKind::Binary => false,
     };
     if needs_default && number(matches, "default").is_none() {
-        let how = "no line says which value the other code points have: give --default NUMBER";
         let how = why_no_default(file.columns, how);
         let default = default_of(alloc, matches, file, numbering, given.default, how)?;
         return Ok(TableOptions { default, ..given });
@@ -446,13 +447,16 @@ fn options_of_file(
     Ok(given)
 }
 
-/// Returns the table of a file, whose values have these names, in the form that the arguments name.
-fn built_of_file(
+/// Tests what the lines of a file say, whose values have these names. Returns how the values become
+/// numbers, and what the table is to be. `how` is what is said if no line says which value the
+/// other code points have.
+pub fn tested<'n>(
     alloc: Global,
     matches: &ArgMatches<'_>,
     file: &UnicodeFile<'_>,
-    choice: &Choice<'_>,
-) -> Result<Vec<u8>, Error> {
+    choice: &'n Choice<'n>,
+    how: &'static str,
+) -> Result<(Numbering<'n>, TableOptions), Error> {
     let numbering = numbering(matches, file, choice);
     test_conflicts(alloc, file, numbering)?;
     if matches!(numbering, Numbering::Names(_, _)) {
@@ -461,7 +465,22 @@ fn built_of_file(
     if matches.get_str("values").is_none() {
         test_numbers(alloc, file, choice)?;
     }
-    let options = options_of_file(alloc, matches, file, choice, numbering)?;
+    let options = options_of_file(alloc, matches, file, choice, numbering, how)?;
+    Ok((numbering, options))
+}
+
+/// What is said of a file that says too little of code points without a line.
+const NO_DEFAULT: &str =
+    "no line says which value the other code points have: give --default NUMBER";
+
+/// Returns the table of a file, whose values have these names, in the form that the arguments name.
+fn built_of_file(
+    alloc: Global,
+    matches: &ArgMatches<'_>,
+    file: &UnicodeFile<'_>,
+    choice: &Choice<'_>,
+) -> Result<Vec<u8>, Error> {
+    let (numbering, options) = tested(alloc, matches, file, choice, NO_DEFAULT)?;
     match written_of_file(alloc, matches, file, choice, numbering, options) {
         Ok(bytes) => Ok(bytes),
         Err(UnicodeFileError::Build(TableBuildError::Width(value, width))) => {

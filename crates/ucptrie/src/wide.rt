@@ -1,6 +1,6 @@
 //! Where a value comes from that has more bits than the asked width.
-use crate::choice::UnicodeFile;
 use crate::error::{Error, said};
+use crate::numbering::UnicodeFile;
 use crate::tables::number;
 use clap::ArgMatches;
 use icu_trie_builder::writes::Write;

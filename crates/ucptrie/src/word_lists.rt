@@ -18,6 +18,7 @@ fn form<'a>(matches: &ArgMatches<'a>) -> Form<'a> {
         Some("icu") => Form::Icu,
         Some("c") => Form::C(name),
         Some("rust") => Form::Rust(name),
+        Some("rust-static") => Form::RustStatic(name),
         _ => Form::Rows,
     }
 }

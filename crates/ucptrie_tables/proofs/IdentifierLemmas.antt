@@ -123,7 +123,7 @@ bytes_of_word (word ∷ words) text any short =
 reserved_short : (is_rust : Bool) (text : List ℕ) → is_reserved is_rust text ≡ true → length text ≤ 10
 reserved_short true text is = bytes_of_word (codes "" ∷ codes "Self" ∷ []) text is refl
 reserved_short false text is = bytes_of_word (codes "dataLength" ∷ codes "fastLimit" ∷ codes "get" ∷ codes "highStart" ∷ codes "index1"
-    ∷ codes "trie" ∷ codes "trieData" ∷ codes "trieIndex" ∷ codes "value" ∷ []) text is refl
+    ∷ codes "open" ∷ codes "table" ∷ codes "trie" ∷ codes "trieData" ∷ codes "trieIndex" ∷ codes "value" ∷ []) text is refl
 
 taken_short : (is_rust : Bool) (values : List EnumValue) (text : List ℕ) → is_taken values is_rust text ≡ true
     → length text ≤ bytes_taken values

@@ -1,6 +1,7 @@
 mod AskedLemmas
 mod DifferenceLemmas
 mod IdentifierLemmas
+mod JoinLemmas
 mod JsonLemmas
 mod Printed
 mod PropertyLemmas

@@ -3,6 +3,8 @@ pub mod Comparison
 pub mod Differences
 pub mod Files
 pub mod Inside
+pub mod JoinSource
+pub mod Joins
 pub mod NamesList
 pub mod NamesSource
 pub mod OtherToml

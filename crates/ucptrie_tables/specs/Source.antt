@@ -3,7 +3,7 @@ use Rattle.std.specs.Prelude.{ℕ, ◌==◌, ◌||◌, ◌&&◌, not, Bool, true
 use Rattle.std.specs.Char.{is_ascii_alphanumeric, is_ascii_digit}
 use Rattle.std.specs.List.{list_all}
 use Rattle.ucptrie_tables.specs.declared.written.Form.{Form}
-use Rattle.ucptrie_tables.specs.declared.written.Form.TheVariants.{C, Rust}
+use Rattle.ucptrie_tables.specs.declared.written.Form.TheVariants.{Bks, C, Rust}
 
 -- A byte that a name in C and in Rust can have: an ASCII letter or digit, or `_`.
 abbrev pub is_name_byte : ℕ → Bool
@@ -16,6 +16,7 @@ is_name (b ∷ bytes) = not (is_ascii_digit b) && list_all is_name_byte (b ∷ b
 
 -- The forms whose source can name values.
 abbrev pub has_names : Form → Bool
+has_names (Bks name) = true
 has_names (C name) = true
 has_names (Rust name) = true
 has_names _ = false

@@ -7,6 +7,7 @@ use Rattle.icu_trie_core.specs.declared.header.TrieType.TheVariants.{Fast, Small
 use Rattle.ucptab_table.specs.Patterns.{cell_number, filled, gap, named, number_text}
 use Rattle.ucptab_table.specs.declared.pattern.Number.{Number}
 use Rattle.ucptab_table.specs.declared.pattern.Number.TheVariants.{Decimal, Hexadecimal}
+use Rattle.ucptrie_tables.specs.Tables.{binary_bytes}
 use Rattle.ucptrie_tables.specs.ValueWidth.{bits_of, bytes_of, code_of}
 use Rattle.ucptrie_tables.specs.declared.c_source.TheConstants.{LOOK_UP}
 use Rattle.ucptrie_tables.specs.declared.rust_source.TheConstants.{LOOK_UP as rust_look_up}
@@ -100,6 +101,38 @@ c_struct name t = filled name (header_numbers t)
 abbrev pub c_text : List ℕ → Table → List ℕ
 c_text name t = sizes_text t ++ codes "\n#include <stdint.h>\n\n" ++ c_index name t
     ++ c_data name t ++ c_numbers name t ++ c_look_up name ++ c_struct name t
+
+-- ---- C for bekstaudi.h
+
+-- The first line: a comment with the type of the trie, the bits of a value and the number of bytes.
+unfoldable pub bks_title : List ℕ → ℕ → ℕ → List ℕ
+bks_title kind bits size = filled kind (Decimal bits ∷ Decimal size ∷ [])
+    (codes "// Made by ucptrie: a @ code point trie, with values of % bits, in % bytes.\n")
+
+-- What precedes the array of so many bytes.
+unfoldable pub bks_head : List ℕ → ℕ → List ℕ
+bks_head name size = filled name (Decimal size ∷ [])
+    (codes "\n#include <bekstaudi.h>\n\n// The trie in ICU's binary form.\n"
+    ++ codes "__attribute__((aligned(4))) static const unsigned char @_table[%]={\n")
+
+-- What follows the bytes: the function that opens the trie in them.
+unfoldable pub bks_open : List ℕ → Table → List ℕ
+bks_open name t = filled name (Decimal (bits_of t.width) ∷ Decimal (bits_of t.width) ∷ [])
+    (codes "\n};\n\n// Opens the trie, in which bks_get%, bks_trie%_get_utf8 and others find values, "
+    ++ codes "and returns BKS_OK.\nstatic inline uint32_t @_open(bks_trie *trie) {\n"
+    ++ codes "    return bks_open(trie, @_table, sizeof @_table);\n}\n")
+
+-- The array of some bytes, and the function that opens the trie in them.
+abbrev pub bks_array : List ℕ → Table → List ℕ → List ℕ
+bks_array name t bytes =
+    bks_head name (length bytes) ++ cells_from [] 0 bytes ++ bks_open name t
+
+-- A table in C for bekstaudi.h: the bytes of ICU's binary form as an array, and the function that
+-- opens the trie in them.
+abbrev pub bks_text : List ℕ → Table → List ℕ
+bks_text name t =
+    bks_title (type_name t.trie.header.trie_type) (bits_of t.width) (length (binary_bytes t))
+    ++ bks_array name t (binary_bytes t)
 
 -- ---- Rust
 

@@ -1,5 +1,5 @@
 -- Tables made from rows, their bytes in ICU's binary form, and the errors of both steps.
-use Rattle.std.specs.Prelude.{◌≡◌, ◌⊎◌, ℕ, ◌^◌, ◌<◌, ◌≤◌, List, ◌∷◌, ◌++◌, Option, Some, None, All, ⊤}
+use Rattle.std.specs.Prelude.{◌≡◌, ◌⊎◌, Bool, true, false, ℕ, ◌^◌, ◌<◌, ◌≤◌, List, ◌∷◌, ◌++◌, Option, Some, None, All, ⊤}
 use Rattle.std.specs.Option.{option_to_list}
 use Rattle.icu_zerovec.specs.CodePoints.{code_point_limit}
 use Rattle.icu_zerovec.specs.PackedBytes.{low_bytes}
@@ -24,7 +24,7 @@ use Rattle.ucptrie_tables.specs.declared.table.TableOptions.{TableOptions}
 use Rattle.ucptrie_tables.specs.declared.width.ValueWidth.{ValueWidth}
 use Rattle.ucptrie_tables.specs.declared.width.ValueWidth.TheVariants.{Bits8, Bits16, Bits32}
 use Rattle.ucptrie_tables.specs.declared.written.Form.{Form}
-use Rattle.ucptrie_tables.specs.declared.written.Form.TheVariants.{Icu}
+use Rattle.ucptrie_tables.specs.declared.written.Form.TheVariants.{Bks, Icu}
 
 -- ---- The table of writes
 
@@ -135,16 +135,22 @@ pub record HasBinaryForm (t : Table) : Type 0 where
   pub fits : first_unfit t.width t.trie ≡ None
   pub room : why_not_written (bytes_of t.width) (λ n. n) t.trie ≡ None
 
--- Why a table is not written. Only the binary form has such reasons: the first value that has more
+-- The forms that have the bytes of the binary form: this form itself, and C for bekstaudi.h.
+abbrev pub has_binary : Form → Bool
+has_binary Icu = true
+has_binary (Bks name) = true
+has_binary _ = false
+
+-- Why a table is not written. Only the forms with the binary form's bytes have such reasons: the first value that has more
 -- bits than the table's width, else why the form cannot store the trie. No contract can say when an
 -- allocation fails.
 abbrev pub IsWhyNotWritten : Form → Table → TableBuildError → Type 0
 IsWhyNotWritten form t (TableFailed Memory) = ⊤
 IsWhyNotWritten form t (TableFailed _) = ⊥
 IsWhyNotWritten form t (Width value width) =
-    (form ≡ Icu) × (width ≡ t.width) × (first_unfit t.width t.trie ≡ Some value)
+    (has_binary form ≡ true) × (width ≡ t.width) × (first_unfit t.width t.trie ≡ Some value)
 IsWhyNotWritten form t (Binary why) =
-    (form ≡ Icu) × (first_unfit t.width t.trie ≡ None)
+    (has_binary form ≡ true) × (first_unfit t.width t.trie ≡ None)
     × (why_not_written (bytes_of t.width) (λ n. n) t.trie ≡ Some why)
 
 -- The error of `built` for an error of `written`: a failed allocation is `Memory`.

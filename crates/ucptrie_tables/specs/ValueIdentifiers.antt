@@ -84,7 +84,7 @@ abbrev pub is_reserved : Bool → List ℕ → Bool
 is_reserved true text = list_any (λ word. bytes_eq word text) (codes "" ∷ codes "Self" ∷ [])
 is_reserved false text = list_any (λ word. bytes_eq word text)
     (codes "dataLength" ∷ codes "fastLimit" ∷ codes "get" ∷ codes "highStart" ∷ codes "index1"
-    ∷ codes "trie" ∷ codes "trieData" ∷ codes "trieIndex" ∷ codes "value" ∷ [])
+    ∷ codes "open" ∷ codes "table" ∷ codes "trie" ∷ codes "trieData" ∷ codes "trieIndex" ∷ codes "value" ∷ [])
 
 -- The text is reserved, or the identifier of one of the values.
 abbrev pub is_taken : List EnumValue → Bool → List ℕ → Bool

@@ -1,5 +1,5 @@
 -- How many bits and how many bytes a value has, and the first value that has too many bits.
-use Rattle.std.specs.Prelude.{ℕ, ◌^◌, nat_lt, not, List, Option}
+use Rattle.std.specs.Prelude.{ℕ, ◌^◌, nat_lt, not, List, Option, if◌then◌else◌}
 use Rattle.std.specs.List.{find}
 use Rattle.ucptrie_tables.specs.declared.width.ValueWidth.{ValueWidth}
 use Rattle.ucptrie_tables.specs.declared.width.ValueWidth.TheVariants.{Bits8, Bits16, Bits32}
@@ -25,3 +25,7 @@ code_of Bits32 = 1
 -- The first of the values that has more bits than the width, if one has.
 abbrev pub first_wider : ValueWidth → List ℕ → Option ℕ
 first_wider w values = find (λ v. not (nat_lt v (2 ^ bits_of w))) values
+
+-- The fewest bits that a value fits.
+abbrev pub width_of : ℕ → ValueWidth
+width_of v = if nat_lt v 0x100 then Bits8 else (if nat_lt v 0x10000 then Bits16 else Bits32)

@@ -10,6 +10,8 @@
 //! - `toml_names`: the names of the values of such a property; `other_toml`: what a TOML file has
 //!   in place of a trie
 //! - `unicode_file`: the table of a file of the Unicode Character Database
+//! - `join`: several tables in one, whose values are the combinations that occur; `join_source`:
+//!   the properties of such a table in C and in Rust
 //! - `written`: a table in one of the forms, as the bytes of a file
 //! - `stated`: the null value and the error value in comments among rows
 //! - `shown`: what a table is, in lines, and its ranges; `sizes`: the bounds on its cells
@@ -19,7 +21,7 @@
 //! - `rebuild`: the same values in a trie of another type, with another width or error value
 //! - `asked`: the numbers that words and texts ask for
 //! - `source`: names in C and in Rust; `c_source` and `rust_source` write these; `cells`: the cells
-//!   of a trie as numbers in a text
+//!   of a trie as numbers in a text; `bks_source` writes C for `bekstaudi.h`
 //! - `toml_text`: a table in TOML
 //! - `value_names`: names of values in C and in Rust; `static_source`: a static trie in Rust
 //! - `names_list`: names of values as lines `NUMBER;NAME`
@@ -34,18 +36,21 @@ ghost use Rattle.ucptab_table.specs.TableText.{IsFirstFault, IsTableText, IsTooL
 ghost use Rattle.ucptab_table.specs.declared.error.RowError.{RowError};
 ghost use Rattle.ucptab_table.specs.declared.error.TableError.TheVariants.{Row, TooLarge};
 ghost use Rattle.ucptrie_tables.specs.Stated.{stating_lines};
-ghost use Rattle.ucptrie_tables.specs.TableSource.{c_text, rust_text, toml_text};
+ghost use Rattle.ucptrie_tables.specs.TableSource.{bks_text, c_text, rust_text, toml_text};
 ghost use Rattle.ucptrie_tables.specs.Tables.{binary_bytes, IsTableOf, IsWhyNotBuilt};
 ghost use Rattle.ucptrie_tables.specs.declared.error.TableBuildError.TheVariants.{Table as TableFailed};
 ghost use Rattle.ucptrie_tables.specs.declared.table.Table.{Table};
 
 pub mod asked;
+mod bks_source;
 mod c_source;
 mod cells;
 pub mod compare;
 pub mod diff;
 pub mod error;
 pub mod explain;
+pub mod join;
+pub mod join_source;
 pub mod names_list;
 pub mod other_toml;
 pub mod parsed;
@@ -103,6 +108,9 @@ pub fn built(
     ensures c { (name : Bor (List ℕ)) → form.entry ≡ Form.C name → IfOk result
         (λ bytes. (t : Table)
         × (IsTableOf rows.now options t × (bytes.items ≡ c_text name.now t))) }
+    ensures bks { (name : Bor (List ℕ)) → form.entry ≡ Form.Bks name → IfOk result
+        (λ bytes. (t : Table)
+        × (IsTableOf rows.now options t × (bytes.items ≡ bks_text name.now t))) }
     ensures rust { (name : Bor (List ℕ)) → form.entry ≡ Form.Rust name → IfOk result
         (λ bytes. (t : Table)
         × (IsTableOf rows.now options t × (bytes.items ≡ rust_text name.now t))) }

@@ -43,7 +43,7 @@ fn push_enum_head(
 }
 
 /// Appends the enum of a module with this title, whose cells have so many bits.
-fn push_enum(
+pub(crate) fn push_enum(
     text: &mut String,
     module_name: &str,
     title: &str,

@@ -174,12 +174,14 @@ pub struct EnumValue {
 static RESERVED_IN_RUST: [&str; 2] = ["", "Self"];
 
 /// What the source of a table in C defines, without the table's name and `_`.
-static RESERVED_IN_C: [&str; 9] = [
+static RESERVED_IN_C: [&str; 11] = [
     "dataLength",
     "fastLimit",
     "get",
     "highStart",
     "index1",
+    "open",
+    "table",
     "trie",
     "trieData",
     "trieIndex",
@@ -444,7 +446,7 @@ fn push_conversion_end(text: &mut String, bits: u32, count: usize) -> Result<(),
 
 /// Appends the values as an enum in Rust with this title, and the `match` over their numbers. Its
 /// last arm is for numbers of so many bits without a name, if there are any.
-fn push_rust_enum(
+pub(crate) fn push_rust_enum(
     text: &mut String,
     title: &str,
     bits: u32,
@@ -462,7 +464,10 @@ fn push_rust_enum(
 
 /// Returns the name of the enum in Rust: the words of the module's name, and `Value` behind them if
 /// the words have a meaning in the source, as `Table` beside a module `Table`.
-pub(crate) fn enum_name(alloc: Global, module_name: &str) -> Result<String, AllocError>
+///
+/// # Errors
+/// Returns [`AllocError`] if an allocation fails.
+pub fn enum_name(alloc: Global, module_name: &str) -> Result<String, AllocError>
     ensures { IfOk result (λ text. string_bytes text ≡ enum_name module_name.now) }
 {
     let mut name = String::new(alloc);
@@ -485,7 +490,11 @@ pub(crate) fn highest_of(bits: u32) -> usize
 }
 
 /// Appends the attributes of an enum in Rust, which is named after the module.
-fn push_attributes(text: &mut String, module_name: &str, bits: u32) -> Result<(), AllocError>
+pub(crate) fn push_attributes(
+    text: &mut String,
+    module_name: &str,
+    bits: u32,
+) -> Result<(), AllocError>
     ensures { OnOk result (string_bytes text.new
         ≡ string_bytes text.old ++ rust_attributes module_name.now bits) }
 {
@@ -572,6 +581,10 @@ pub fn names_source(
         → IfOk result (λ text. (values : List EnumValue)
         × (AreValuesOf false (listed usize.MAX [] names.now) values
         × (string_bytes text ≡ c_enum table.now values))) }
+    ensures bks { (table : Bor (List ℕ)) → form.entry ≡ Form.Bks table → has_enum names.now ≡ true
+        → IfOk result (λ text. (values : List EnumValue)
+        × (AreValuesOf false (listed usize.MAX [] names.now) values
+        × (string_bytes text ≡ c_enum table.now values))) }
     ensures rust { (module_name : Bor (List ℕ)) → form.entry ≡ Form.Rust module_name
         → has_enum names.now ≡ true
         → IfOk result (λ text. (values : List EnumValue) × (AreRustValues bits names.now values
@@ -584,7 +597,7 @@ pub fn names_source(
     }
     match form {
         Form::Rust(module_name) => rust_names(alloc, module_name, bits, names),
-        Form::C(table) => c_names(alloc, table, names),
+        Form::C(table) | Form::Bks(table) => c_names(alloc, table, names),
         _ => Ok(String::new(alloc)),
     }
 }

@@ -1,6 +1,6 @@
 //! How many bits a value has in a file.
-ghost use Rattle.std.specs.Prelude.{◌≡◌, ◌^◌, nat_lt};
-ghost use Rattle.ucptrie_tables.specs.ValueWidth.{bits_of, bytes_of, code_of};
+ghost use Rattle.std.specs.Prelude.{◌≡◌, ◌^◌, ◌<◌, nat_lt};
+ghost use Rattle.ucptrie_tables.specs.ValueWidth.{bits_of, bytes_of, code_of, width_of};
 
 use std::fmt;
 
@@ -13,6 +13,20 @@ pub enum ValueWidth {
 }
 
 impl ValueWidth {
+    /// Returns the fewest bits that a value fits.
+    pub fn of_value(value: u32) -> ValueWidth
+        ensures fits { value < 2 ^ bits_of result }
+        ensures fewest { result ≡ width_of value }
+    {
+        if value < 0x100 {
+            ValueWidth::Bits8
+        } else if value < 0x1_0000 {
+            ValueWidth::Bits16
+        } else {
+            ValueWidth::Bits32
+        }
+    }
+
     /// Returns the number of bits: 8, 16 or 32.
     pub fn bits(self) -> u32
         ensures { result ≡ bits_of self }

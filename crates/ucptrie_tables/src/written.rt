@@ -1,5 +1,5 @@
 //! A table as the bytes of a file.
-ghost use Rattle.std.specs.Prelude.{◌≡◌, ◌^◌, ◌<◌, ◌++◌, ℕ, List, [], ◌∷◌, None, Some, IfErr, IfOk, OnOk, string_bytes};
+ghost use Rattle.std.specs.Prelude.{◌≡◌, ◌^◌, ◌<◌, ◌++◌, ℕ, List, [], ◌∷◌, None, Some, true, IfErr, IfOk, OnOk, string_bytes};
 ghost use Rattle.std.specs.Borrow.{Bor};
 ghost use Rattle.serde_json.specs.Written.{compact_text};
 ghost use Rattle.icu_zerovec.specs.CodePoints.{code_point_limit};
@@ -13,9 +13,10 @@ ghost use Rattle.icu_trie_formats.specs.TrieJson.{json_of};
 ghost use Rattle.ucptab_table.specs.TableText.{runs_text};
 ghost use Rattle.ucptrie_tables.specs.Inside.Numbers.{HasNumbersOf, IsWhyNotNarrowed};
 ghost use Rattle.ucptrie_tables.specs.Stated.{stating_lines, StatesValues};
-ghost use Rattle.ucptrie_tables.specs.TableSource.{c_text, rust_text, toml_text};
-ghost use Rattle.ucptrie_tables.specs.Tables.{binary_bytes, HasBinaryForm, IsWhyNotWritten};
+ghost use Rattle.ucptrie_tables.specs.TableSource.{bks_text, c_text, rust_text, toml_text};
+ghost use Rattle.ucptrie_tables.specs.Tables.{binary_bytes, has_binary, HasBinaryForm, IsWhyNotWritten};
 
+use crate::bks_source::bks_source;
 use crate::c_source::c_text;
 use crate::error::TableBuildError;
 use crate::rust_source::rust_text;
@@ -44,6 +45,9 @@ pub enum Form<'a> {
     Json,
     /// Source in C. Each of its names starts with this one.
     C(&'a str),
+    /// Source in C for `bekstaudi.h`: the bytes of ICU's binary form. Each of its names starts with
+    /// this one.
+    Bks(&'a str),
     /// Source in Rust: a module of this name.
     Rust(&'a str),
     /// The rows of `ucptab`, a line for each range of equal values, after comments that state the
@@ -81,6 +85,16 @@ fn binary(alloc: Global, table: &Table) -> Result<Vec<u8>, TableBuildError>
     }
 }
 
+/// Returns the table in C for `bekstaudi.h`.
+fn bks_text(alloc: Global, table: &Table, name: &str) -> Result<String, TableBuildError>
+    ensures ok { IfOk result (λ text. string_bytes text ≡ bks_text name.now table.now) }
+    ensures room { OnOk result (HasBinaryForm table.now) }
+    ensures err { IfErr result (IsWhyNotWritten Form.Icu table.now) }
+{
+    let bytes = binary(alloc, table)?;
+    Ok(bks_source(alloc, table, &bytes, name)?)
+}
+
 /// Returns the table in JSON, in one line.
 fn json_text(alloc: Global, table: &Table) -> Result<String, MemoryError>
     ensures { IfOk result (λ text. string_bytes text
@@ -94,7 +108,7 @@ fn json_text(alloc: Global, table: &Table) -> Result<String, MemoryError>
 /// Returns the table in a form, as the bytes of a file.
 ///
 /// # Errors
-/// Returns [`TableBuildError::Width`] in ICU's binary form for the first value that has more bits than
+/// Returns [`TableBuildError::Width`] in ICU's binary form, in a file or in C, for the first value that has more bits than
 /// the table's width: the error value, the null value, or a cell of the data, in this order.
 /// Returns [`TableBuildError::Binary`] if ICU's binary form has no room for the trie. Returns
 /// [`TableBuildError::Table`] if an allocation fails.
@@ -107,6 +121,8 @@ pub fn written(alloc: Global, table: &Table, form: Form<'_>) -> Result<Vec<u8>, 
         → IfOk result (λ bytes. bytes.items ≡ toml_text table.now) }
     ensures c { (name : Bor (List ℕ)) → form.entry ≡ Form.C name
         → IfOk result (λ bytes. bytes.items ≡ c_text name.now table.now) }
+    ensures bks { (name : Bor (List ℕ)) → form.entry ≡ Form.Bks name
+        → IfOk result (λ bytes. bytes.items ≡ bks_text name.now table.now) }
     ensures rust { (name : Bor (List ℕ)) → form.entry ≡ Form.Rust name
         → IfOk result (λ bytes. bytes.items ≡ rust_text name.now table.now) }
     ensures rows { form.entry ≡ Form.Rows → IsCoherentTrie (fitting (2 ^ 32)) table.now.trie
@@ -116,7 +132,7 @@ pub fn written(alloc: Global, table: &Table, form: Form<'_>) -> Result<Vec<u8>, 
         × (bytes.items ≡ stating_lines table.now.trie ++ runs_text runs))) }
     ensures stated { form.entry ≡ Form.Rows
         → IfOk result (λ bytes. StatesValues table.now.trie bytes.items) }
-    ensures room { form.entry ≡ Form.Icu → OnOk result (HasBinaryForm table.now) }
+    ensures room { has_binary form.entry ≡ true → OnOk result (HasBinaryForm table.now) }
     ensures err { IfErr result (IsWhyNotWritten form.entry table.now) }
 {
     let text = match form {
@@ -124,6 +140,7 @@ pub fn written(alloc: Global, table: &Table, form: Form<'_>) -> Result<Vec<u8>, 
         Form::Toml => toml_text(alloc, table)?,
         Form::Json => json_text(alloc, table)?,
         Form::C(name) => c_text(alloc, table, name)?,
+        Form::Bks(name) => bks_text(alloc, table, name)?,
         Form::Rust(name) => rust_text(alloc, table, name)?,
         Form::Rows => rows_text(alloc, &table.trie)?,
     };

@@ -33,6 +33,11 @@ pub returns-clause-c : goal.returns-clause-c
 returns-clause-c c = λ name is.
     IfOk-weaker c.written.result _ _ (λ bytes text. (c.in_ok-table.table, (c.in_ok-table.ensures.ok, text))) (c.written.ensures.c name is)
 
+pub returns-clause-bks : goal.returns-clause-bks
+returns-clause-bks c = λ name is.
+    IfOk-weaker c.written.result _ _ (λ bytes text. (c.in_ok-table.table, (c.in_ok-table.ensures.ok, text)))
+    (c.written.ensures.bks name is)
+
 pub returns-clause-rust : goal.returns-clause-rust
 returns-clause-rust c = λ name is.
     IfOk-weaker c.written.result _ _ (λ bytes text. (c.in_ok-table.table, (c.in_ok-table.ensures.ok, text)))

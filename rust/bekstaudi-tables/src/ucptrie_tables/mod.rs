@@ -10,6 +10,8 @@
 //! - `toml_names`: the names of the values of such a property; `other_toml`: what a TOML file has
 //!   in place of a trie
 //! - `unicode_file`: the table of a file of the Unicode Character Database
+//! - `join`: several tables in one, whose values are the combinations that occur; `join_source`:
+//!   the properties of such a table in C and in Rust
 //! - `written`: a table in one of the forms, as the bytes of a file
 //! - `stated`: the null value and the error value in comments among rows
 //! - `shown`: what a table is, in lines, and its ranges; `sizes`: the bounds on its cells
@@ -19,7 +21,7 @@
 //! - `rebuild`: the same values in a trie of another type, with another width or error value
 //! - `asked`: the numbers that words and texts ask for
 //! - `source`: names in C and in Rust; `c_source` and `rust_source` write these; `cells`: the cells
-//!   of a trie as numbers in a text
+//!   of a trie as numbers in a text; `bks_source` writes C for `bekstaudi.h`
 //! - `toml_text`: a table in TOML
 //! - `value_names`: names of values in C and in Rust; `static_source`: a static trie in Rust
 //! - `names_list`: names of values as lines `NUMBER;NAME`
@@ -28,12 +30,15 @@
 use crate::host::*;
 use crate::support::prelude::*;
 pub mod asked;
+mod bks_source;
 mod c_source;
 mod cells;
 pub mod compare;
 pub mod diff;
 pub mod error;
 pub mod explain;
+pub mod join;
+pub mod join_source;
 pub mod names_list;
 pub mod other_toml;
 pub mod parsed;

@@ -136,12 +136,14 @@ pub struct EnumValue {
 static RESERVED_IN_RUST: [&str; 2] = ["", "Self"];
 
 /// What the source of a table in C defines, without the table's name and `_`.
-static RESERVED_IN_C: [&str; 9] = [
+static RESERVED_IN_C: [&str; 11] = [
     "dataLength",
     "fastLimit",
     "get",
     "highStart",
     "index1",
+    "open",
+    "table",
     "trie",
     "trieData",
     "trieIndex",
@@ -356,7 +358,7 @@ fn push_conversion_end(text: &mut String, bits: u32, count: usize) -> Result<(),
 
 /// Appends the values as an enum in Rust with this title, and the `match` over their numbers. Its
 /// last arm is for numbers of so many bits without a name, if there are any.
-fn push_rust_enum(
+pub(crate) fn push_rust_enum(
     text: &mut String,
     title: &str,
     bits: u32,
@@ -371,7 +373,10 @@ fn push_rust_enum(
 
 /// Returns the name of the enum in Rust: the words of the module's name, and `Value` behind them if
 /// the words have a meaning in the source, as `Table` beside a module `Table`.
-pub(crate) fn enum_name(module_name: &str) -> Result<String, AllocError> {
+///
+/// # Errors
+/// Returns [`AllocError`] if an allocation fails.
+pub fn enum_name(module_name: &str) -> Result<String, AllocError> {
     let mut name = String::new();
     push_words(&mut name, module_name.as_bytes())?;
     if [module_name, "", "Option", "Result", "Self", "TryFrom"].contains(&name.as_str()) {
@@ -390,7 +395,11 @@ pub(crate) fn highest_of(bits: u32) -> usize {
 }
 
 /// Appends the attributes of an enum in Rust, which is named after the module.
-fn push_attributes(text: &mut String, module_name: &str, bits: u32) -> Result<(), AllocError> {
+pub(crate) fn push_attributes(
+    text: &mut String,
+    module_name: &str,
+    bits: u32,
+) -> Result<(), AllocError> {
     push_pattern(text, MODULE, module_name, &[Decimal(bits as usize)])
 }
 
@@ -447,7 +456,7 @@ pub fn names_source(form: Form<'_>, bits: u32, names: &[Name<'_>]) -> Result<Str
     }
     match form {
         Form::Rust(module_name) => rust_names(module_name, bits, names),
-        Form::C(table) => c_names(table, names),
+        Form::C(table) | Form::Bks(table) => c_names(table, names),
         _ => Ok(String::new()),
     }
 }

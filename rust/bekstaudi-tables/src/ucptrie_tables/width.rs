@@ -13,6 +13,17 @@ pub enum ValueWidth {
 }
 
 impl ValueWidth {
+    /// Returns the fewest bits that a value fits.
+    pub fn of_value(value: u32) -> ValueWidth {
+        if value < 0x100 {
+            ValueWidth::Bits8
+        } else if value < 0x1_0000 {
+            ValueWidth::Bits16
+        } else {
+            ValueWidth::Bits32
+        }
+    }
+
     /// Returns the number of bits: 8, 16 or 32.
     pub fn bits(self) -> u32 {
         match self {

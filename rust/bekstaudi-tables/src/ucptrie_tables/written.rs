@@ -3,6 +3,7 @@
 use crate::host::*;
 use crate::support::prelude::*;
 use crate::ucptab_table::error::TableError;
+use crate::ucptrie_tables::bks_source::bks_source;
 use crate::ucptrie_tables::c_source::c_text;
 use crate::ucptrie_tables::error::TableBuildError;
 use crate::ucptrie_tables::rust_source::rust_text;
@@ -29,6 +30,9 @@ pub enum Form<'a> {
     Json,
     /// Source in C. Each of its names starts with this one.
     C(&'a str),
+    /// Source in C for `bekstaudi.h`: the bytes of ICU's binary form. Each of its names starts with
+    /// this one.
+    Bks(&'a str),
     /// Source in Rust: a module of this name.
     Rust(&'a str),
     /// The rows of `ucptab`, a line for each range of equal values, after comments that state the
@@ -55,6 +59,12 @@ fn binary(table: &Table) -> Result<Vec<u8>, TableBuildError> {
     }
 }
 
+/// Returns the table in C for `bekstaudi.h`.
+fn bks_text(table: &Table, name: &str) -> Result<String, TableBuildError> {
+    let bytes = binary(table)?;
+    Ok(bks_source(table, &bytes, name)?)
+}
+
 /// Returns the table in JSON, in one line.
 fn json_text(table: &Table) -> Result<String, MemoryError> {
     let mut text = to_json(&table.trie)?.to_string();
@@ -65,7 +75,7 @@ fn json_text(table: &Table) -> Result<String, MemoryError> {
 /// Returns the table in a form, as the bytes of a file.
 ///
 /// # Errors
-/// Returns [`TableBuildError::Width`] in ICU's binary form for the first value that has more bits than
+/// Returns [`TableBuildError::Width`] in ICU's binary form, in a file or in C, for the first value that has more bits than
 /// the table's width: the error value, the null value, or a cell of the data, in this order.
 /// Returns [`TableBuildError::Binary`] if ICU's binary form has no room for the trie. Returns
 /// [`TableBuildError::Table`] if an allocation fails.
@@ -75,6 +85,7 @@ pub fn written(table: &Table, form: Form<'_>) -> Result<Vec<u8>, TableBuildError
         Form::Toml => toml_text(table)?,
         Form::Json => json_text(table)?,
         Form::C(name) => c_text(table, name)?,
+        Form::Bks(name) => bks_text(table, name)?,
         Form::Rust(name) => rust_text(table, name)?,
         Form::Rows => rows_text(&table.trie)?,
     };

@@ -10,7 +10,7 @@ use crate::ucptab_table::message::row_message;
 use crate::ucptab_table::rows::{after, before, code_points_of, content_of, trimmed};
 use crate::ucptrie::compressed::expect_lines;
 use crate::ucptrie::error::{Error, about, said};
-use crate::ucptrie::forms::is_made;
+use crate::ucptrie::file_forms::is_made;
 use crate::ucptrie::names::expect_names;
 use crate::ucptrie::tables::{form, number, trie_type, width};
 use crate::ucptrie::unicode_files::{
@@ -36,7 +36,7 @@ pub fn options(matches: &ArgMatches<'_>) -> TableOptions {
 
 /// Returns what a table of rows is to be. Comments among the rows may state the values that the
 /// arguments do not give.
-fn options_of_rows(matches: &ArgMatches<'_>, rows: &[u8]) -> TableOptions {
+pub fn options_of_rows(matches: &ArgMatches<'_>, rows: &[u8]) -> TableOptions {
     let stated = stated_values(rows);
     TableOptions {
         default: number(matches, "default").or(stated.null).unwrap_or(0),

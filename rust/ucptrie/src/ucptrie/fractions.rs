@@ -10,7 +10,7 @@ use crate::ucd_files::names::{Name, Numbering, short_decimal};
 use crate::ucd_files::order::text_of_line;
 use crate::ucd_files::statement::Columns;
 use crate::ucptab_table::input::first_line;
-use crate::ucptrie::choice::{UnicodeFile, numbering};
+use crate::ucptrie::numbering::{UnicodeFile, numbering};
 use crate::ucptrie::properties::push_text;
 use crate::ucptrie::streams::say;
 

@@ -6,8 +6,9 @@ use crate::support::AllocError;
 use crate::support::prelude::*;
 use crate::ucd_files::title::{note_of, title_of};
 use crate::ucptab_table::input::first_line;
+use crate::ucptrie::arguments::{Argument, arguments_of};
+use crate::ucptrie::columns::Input;
 use crate::ucptrie::tables::number;
-use crate::ucptrie::words::{Argument, arguments_of};
 
 /// Returns whether a shell reads the word as it is.
 fn is_bare(word: &str) -> bool {
@@ -67,6 +68,15 @@ fn push_aliases(text: &mut String, matches: &ArgMatches<'_>) -> Result<(), Alloc
     Ok(())
 }
 
+/// Appends the files of a join, without their folders, and their properties.
+fn push_files(text: &mut String, matches: &ArgMatches<'_>) -> Result<(), AllocError> {
+    for path in matches.get_strs("files").unwrap_or(&[]) {
+        text.try_push(' ')?;
+        push_word(text, base_name(path))?;
+    }
+    Ok(())
+}
+
 /// Appends an option with a number, if it is given.
 fn push_number(text: &mut String, matches: &ArgMatches<'_>, id: &str) -> Result<(), AllocError> {
     match number(matches, id) {
@@ -100,6 +110,7 @@ fn push_argument(
             text.try_push(' ')?;
             push_word(text, base_name(matches.get_str("file").unwrap_or("-")))
         }
+        ("files", _) => push_files(text, matches),
         ("aliases", _) => push_aliases(text, matches),
         (id, ValueParser::Signed(_, _)) => push_number(text, matches, id),
         (id, _) => push_text(text, matches, id, argument.default),
@@ -165,7 +176,7 @@ fn push_origin(text: &mut String, path: &str, input: &[u8]) -> Result<(), AllocE
 fn is_source(matches: &ArgMatches<'_>) -> bool {
     matches!(
         matches.get_str("as"),
-        Some("c" | "rust" | "c-frozen" | "rust-frozen" | "rust-static")
+        Some("bks" | "c" | "rust" | "c-frozen" | "rust-frozen" | "rust-static")
     )
 }
 
@@ -194,6 +205,30 @@ pub fn with_heading(
         return Ok(bytes);
     }
     let mut whole = heading(command, matches, path, input)?.into_bytes();
+    whole.try_extend_from_slice(&bytes)?;
+    Ok(whole)
+}
+
+/// Returns the first lines of source that `join` makes of these inputs.
+fn headings(matches: &ArgMatches<'_>, inputs: &[Input<'_>]) -> Result<String, AllocError> {
+    let mut text = String::new();
+    push_command(&mut text, "join", matches)?;
+    for input in inputs {
+        push_origin(&mut text, input.path, &input.bytes)?;
+    }
+    Ok(text)
+}
+
+/// Returns what `join` writes, with the first lines before it if it is source.
+pub fn with_headings(
+    matches: &ArgMatches<'_>,
+    inputs: &[Input<'_>],
+    bytes: Vec<u8>,
+) -> Result<Vec<u8>, AllocError> {
+    if !is_source(matches) {
+        return Ok(bytes);
+    }
+    let mut whole = headings(matches, inputs)?.into_bytes();
     whole.try_extend_from_slice(&bytes)?;
     Ok(whole)
 }

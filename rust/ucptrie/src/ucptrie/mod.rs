@@ -4,19 +4,25 @@
 use crate::host::*;
 use crate::support::prelude::*;
 mod aliases;
-mod asked;
+mod arguments;
 mod build;
-mod choice;
+mod columns;
+mod combinations;
 mod compressed;
 mod convert;
 mod error;
-mod forms;
+mod file_forms;
 mod fractions;
+mod functions;
+mod get_arguments;
 mod groups;
 mod heading;
+mod join;
 mod line_errors;
+mod list;
 mod missing;
 mod names;
+mod numbering;
 mod offsets;
 mod output;
 mod overlap;
@@ -29,28 +35,29 @@ mod tables;
 mod unicode_files;
 mod wide;
 mod word_lists;
-mod words;
 
 use crate::clap::ArgMatches;
 use crate::clap::error::ErrorKind;
 use crate::host::process::ExitCode;
 use crate::host::{env, io};
 use crate::support::AllocError;
-use crate::ucptrie::asked::asked;
+use crate::ucptrie::arguments::program_words;
 use crate::ucptrie::build::build;
 use crate::ucptrie::compressed::compressed_line;
 use crate::ucptrie::convert::convert;
 use crate::ucptrie::error::{Error, about, about_arguments, said};
+use crate::ucptrie::get_arguments::asked;
 use crate::ucptrie::heading::with_heading;
+use crate::ucptrie::join::join;
+use crate::ucptrie::list::list;
 use crate::ucptrie::names::test_name;
 use crate::ucptrie::offsets::{Start, start_of};
 use crate::ucptrie::output::{deliver, target_of};
 use crate::ucptrie::progress::{report, started};
 use crate::ucptrie::sets::set;
-use crate::ucptrie::streams::{INPUT, bytes_at, input_name, put, say, without_mark};
+use crate::ucptrie::streams::{bytes_at, input_name, put, read_twice, say, without_mark};
 use crate::ucptrie::tables::{number, table_at};
 use crate::ucptrie::word_lists::word_list;
-use crate::ucptrie::words::program_words;
 use crate::ucptrie_tables::diff::differences_text;
 use crate::ucptrie_tables::explain::explained;
 use crate::ucptrie_tables::shown::{answered, shown};
@@ -59,11 +66,6 @@ use crate::ucptrie_tables::table::Table;
 /// Returns whether an input is standard input.
 fn is_input(path: &str) -> bool {
     path == "-"
-}
-
-/// Returns the fault of two inputs that are standard input.
-fn read_twice() -> Error {
-    about_arguments(INPUT, "can be read once, and two inputs are -")
 }
 
 /// Tests that not both of two inputs are standard input, all of which the first one reads.
@@ -203,6 +205,8 @@ fn diff(rt: &HostRuntime, matches: &ArgMatches<'_>) -> Result<u8, Error> {
 fn run(rt: &HostRuntime, name: &str, matches: &ArgMatches<'_>) -> Result<u8, Error> {
     match name {
         "build" | "convert" | "set" | "words" => make(rt, name, matches)?,
+        "join" => join(rt, matches)?,
+        "list" => list(rt, matches)?,
         "show" => show(rt, matches)?,
         "get" | "explain" => get(rt, name, matches)?,
         _ => return diff(rt, matches),

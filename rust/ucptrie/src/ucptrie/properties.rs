@@ -46,7 +46,10 @@ pub fn push_new<'f>(names: &mut ValueNames<'f>, text: &'f [u8]) -> Result<(), Al
 }
 
 /// Returns the properties in the lines of a file, in order of first appearance.
-fn properties_in<'f>(columns: Columns<'_>, file: &'f [u8]) -> Result<ValueNames<'f>, AllocError> {
+pub fn properties_in<'f>(
+    columns: Columns<'_>,
+    file: &'f [u8],
+) -> Result<ValueNames<'f>, AllocError> {
     let mut names = ValueNames::new();
     let mut rest = file;
     while let Some((line, after)) = first_line(rest) {
@@ -108,7 +111,7 @@ fn has_field_in(n: usize, line: &[u8]) -> bool {
 }
 
 /// Returns whether a line of a file has field `n`.
-fn is_field_of(n: usize, file: &[u8]) -> bool {
+pub fn is_field_of(n: usize, file: &[u8]) -> bool {
     let mut rest = file;
     while let Some((line, after)) = first_line(rest) {
         rest = after;

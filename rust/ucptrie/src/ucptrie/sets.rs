@@ -10,13 +10,13 @@ use crate::ucd_files::statement::Columns;
 use crate::ucd_files::title::title_of;
 use crate::ucd_files::value_names::ValueNames;
 use crate::ucptrie::build::unbuilt;
-use crate::ucptrie::choice::UnicodeFile;
 use crate::ucptrie::compressed::expect_lines;
 use crate::ucptrie::error::{Error, about, about_arguments};
-use crate::ucptrie::forms::{is_json, is_toml};
+use crate::ucptrie::file_forms::{is_json, is_toml};
 use crate::ucptrie::groups::numbers_in_group;
 use crate::ucptrie::missing::{default_of, test_numbers, test_own_names};
 use crate::ucptrie::names::name_in;
+use crate::ucptrie::numbering::UnicodeFile;
 use crate::ucptrie::offsets::{has_tries, start_of, starts_trie};
 use crate::ucptrie::streams::say;
 use crate::ucptrie::tables::{number, table_in};
@@ -388,6 +388,7 @@ fn set_form<'a>(matches: &ArgMatches<'a>) -> SetForm<'a> {
         Some("c") => SetForm::C(name),
         Some("c-frozen") => SetForm::FrozenC(name),
         Some("rust") => SetForm::Rust(name),
+        Some("rust-static") => SetForm::RustStatic(name),
         Some("rust-frozen") => SetForm::FrozenRust(name),
         _ => SetForm::Rows,
     }

@@ -4,13 +4,18 @@ use crate::host::*;
 use crate::host::{fs, io};
 use crate::support::prelude::*;
 use crate::ucptrie::compressed::{expect_decompressed, expect_lines};
-use crate::ucptrie::error::{Error, about};
+use crate::ucptrie::error::{Error, about, about_arguments};
 
 /// The name of standard input in messages.
 pub const INPUT: &str = "standard input";
 
 /// The name of standard output in messages.
 const OUTPUT: &str = "standard output";
+
+/// Returns the fault of two inputs that are standard input.
+pub fn read_twice() -> Error {
+    about_arguments(INPUT, "can be read once, and two inputs are -")
+}
 
 /// Returns the name of an input in messages. `-` is standard input.
 pub fn input_name(path: &str) -> &str {

@@ -5,7 +5,7 @@ use crate::support::AllocError;
 use crate::support::prelude::*;
 use crate::ucptrie::compressed::expect_text;
 use crate::ucptrie::error::{Error, about, said};
-use crate::ucptrie::forms::is_toml;
+use crate::ucptrie::file_forms::is_toml;
 use crate::ucptrie::names::name_in;
 use crate::ucptrie::offsets::{Start, from_trie, starts_trie};
 use crate::ucptrie::streams::{bytes_at, input_name, without_mark};
@@ -52,6 +52,7 @@ pub fn form<'a>(matches: &ArgMatches<'a>) -> Form<'a> {
         Some("toml") => Form::Toml,
         Some("json") => Form::Json,
         Some("c") => Form::C(name),
+        Some("bks") => Form::Bks(name),
         Some("rust" | "rust-static") => Form::Rust(name),
         _ => Form::Rows,
     }

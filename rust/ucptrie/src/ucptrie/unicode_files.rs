@@ -15,12 +15,12 @@ use crate::ucptab_table::message::line_message;
 use crate::ucptab_table::rows::content_of;
 use crate::ucptrie::aliases::{Aliases, name_in_lines, name_in_values, named_aliases};
 use crate::ucptrie::build::{options, unbuilt};
-use crate::ucptrie::choice::{UnicodeFile, choice_of, numbering};
 use crate::ucptrie::error::{Error, about, about_arguments, said};
 use crate::ucptrie::fractions::{say_fractions, say_reading};
 use crate::ucptrie::line_errors::fault_line;
 use crate::ucptrie::missing::{default_of, say_missing, test_numbers, test_own_names};
 use crate::ucptrie::names::{is_list, say_many_in};
+use crate::ucptrie::numbering::{UnicodeFile, choice_of, numbering};
 use crate::ucptrie::overlap::{Conflict, conflict_of_texts, find_conflict, has_values_of};
 use crate::ucptrie::properties::{expect_field, has_unihan_property, missing_property};
 use crate::ucptrie::static_trie::{is_static, with_static};
@@ -72,7 +72,7 @@ pub fn not_of_rows(option: &str) -> Error {
 
 /// The properties of `UnicodeData.txt` with one value for each code point: the short and the long
 /// name, and the field.
-static UNICODE_DATA: [(&str, &str, usize); 11] = [
+pub static UNICODE_DATA: [(&str, &str, usize); 11] = [
     ("na", "Name", 1),
     ("gc", "General_Category", 2),
     ("ccc", "Canonical_Combining_Class", 3),
@@ -119,7 +119,7 @@ fn unicode_data_field(name: &str, property: Option<&str>) -> Result<usize, Error
 
 /// Returns whether a file is `CaseFolding.txt`, and no property but the simple case folding is
 /// named.
-fn is_simple_folding(file: &[u8], property: Option<&str>) -> bool {
+pub fn is_simple_folding(file: &[u8], property: Option<&str>) -> bool {
     match title_of(file) {
         Some(title) if title.starts_with(b"CaseFolding".as_slice()) => match property {
             Some(property) => is_named("scf", "Simple_Case_Folding", property.as_bytes()),
@@ -395,12 +395,14 @@ fn written_of_file(
     Ok(with_names(matches, bytes, form, table.width, &[])?)
 }
 
-/// Returns what the table of a file is to be.
+/// Returns what the table of a file is to be. `how` is what is said if no line says which value
+/// the other code points have.
 fn options_of_file(
     matches: &ArgMatches<'_>,
     file: &UnicodeFile<'_>,
     choice: &Choice<'_>,
     numbering: Numbering<'_>,
+    how: &'static str,
 ) -> Result<TableOptions, Error> {
     let given = options(matches);
     let needs_default = match choice.kind {
@@ -409,7 +411,6 @@ fn options_of_file(
         ValueKind::Set | ValueKind::Binary => false,
     };
     if needs_default && number(matches, "default").is_none() {
-        let how = "no line says which value the other code points have: give --default NUMBER";
         let how = why_no_default(file.columns, how);
         let default = default_of(matches, file, numbering, given.default, how)?;
         return Ok(TableOptions { default, ..given });
@@ -417,12 +418,15 @@ fn options_of_file(
     Ok(given)
 }
 
-/// Returns the table of a file, whose values have these names, in the form that the arguments name.
-fn built_of_file(
+/// Tests what the lines of a file say, whose values have these names. Returns how the values become
+/// numbers, and what the table is to be. `how` is what is said if no line says which value the
+/// other code points have.
+pub fn tested<'n>(
     matches: &ArgMatches<'_>,
     file: &UnicodeFile<'_>,
-    choice: &Choice<'_>,
-) -> Result<Vec<u8>, Error> {
+    choice: &'n Choice<'n>,
+    how: &'static str,
+) -> Result<(Numbering<'n>, TableOptions), Error> {
     let numbering = numbering(matches, file, choice);
     test_conflicts(file, numbering)?;
     if matches!(numbering, Numbering::Names(_, _)) {
@@ -431,7 +435,21 @@ fn built_of_file(
     if matches.get_str("values").is_none() {
         test_numbers(file, choice)?;
     }
-    let options = options_of_file(matches, file, choice, numbering)?;
+    let options = options_of_file(matches, file, choice, numbering, how)?;
+    Ok((numbering, options))
+}
+
+/// What is said of a file that says too little of code points without a line.
+const NO_DEFAULT: &str =
+    "no line says which value the other code points have: give --default NUMBER";
+
+/// Returns the table of a file, whose values have these names, in the form that the arguments name.
+fn built_of_file(
+    matches: &ArgMatches<'_>,
+    file: &UnicodeFile<'_>,
+    choice: &Choice<'_>,
+) -> Result<Vec<u8>, Error> {
+    let (numbering, options) = tested(matches, file, choice, NO_DEFAULT)?;
     match written_of_file(matches, file, choice, numbering, options) {
         Ok(bytes) => Ok(bytes),
         Err(UnicodeFileError::Build(TableBuildError::Width(value, width))) => {

@@ -112,13 +112,14 @@ const FORM: Argument = Argument {
         "toml",
         "json",
         "c",
+        "bks",
         "rust",
         "rust-static",
         "rows",
         "names",
     ]),
     required: true,
-    help: "The output form; names: lines NUMBER;NAME. An enum in c, rust has at most 4096 names",
+    help: "The output form; names: lines NUMBER;NAME. An enum in source has at most 4096 names",
     ..OPTION
 };
 
@@ -227,6 +228,49 @@ const CONVERT: [Argument; 10] = [
     FILE, PROPERTY, OFFSET, TYPE, WIDTH, ERROR, FORM, NAME, OUTPUT, CHECK,
 ];
 
+/// Files, each with the properties that are wanted.
+const FILES: Argument = Argument {
+    id: "files",
+    place: Place::Words,
+    help: "Files of the Unicode Character Database; of several properties in one, those after `:`",
+    value_name: &["FILE[:PROPERTY,..]"],
+    ..FILE
+};
+
+/// The arguments of `join`: properties, and the form in which their table is written.
+const JOIN: [Argument; 9] = [
+    FILES,
+    ALIASES,
+    Argument {
+        default: &["fast"],
+        ..TYPE
+    },
+    Argument {
+        help: "How many bits a value has; by default the fewest that all values fit",
+        ..WIDTH
+    },
+    Argument {
+        help: "The value above 10FFFF; by default 0, that of 0000",
+        ..ERROR
+    },
+    Argument {
+        required: false,
+        default: &["rows"],
+        help: "The output form; names: lines NUMBER;VALUE;.. with a value of each property",
+        ..FORM
+    },
+    NAME,
+    OUTPUT,
+    CHECK,
+];
+
+/// The arguments of `list`: files.
+const LIST: [Argument; 1] = [Argument {
+    help: "Files of the Unicode Character Database; - for standard input",
+    value_name: &["FILE"],
+    ..FILES
+}];
+
 /// The arguments of `words`: a word list, and the form in which its trie is written.
 const WORDS: [Argument; 6] = [
     Argument {
@@ -241,7 +285,7 @@ const WORDS: [Argument; 6] = [
         ..FORMAT
     },
     Argument {
-        values: ValueParser::Names(&["icu", "c", "rust", "rows"]),
+        values: ValueParser::Names(&["icu", "c", "rust", "rust-static", "rows"]),
         help: "The output form",
         ..FORM
     },
@@ -331,6 +375,7 @@ const SET: [Argument; 11] = [
             "toml",
             "c",
             "rust",
+            "rust-static",
             "c-frozen",
             "rust-frozen",
         ]),
@@ -353,12 +398,17 @@ struct Row {
     arguments: &'static [Argument],
 }
 
-/// The commands.
-static COMMANDS: [Row; 8] = [
+/// The commands that make tables, sets and word lists.
+static MAKING: [Row; 5] = [
     Row {
         name: "build",
         about: "Builds a table from rows or from a file of the Unicode Character Database",
         arguments: &BUILD,
+    },
+    Row {
+        name: "join",
+        about: "Builds a table of several properties, whose values are their combinations",
+        arguments: &JOIN,
     },
     Row {
         name: "convert",
@@ -374,6 +424,15 @@ static COMMANDS: [Row; 8] = [
         name: "words",
         about: "Writes a word list as a unit trie, which ICU's UCharsTrie reads",
         arguments: &WORDS,
+    },
+];
+
+/// The commands that show what files and tables have.
+static SHOWING: [Row; 5] = [
+    Row {
+        name: "list",
+        about: "Prints the properties of files, and how many values each has",
+        arguments: &LIST,
     },
     Row {
         name: "show",
@@ -397,14 +456,30 @@ static COMMANDS: [Row; 8] = [
     },
 ];
 
-/// Returns the arguments of the command with this name, in the order of the help.
-pub fn arguments_of(name: &str) -> &'static [Argument] {
-    for row in &COMMANDS {
+/// Returns the arguments of the command with this name in some rows, or none.
+fn arguments_in(rows: &'static [Row], name: &str) -> &'static [Argument] {
+    for row in rows {
         if row.name == name {
             return row.arguments;
         }
     }
     &[]
+}
+
+/// Returns the arguments of a command that makes something.
+fn making_arguments(name: &str) -> &'static [Argument] {
+    arguments_in(&MAKING, name)
+}
+
+/// Returns the arguments of the command with this name, in the order of the help. Each command has
+/// some.
+pub fn arguments_of(name: &str) -> &'static [Argument] {
+    let making = making_arguments(name);
+    if making.is_empty() {
+        arguments_in(&SHOWING, name)
+    } else {
+        making
+    }
 }
 
 /// Sets what help calls the argument's value.
@@ -450,13 +525,26 @@ fn command_of<'a>(row: &Row) -> Result<Command<'a>, AllocError> {
     Ok(command)
 }
 
-/// Returns the commands in clap's form.
-fn commands<'a>() -> Result<Vec<Command<'a>>, AllocError> {
-    let mut commands = Vec::new();
-    for row in &COMMANDS {
+/// Appends commands in clap's form.
+fn push_commands<'a>(commands: &mut Vec<Command<'a>>, rows: &[Row]) -> Result<(), AllocError> {
+    for row in rows {
         let command = command_of(row)?;
         commands.try_push(command)?;
     }
+    Ok(())
+}
+
+/// Returns the commands that make something in clap's form.
+fn making_commands<'a>() -> Result<Vec<Command<'a>>, AllocError> {
+    let mut commands = Vec::new();
+    push_commands(&mut commands, &MAKING)?;
+    Ok(commands)
+}
+
+/// Returns all commands in clap's form.
+fn commands<'a>() -> Result<Vec<Command<'a>>, AllocError> {
+    let mut commands = making_commands()?;
+    push_commands(&mut commands, &SHOWING)?;
     Ok(commands)
 }
 

@@ -1,0 +1,268 @@
+//! The command `join`: several properties in one table, whose values are the combinations that occur.
+use crate::build::unbuilt;
+use crate::columns::{ColumnValues, Columns, Input, ValueName, columns_of};
+use crate::combinations::{combination_list, combination_names};
+use crate::error::{Error, about, said};
+use crate::functions::test_functions;
+use crate::heading::with_headings;
+use crate::names::{is_list, test_name};
+use crate::output::{deliver, target_of};
+use crate::progress::{report, started};
+use crate::static_trie::is_static;
+use crate::streams::{bytes_at, input_name, read_twice, without_mark};
+use crate::tables::{form, number, trie_type, width};
+use crate::unicode_files::with_names;
+use crate::wide::too_wide;
+use clap::ArgMatches;
+use icu_trie_core::header::TrieType;
+use std::alloc::{AllocError, Global};
+use ucd_files::names::Name;
+use ucptrie_tables::error::TableBuildError;
+use ucptrie_tables::join::{Join, joined};
+use ucptrie_tables::join_source::{JoinedProperty, PropertyValues, properties_source};
+use ucptrie_tables::table::{Table, TableOptions, table_of_writes};
+use ucptrie_tables::value_names::MOST;
+use ucptrie_tables::width::ValueWidth;
+use ucptrie_tables::written::{Form, written};
+
+/// Returns the file in a word `FILE`, or `FILE:PROPERTY,..`, and its properties.
+fn file_of(word: &str) -> (&str, Option<&str>) {
+    match word.rsplit_once(':') {
+        Some((path, properties)) if !properties.contains(['/', '\\']) => (path, Some(properties)),
+        _ => (word, None),
+    }
+}
+
+/// Tests that at most one of the files that the arguments name is standard input.
+fn test_inputs(alloc: Global, matches: &ArgMatches<'_>, words: &[&str]) -> Result<(), Error> {
+    let mut count = 0usize;
+    for word in words {
+        let (path, _) = file_of(word);
+        count = count.saturating_add(usize::from(path == "-"));
+    }
+    for path in matches.get_strs("aliases").unwrap_or(&[]) {
+        count = count.saturating_add(usize::from(*path == "-"));
+    }
+    if count > 1 {
+        return Err(read_twice(alloc));
+    }
+    Ok(())
+}
+
+/// Reads the file of a word.
+fn input_of<'a>(rt: &HostRuntime, word: &'a str) -> Result<Input<'a>, Error> {
+    let (path, properties) = file_of(word);
+    let file = bytes_at(rt, path)?;
+    if file.is_empty() {
+        return Err(about(rt.alloc(), input_name(path), "the input is empty"));
+    }
+    let mut bytes = Vec::new(rt.alloc());
+    bytes.extend_from_slice(without_mark(&file))?;
+    Ok(Input {
+        path: input_name(path),
+        properties,
+        bytes,
+    })
+}
+
+/// Reads the files of words.
+fn inputs_of<'a>(rt: &HostRuntime, words: &[&'a str]) -> Result<Vec<Input<'a>>, Error> {
+    let mut inputs = Vec::new(rt.alloc());
+    for word in words {
+        inputs.push(input_of(rt, word)?)?;
+    }
+    Ok(inputs)
+}
+
+/// Returns how many bytes files have.
+fn size_of(inputs: &[Input<'_>]) -> usize {
+    let mut size = 0usize;
+    for input in inputs {
+        size = size.saturating_add(input.bytes.len());
+    }
+    size
+}
+
+/// Returns the names of values that are copies.
+fn borrowed<'n>(alloc: Global, copies: &'n [ValueName]) -> Result<Vec<Name<'n>>, AllocError> {
+    let mut names = Vec::new(alloc);
+    for copy in copies {
+        names.push(Name {
+            text: &copy.text,
+            number: copy.number,
+        })?;
+    }
+    Ok(names)
+}
+
+/// Returns what the table of a join is to be: its values have the asked width, or else the fewest
+/// bits that all of them and the error value fit.
+fn options(matches: &ArgMatches<'_>, join: &Join) -> TableOptions {
+    let error = number(matches, "error").unwrap_or(0);
+    let last = u32::try_from(join.firsts.len().saturating_sub(1)).unwrap_or(u32::MAX);
+    TableOptions {
+        trie_type: trie_type(matches).unwrap_or(TrieType::Fast),
+        width: width(matches).unwrap_or(ValueWidth::of_value(last.max(error))),
+        default: 0,
+        error,
+    }
+}
+
+/// Returns the value of each combination in a column.
+fn numbers_in(alloc: Global, table: &Table, join: &Join) -> Result<Vec<u32>, AllocError> {
+    let mut numbers = Vec::new(alloc);
+    for first in &join.firsts {
+        numbers.push(table.trie.get32(*first))?;
+    }
+    Ok(numbers)
+}
+
+/// Returns the table of a join. `name` is what faults call it.
+fn table_of(
+    alloc: Global,
+    matches: &ArgMatches<'_>,
+    name: &str,
+    join: &Join,
+) -> Result<Table, Error> {
+    match table_of_writes(alloc, &join.writes, options(matches, join)) {
+        Ok(table) => Ok(table),
+        Err(TableBuildError::Width(value, width)) => {
+            Err(too_wide(alloc, matches, name, None, value, width))
+        }
+        Err(fault) => Err(unbuilt(alloc, name, &[], fault)),
+    }
+}
+
+/// Returns the line about more combinations than an enum has values.
+fn many_line(alloc: Global, count: usize) -> Result<String, AllocError> {
+    let mut line = String::new(alloc);
+    write!(
+        line,
+        "{count} combinations of values, and source has at most {MOST}"
+    )?;
+    Ok(line)
+}
+
+/// Returns the line about an error value that is no combination.
+fn error_line(alloc: Global, error: u32, count: usize) -> Result<String, AllocError> {
+    let mut line = String::new(alloc);
+    write!(
+        line,
+        "--error: the value {error} is none of the {count} combinations, as in source it has to be"
+    )?;
+    Ok(line)
+}
+
+/// Tests that source can have this many combinations, and that the error value is one of them.
+fn test_source(alloc: Global, matches: &ArgMatches<'_>, count: usize) -> Result<(), Error> {
+    if count > MOST {
+        return Err(said(many_line(alloc, count)));
+    }
+    match number(matches, "error") {
+        Some(error) if count <= error as usize => Err(said(error_line(alloc, error, count))),
+        _ => Ok(()),
+    }
+}
+
+/// Returns the properties of a joined table. `names` are those of the values of each.
+fn properties_of<'n>(
+    alloc: Global,
+    columns: &'n Columns,
+    join: &Join,
+    names: &'n [Vec<Name<'n>>],
+) -> Result<Vec<JoinedProperty<'n>>, AllocError> {
+    let mut properties = Vec::new(alloc);
+    for ((column, table), names) in columns.columns.iter().zip(&columns.tables).zip(names) {
+        properties.push(JoinedProperty {
+            name: column.function.as_str(),
+            values: match &column.values {
+                ColumnValues::Binary => PropertyValues::Binary,
+                ColumnValues::Names(_) => PropertyValues::Names(names),
+                ColumnValues::Numbers => PropertyValues::Numbers,
+            },
+            numbers: numbers_in(alloc, table, join)?,
+        })?;
+    }
+    Ok(properties)
+}
+
+/// Returns the names of the values of each column.
+fn names_of_columns(alloc: Global, columns: &Columns) -> Result<Vec<Vec<Name<'_>>>, AllocError> {
+    let mut all = Vec::new(alloc);
+    for column in &columns.columns {
+        all.push(match &column.values {
+            ColumnValues::Names(copies) => borrowed(alloc, copies)?,
+            _ => Vec::new(alloc),
+        })?;
+    }
+    Ok(all)
+}
+
+/// Appends the source of the combinations and of the properties to that of their table.
+fn with_source(
+    alloc: Global,
+    matches: &ArgMatches<'_>,
+    columns: &Columns,
+    join: &Join,
+    bytes: Vec<u8>,
+    bits: ValueWidth,
+) -> Result<Vec<u8>, Error> {
+    test_source(alloc, matches, join.firsts.len())?;
+    test_functions(alloc, matches, &columns.columns)?;
+    let form = form(matches);
+    let texts = combination_names(alloc, columns, join)?;
+    let names = borrowed(
+        alloc,
+        if matches!(form, Form::C(_) | Form::Bks(_)) {
+            &[]
+        } else {
+            &texts
+        },
+    )?;
+    let mut whole = with_names(alloc, matches, bytes, form, bits, &names)?;
+    let names = names_of_columns(alloc, columns)?;
+    let properties = properties_of(alloc, columns, join, &names)?;
+    let source = properties_source(alloc, form, is_static(matches), &properties)?;
+    whole.extend_from_slice(source.as_bytes())?;
+    Ok(whole)
+}
+
+/// Returns the joined table of columns in the form that the arguments name, or the list of its
+/// values.
+fn made(alloc: Global, matches: &ArgMatches<'_>, columns: &Columns) -> Result<Vec<u8>, Error> {
+    let join = joined(alloc, &columns.tables)?;
+    if is_list(matches) {
+        return Ok(combination_list(alloc, columns, &join)?);
+    }
+    let form = form(matches);
+    let table = table_of(alloc, matches, NAME, &join)?;
+    let bytes = match written(alloc, &table, form) {
+        Ok(bytes) => bytes,
+        Err(fault) => return Err(unbuilt(alloc, NAME, &[], fault)),
+    };
+    match form {
+        Form::C(_) | Form::Bks(_) | Form::Rust(_) => {
+            with_source(alloc, matches, columns, &join, bytes, table.width)
+        }
+        _ => Ok(bytes),
+    }
+}
+
+/// What faults call the joined table.
+const NAME: &str = "the joined table";
+
+/// Sends the joined table of the properties that the arguments name to its target.
+pub fn join(rt: &HostRuntime, matches: &ArgMatches<'_>) -> Result<(), Error> {
+    let start = started(rt);
+    let target = target_of(rt.alloc(), matches)?;
+    test_name(rt.alloc(), matches)?;
+    let words = matches.get_strs("files").unwrap_or(&[]);
+    test_inputs(rt.alloc(), matches, words)?;
+    let inputs = inputs_of(rt, words)?;
+    report(rt, start, "read", size_of(&inputs));
+    let columns = columns_of(rt, matches, &inputs)?;
+    let bytes = made(rt.alloc(), matches, &columns)?;
+    report(rt, start, "made", bytes.len());
+    let whole = with_headings(rt.alloc(), matches, &inputs, bytes)?;
+    deliver(rt, target, &whole, matches.get_str("as") == Some("icu"))
+}
