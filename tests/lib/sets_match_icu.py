@@ -1,0 +1,115 @@
+"""The part of tests/gate/properties_match_icu about sets: what `ucptrie set` makes of Unicode's files, and of
+those that ICU's icuexportdata writes, against ICU at all code points."""
+import glob
+import os
+import re
+import shutil
+
+from scripts import TOP, WITH_ICU, ran, read, write
+
+# The forms that are compared, with the suffixes of their files.
+FORMS = {"icu": "icu", "c": "h", "c-frozen": "frozen.h", "rust": "rs", "rust-frozen": "frozen.rs"}
+# What the two programs include: for each set its sources, and a row of a table.
+IN_C = """{includes}
+static const struct {{ const char *name, *property, *serialized;
+    bool (*contains)(uint32_t), (*frozen)(uint32_t); const uint64_t *words; }} SETS[] = {{
+{rows}
+}};
+"""
+IN_RUST = """{includes}
+type Contains = fn(u32) -> bool;
+static SETS: [(&str, Contains); {count}] = [
+{rows}
+];
+"""
+
+
+def run(words, room):
+    return ran(words, cwd=room)
+
+
+def written(program, room, name, words):
+    """Writes a set in all forms, and returns what went wrong."""
+    for form, end in FORMS.items():
+        to = name + ("_frozen" if end.startswith("frozen") else "")
+        done = run([program, "set", *words, "--as", form, "--name", to, "-o", f"{name}.{end}"], room)
+        if done.returncode or done.stderr:
+            return done.stderr
+    return ""
+
+
+def lists(room, named):
+    """Writes the lists of the sets for the two programs. `named` are names and properties."""
+    each = lambda form: "\n".join(form.format(name, prop) for name, prop in named)
+    includes = each('#include "{0}.h"\n#include "{0}.frozen.h"')
+    rows = each('{{"{0}", "{1}", "{0}.icu", {0}_contains, {0}_frozen_contains, {0}_frozen_words}},')
+    write(f"{room}/sets.h", IN_C.format(includes=includes, rows=rows))
+    includes = each('include!("{0}.rs");\ninclude!("{0}.frozen.rs");')
+    rows = each('("{0}", {0}::contains),\n("{0}", {0}_frozen::contains),')
+    write(f"{room}/sets.rs", IN_RUST.format(includes=includes, rows=rows, count=2 * len(named)))
+
+
+def compared(room):
+    """What ICU's ranges are, and what differs from ICU in the C sources and the serialized sets."""
+    flags = ["-std=c11", "-O1", "-Wall", "-Wextra", "-Werror", f"-I{TOP}/c", "-I."]
+    done = run(["cc", *flags, "-o", "sets", f"{WITH_ICU}/file_sets.c", "-licuuc"], room)
+    if done.returncode or done.stderr:
+        return "", done.stderr
+    done = run(["./sets"], room)
+    return done.stdout, done.stderr
+
+
+def rust_faults(room, named, ranges):
+    """What is wrong with the Rust sources."""
+    if not shutil.which("rustc"):
+        return
+    # The sources are included from where this is.
+    shutil.copy(f"{WITH_ICU}/file_sets.rs", f"{room}/main.rs")
+    done = run(["rustc", "--edition", "2021", "-O", "-D", "warnings", "-o", "main", "main.rs"], room)
+    if done.returncode or done.stderr:
+        yield done.stderr
+        return
+    each = re.split(r"(?m)^(?=[A-Za-z]\w*$)", ranges)[1:]
+    if run(["./main"], room).stdout != "".join(it + it for it in each):
+        yield "the Rust sources have other ranges than ICU\n"
+    if shutil.which("rustfmt"):
+        done = run(["rustfmt", "--check", f"{named[0][0]}.rs", f"{named[0][0]}.frozen.rs"], room)
+        if done.returncode:
+            yield f"rustfmt changes the Rust sources: {done.stdout}{done.stderr}"
+
+
+def exported_faults(program, room):
+    """What is wrong with the sets that are read from the files of icuexportdata."""
+    if not shutil.which("icuexportdata"):
+        return
+    os.mkdir(f"{room}/exported")
+    run(["icuexportdata", "--mode", "uprops", "--all", "--index", "-d", "exported"], room)
+    for path in sorted(glob.glob(f"{room}/exported/*.toml")):
+        text = read(path)
+        if "[[binary_property]]" not in text:
+            continue
+        prop = re.search(r'(?m)^long_name = "(.*)"', text)[1]
+        done = run([program, "set", path, "--property", prop, "--as", "toml"], room)
+        if re.search(r"(?s)ranges = \[.*?\n\]", done.stdout + "ranges = [\n]")[0] not in text:
+            yield f"{prop}: {done.stdout[:80]}{done.stderr}\n"
+            continue
+        done = run([program, "set", path, "--as", "icu", "-o", f"{prop}.exported"], room)
+        if done.returncode:
+            yield f"{prop}: {done.stderr}"
+
+
+def set_faults(program, room, properties):
+    """What is wrong with the sets of these properties: names, and the words that read them."""
+    named = []
+    for prop, words in properties:
+        name = f"set{len(named)}"
+        if wrong := written(program, room, name, words):
+            yield f"the set of {prop}: {wrong}"
+            return
+        named.append((name, prop))
+    lists(room, named)
+    ranges, wrong = compared(room)
+    if wrong:
+        yield wrong
+    yield from rust_faults(room, named, ranges)
+    yield from exported_faults(program, room)
