@@ -1,11 +1,12 @@
 //! The grapheme clusters of a text, what users take for characters: [UAX #29].
 //!
-//! The classes of characters are one static trie, whose values are an enum. This makes it:
+//! The classes of characters are one static trie, whose values are an enum. This command, in the folder of
+//! this crate, makes it:
 //!
 //! ```sh
 //! U=/usr/share/unicode
 //! (cat $U/auxiliary/GraphemeBreakProperty.txt; grep Extended_Pictographic $U/emoji/emoji-data.txt) |
-//!     ./ucptrie build - --width 8 --as rust-static --name breaks -o src/breaks.rs
+//!     ucptrie build - --width 8 --as rust-static --name breaks -o src/breaks.rs
 //! ```
 //!
 //! [UAX #29]: https://www.unicode.org/reports/tr29/
@@ -34,6 +35,8 @@ pub struct Graphemes<'a> {
 impl<'a> Iterator for Graphemes<'a> {
     type Item = &'a str;
 
+    // Without this another crate calls it, which takes two to three times as long.
+    #[inline]
     fn next(&mut self) -> Option<&'a str> {
         let start = self.start;
         let mut before = Before::new(self.first?);
