@@ -259,6 +259,58 @@ static PyObject *set_span_back(code_point_set *self, PyObject *const *args, Py_s
     return start < 0 ? NULL : PyLong_FromSsize_t(at - start);
 }
 
+/* ---- Spans of bytes ---- */
+
+typedef size_t byte_span(const uint64_t *, size_t, const char *, size_t, bool);
+
+/* Reads the arguments text and held, and returns how many bytes the span has. It freezes the set. */
+static PyObject *span_of_bytes(code_point_set *self, const parameters *wanted, PyObject *const *args,
+                               Py_ssize_t count, PyObject *keywords, byte_span *find, bool is_back) {
+    PyObject *found[2], *result = NULL;
+    const void *bytes;
+    Py_ssize_t size;
+    if (sort_arguments(wanted, args, count, keywords, found)) return NULL;
+    int held = found[1] ? PyObject_IsTrue(found[1]) : 1;
+    if (held < 0 || freeze(self)) return NULL;
+    PyObject *owner = readable("text", found[0]), *words = self->words;
+    if (owner && !bytes_of(owner, &bytes, &size)) {
+        size_t end = 0, many = (size_t)PyBytes_Size(words) / sizeof *self->table;
+        const uint64_t *table = self->table;
+        if (size > LONG_CALL) {
+            Py_BEGIN_ALLOW_THREADS
+            end = find(table, many, bytes, (size_t)size, held);
+            Py_END_ALLOW_THREADS
+        } else if (size) {
+            end = find(table, many, bytes, (size_t)size, held);
+        }
+        result = PyLong_FromSize_t(is_back ? (size_t)size - end : end);
+    }
+    Py_XDECREF(owner);
+    return result;
+}
+
+PyDoc_STRVAR(set_span_utf8_text,
+    "span_utf8($self, /, text, held=True)\n--\n\n"
+    "Return how many bytes of UTF-8 the characters in the set take at the start of `text`; if `held` is\n"
+    "false, those outside it.\n\n"
+    "An ill-formed sequence counts as U+FFFD.");
+
+static PyObject *set_span_utf8(code_point_set *self, PyObject *const *args, Py_ssize_t count, PyObject *keywords) {
+    static const parameters wanted = {"span_utf8", {"text", "held", NULL}, 1};
+    return span_of_bytes(self, &wanted, args, count, keywords, bks_frozen_span_lossy, false);
+}
+
+PyDoc_STRVAR(set_span_back_utf8_text,
+    "span_back_utf8($self, /, text, held=True)\n--\n\n"
+    "Return how many bytes of UTF-8 the characters in the set take at the end of `text`; if `held` is\n"
+    "false, those outside it.\n\n"
+    "An ill-formed sequence counts as U+FFFD.");
+
+static PyObject *set_span_back_utf8(code_point_set *self, PyObject *const *args, Py_ssize_t count, PyObject *keywords) {
+    static const parameters wanted = {"span_back_utf8", {"text", "held", NULL}, 1};
+    return span_of_bytes(self, &wanted, args, count, keywords, bks_frozen_span_back_lossy, true);
+}
+
 /* ---- Results, hash and size ---- */
 
 PyObject *set_like(const code_point_set *like, uint32_t *ends, int64_t count) {
@@ -302,6 +354,8 @@ static PyObject *set_size_in_memory(code_point_set *self, PyObject *none) {
 static PyMethodDef methods[] = {
     {"span", METHOD(set_span), METH_FASTCALL | METH_KEYWORDS, set_span_text},
     {"span_back", METHOD(set_span_back), METH_FASTCALL | METH_KEYWORDS, set_span_back_text},
+    {"span_utf8", METHOD(set_span_utf8), METH_FASTCALL | METH_KEYWORDS, set_span_utf8_text},
+    {"span_back_utf8", METHOD(set_span_back_utf8), METH_FASTCALL | METH_KEYWORDS, set_span_back_utf8_text},
     {"isdisjoint", METHOD(set_is_disjoint), METH_O,
      "isdisjoint($self, other, /)\n--\n\n"
      "Return whether the set has no code point in common with another set or iterable of code points."},

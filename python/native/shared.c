@@ -191,10 +191,7 @@ static int view_flag(PyObject *view, const char *name) {
     return flag;
 }
 
-/* Returns the object to read: `data` itself if it is bytes, else a memoryview of it if its bytes are
- * read-only, else a copy as bytes. A memoryview locks its buffer: a mapped file cannot be closed and
- * an array cannot be resized while it exists. */
-static PyObject *readable(const char *name, PyObject *data) {
+PyObject *readable(const char *name, PyObject *data) {
     if (PyBytes_CheckExact(data)) return Py_INCREF(data), data;
     PyObject *view = view_of(name, "a bytes-like object", data);
     int read_only = view ? view_flag(view, "readonly") : -1;

@@ -113,6 +113,11 @@ Py_ssize_t slice_index(const char *name, PyObject *index, Py_ssize_t length, Py_
 int bytes_of(PyObject *owner, const void **bytes, Py_ssize_t *size);
 int writable_bytes_of(PyObject *view, void **bytes, Py_ssize_t *size);
 
+/* Returns the object to read: `data` itself if it is bytes, else a memoryview of it if its bytes are
+ * read-only, else a copy as bytes. A memoryview locks its buffer: a mapped file cannot be closed and
+ * an array cannot be resized while it exists. NULL with an exception set: TypeError if it has no bytes. */
+PyObject *readable(const char *name, PyObject *data);
+
 /* Returns a memoryview of an argument, or NULL with an exception set: TypeError if it has no buffer. */
 PyObject *view_of(const char *name, const char *expected, PyObject *given);
 

@@ -104,6 +104,41 @@ static PyObject *trie_values(over_bytes *self, PyObject *const *args, Py_ssize_t
     return view;
 }
 
+/* Writes the values of the parts of bytes in UTF-8. Returns how many there are. */
+static size_t copy_values(const bks_trie *trie, const char *bytes, size_t size, void *values) {
+    size_t taken;
+    return trie->width == 1   ? bks_trie8_copy_utf8(trie, bytes, size, values, size, &taken)
+           : trie->width == 2 ? bks_trie16_copy_utf8(trie, bytes, size, values, size, &taken)
+                              : bks_trie32_copy_utf8(trie, bytes, size, values, size, &taken);
+}
+
+PyDoc_STRVAR(trie_values_utf8_text,
+    "values_utf8($self, text, /)\n--\n\n"
+    "Return the values of the characters of bytes in UTF-8, as a memoryview of unsigned integers.\n\n"
+    "An ill-formed part, for which `text.decode(errors='replace')` has one U+FFFD, has the error value.");
+
+static PyObject *trie_values_utf8(over_bytes *self, PyObject *given) {
+    const void *bytes;
+    void *values;
+    Py_ssize_t size;
+    size_t count;
+    PyObject *owner = readable("text", given), *view = NULL, *part = NULL;
+    if (owner && !bytes_of(owner, &bytes, &size)) view = new_view(size, (Py_ssize_t)self->trie.width, &values);
+    if (view) {
+        if (size > LONG_CALL) {
+            Py_BEGIN_ALLOW_THREADS
+            count = copy_values(&self->trie, bytes, (size_t)size, values);
+            Py_END_ALLOW_THREADS
+        } else {
+            count = size ? copy_values(&self->trie, bytes, (size_t)size, values) : 0;
+        }
+        part = PySequence_GetSlice(view, 0, (Py_ssize_t)count);
+    }
+    Py_XDECREF(view);
+    Py_XDECREF(owner);
+    return part;
+}
+
 /* Returns the values of a slice of all code points. */
 static PyObject *trie_slice(over_bytes *self, PyObject *slice) {
     Py_ssize_t start, stop, step;
@@ -220,6 +255,7 @@ PyObject *build_trie(PyObject *module, PyObject *args) {
 
 static PyMethodDef methods[] = {
     {"values", METHOD(trie_values), METH_FASTCALL | METH_KEYWORDS, trie_values_text},
+    {"values_utf8", METHOD(trie_values_utf8), METH_O, trie_values_utf8_text},
     {"_ranges", METHOD(trie_ranges_from), METH_O, NULL},
     {"_set_of", METHOD(trie_set_of), METH_O, NULL},
     {"is_coherent", METHOD(trie_is_coherent), METH_NOARGS,

@@ -29,8 +29,7 @@ class ReadInPlace(unittest.TestCase):
             self.assertLess(taken, 4096)
             self.assertEqual((trie, trie.size, trie.data), (Trie(data), len(data), data))
             self.assertEqual(list(trie.ranges()), list(Trie(data).ranges()))
-            with self.assertRaises(BufferError):
-                mapped.close()
+            self.assertRaises(BufferError, mapped.close)
             del trie
             mapped.close()
 
@@ -65,15 +64,12 @@ class ReadInPlace(unittest.TestCase):
             self.assertEqual(len(trie.values(range(0x110001))), 0x110001)
             self.assertLess(max(trie[it] for it in range(0, 0x110001, 7)), 1 << 32)
             self.assertGreaterEqual(len(list(trie.ranges())), 0)
-        with self.assertRaisesRegex(NotATrie, "^the bytes of the trie have changed since it was opened$"):
-            trie.set_of(0)
-        with self.assertRaises(InvalidTrie):
-            Trie(data)
+        self.assertRaisesRegex(NotATrie, "^the bytes of the trie have changed since it was opened$", trie.set_of, 0)
+        self.assertRaises(InvalidTrie, Trie, data)
 
     def test_no_bytes_at_all(self):
         for nothing in (b"", bytearray(), memoryview(b""), array.array("B"), mmap.mmap(-1, 1)[:0]):
-            with self.assertRaises(InvalidTrie):
-                Trie(nothing)
+            self.assertRaises(InvalidTrie, Trie, nothing)
             self.assertEqual(UnitTrie(nothing), UnitTrie(b""))
 
 
@@ -100,11 +96,9 @@ class Arrays(unittest.TestCase):
             for code, wrong in (("b", -1), ("h", -7), ("i", -1), ("q", -(1 << 63)), ("q", 1 << 32), ("Q", (1 << 64) - 1)):
                 points = array.array(code, [65] * count)
                 points[-1] = wrong
-                with self.assertRaisesRegex(ValueError, f" {wrong} is outside"):
-                    self.trie.values(points)
+                self.assertRaisesRegex(ValueError, f" {wrong} is outside", self.trie.values, points)
         for wrong in (array.array("d", [65.0]), [65.0], 65, None):
-            with self.assertRaises(TypeError):
-                self.trie.values(wrong)
+            self.assertRaises(TypeError, self.trie.values, wrong)
 
     def test_long_texts(self):
         text = "aZ9 \u4e16\U0001f600\ud800\0" * 5000
@@ -171,15 +165,11 @@ class Arrays(unittest.TestCase):
                 trie.values("abc", out=array.array(code, [0, 0]))
             with self.assertRaisesRegex(ValueError, f"unsigned integers of {trie.value_bits} bits"):
                 trie.values("abc", out=array.array(code.lower(), [0, 0, 0]))
-            with self.assertRaises(ValueError):
-                trie.values("abc", out=array.array("Q", [0, 0, 0]))
-            with self.assertRaises(ValueError):
-                trie.values("abc", out=memoryview(array.array(code, range(9)))[::2])
-            with self.assertRaises(TypeError):
-                trie.values("abc", out=memoryview(bytes(3 * trie.value_bits // 8)).cast(code))
+            self.assertRaises(ValueError, trie.values, "abc", out=array.array("Q", [0, 0, 0]))
+            self.assertRaises(ValueError, trie.values, "abc", out=memoryview(array.array(code, range(9)))[::2])
+            self.assertRaises(TypeError, trie.values, "abc", out=memoryview(bytes(3 * trie.value_bits // 8)).cast(code))
             for wrong in (5, "abc", [0, 0, 0]):
-                with self.assertRaises(TypeError):
-                    trie.values("abc", out=wrong)
+                self.assertRaises(TypeError, trie.values, "abc", out=wrong)
 
 
 @unittest.skipUnless(numpy, "numpy is not installed")
@@ -197,12 +187,10 @@ class Numpy(unittest.TestCase):
                 room = numpy.zeros(len(points), kind)
                 trie.values(points, out=room)
                 self.assertEqual(room[:5000].tolist(), wanted)
-                with self.assertRaises(ValueError):
-                    trie.values(points, out=numpy.zeros(len(points), "f8"))
+                self.assertRaises(ValueError, trie.values, points, out=numpy.zeros(len(points), "f8"))
                 frozen = numpy.zeros(len(points), kind)
                 frozen.flags.writeable = False
-                with self.assertRaises(TypeError):
-                    trie.values(points, out=frozen)
+                self.assertRaises(TypeError, trie.values, points, out=frozen)
 
     def test_results_without_items(self):
         for name in NAMES:

@@ -70,12 +70,10 @@ class Sets(unittest.TestCase):
                 self.assertEqual(left.isdisjoint(right), mine.isdisjoint(theirs))
         for wrong in ([0x41], 5, None, "A", {0x41: 1}):
             for compare in (operator.le, operator.lt, operator.ge, operator.gt):
-                with self.assertRaises(TypeError):
-                    compare(self.letters, wrong)
+                self.assertRaises(TypeError, compare, self.letters, wrong)
             self.assertNotEqual(self.letters, wrong)
         for wrong in (5, None):
-            with self.assertRaises(TypeError):
-                self.letters.isdisjoint(wrong)
+            self.assertRaises(TypeError, self.letters.isdisjoint, wrong)
 
     def test_other_sets(self):
         tables = [set(), {0x41}, {0x41, 0x42, 7}, set(self.letters), set(self.letters) | {0x10FFFF}, {0x5B}]
@@ -94,10 +92,8 @@ class Sets(unittest.TestCase):
                         self.assertEqual(getattr(made, name)(given), getattr(mine, name)(theirs))
         for operation in (operator.or_, operator.and_, operator.sub, operator.xor):
             for wrong in ({0x41, None}, {1.5}, {"ab"}):
-                with self.assertRaises(TypeError):
-                    operation(self.letters, wrong)
-            with self.assertRaises(InvalidSet):
-                operation(self.letters, {-1})
+                self.assertRaises(TypeError, operation, self.letters, wrong)
+            self.assertRaises(InvalidSet, operation, self.letters, {-1})
 
     def test_methods_of_python_sets(self):
         for made in both_kinds(ENDS[0]):
@@ -166,8 +162,7 @@ class Sets(unittest.TestCase):
         self.assertEqual(CodePointSet.from_ranges([]), CodePointSet())
         self.assertEqual(len(CodePointSet.from_ranges([(0, 0x10FFFF), (5, 6)])), 0x110000)
         for wrong in ((5, 4), (-1, 4), (0, 0x110000), (-9, -8)):
-            with self.assertRaises(InvalidSet):
-                CodePointSet.from_ranges([wrong, (0, 0x10FFFF)])
+            self.assertRaises(InvalidSet, CodePointSet.from_ranges, [wrong, (0, 0x10FFFF)])
 
     def test_of_characters(self):
         self.assertEqual(CodePointSet.from_chars("cab\u4e16aZ\ud800").ranges(), [
@@ -210,8 +205,7 @@ class Sets(unittest.TestCase):
                     make(given)
         for wrong in (5, None, [None], [1.5], ["ab"], [b"a"], array.array("d", [1.0]), 5.0, object()):
             for make in (CodePointSet.from_chars, self.letters.union, self.letters.isdisjoint, self.letters.issuperset):
-                with self.assertRaises(TypeError):
-                    make(wrong)
+                self.assertRaises(TypeError, make, wrong)
 
         def broken():
             yield 5
@@ -237,8 +231,7 @@ class Sets(unittest.TestCase):
             ([(1, 2), 5], TypeError, r"^pairs\[1\]: expected a first and a last code point, found int$"),
             ([(1, "ab")], TypeError, "^code point: expected one character, found a str of length 2$"),
         ):
-            with self.assertRaisesRegex(error, said):
-                CodePointSet.from_ranges(wrong)
+            self.assertRaisesRegex(error, said, CodePointSet.from_ranges, wrong)
 
     def test_elements_that_are_no_code_points(self):
         class Even(collections.abc.Set):
@@ -257,8 +250,7 @@ class Sets(unittest.TestCase):
             self.assertFalse(made == {None, "b"} or made >= {-1} or made > {1 << 70} or made <= {None, "a"})
             self.assertEqual(made | Even(), set(made) | set(range(0, 100, 2)))
             for compare in (operator.gt, operator.ge):
-                with self.assertRaises(TypeError):
-                    compare(made, {None})
+                self.assertRaises(TypeError, compare, made, {None})
         with self.assertRaises(ZeroDivisionError):
             CodePointSet([1, 2]) <= type("Broken", (Even,), {"__contains__": lambda self, it: 1 // 0})()
 
@@ -272,11 +264,9 @@ class Sets(unittest.TestCase):
         text = "\u03b1\u03b2 \u03b3"
         for start in range(-6, 7):
             self.assertEqual(greek.span(text, start=start), greek.span(text[start:]))
-        with self.assertRaises(TypeError):
-            greek.span(text, start=1.5)
+        self.assertRaises(TypeError, greek.span, text, start=1.5)
         for wrong in (b"abc", 5, None):
-            with self.assertRaises(TypeError):
-                greek.span(wrong)
+            self.assertRaises(TypeError, greek.span, wrong)
 
     def test_span_of_surrogates(self):
         self.assertEqual(CodePointSet([0x370, 0x400]).span("\u03b1\ud800"), 1)
@@ -299,10 +289,8 @@ class Sets(unittest.TestCase):
         self.assertIs(iter(spans), spans)
         self.assertEqual([next(spans), *spans, next(spans, None)], [(0, 1, True), (1, 2, False), (2, 3, True), None])
         for wrong in (b"abc", 5, None):
-            with self.assertRaisesRegex(TypeError, "^text: expected a str, found "):
-                self.letters.spans(wrong)
-        with self.assertRaisesRegex(TypeError, "^start: expected an int, found float$"):
-            self.letters.spans("abc", 1.5)
+            self.assertRaisesRegex(TypeError, "^text: expected a str, found ", self.letters.spans, wrong)
+        self.assertRaisesRegex(TypeError, "^start: expected an int, found float$", self.letters.spans, "abc", 1.5)
 
     def test_span_back(self):
         for made in both_kinds(ENDS[0]):
@@ -317,10 +305,35 @@ class Sets(unittest.TestCase):
                     reversed_text = text[:end][::-1]
                     self.assertEqual(made.span_back(text, held, end), made.span(reversed_text, held))
         for wrong in (b"abc", 5, None):
-            with self.assertRaisesRegex(TypeError, "^text: expected a str, found "):
-                self.letters.span_back(wrong)
-        with self.assertRaisesRegex(TypeError, "^end: expected an int, found float$"):
-            self.letters.span_back("abc", end=1.5)
+            self.assertRaisesRegex(TypeError, "^text: expected a str, found ", self.letters.span_back, wrong)
+        self.assertRaisesRegex(TypeError, "^end: expected an int, found float$", self.letters.span_back, "abc", end=1.5)
+
+    def test_spans_of_bytes(self):
+        for made in both_kinds([0x61, 0x63, 0x3B1, 0x3B2, 0x1F600, 0x1F601]):
+            for text in ("", "ab", "ab\u03b1\U0001f600c", "cab", 9000 * "a\u03b1" + "c" + 9000 * "\U0001f600"):
+                for held in (True, False):
+                    kept, last = text[: made.span(text, held)], made.span_back(text, held)
+                    for given in (text.encode(), bytearray(text.encode()), memoryview(text.encode())):
+                        self.assertEqual(made.span_utf8(given, held), len(kept.encode()))
+                        self.assertEqual(made.span_back_utf8(given, held=held), len(text[len(text) - last :].encode()))
+        # As uset_spanUTF8 and uset_spanBackUTF8 of ICU4C: without U+FFFD in the set, and with it.
+        rows = {
+            b"ab1": ((2, 0, 0, 1), (2, 0, 0, 1)),
+            b"a\xffbc": ((1, 0, 2, 0), (4, 0, 4, 0)),
+            b"1\xff\xe4\xb8ab": ((0, 4, 2, 0), (0, 1, 5, 0)),
+            b"\xed\xa0\x801": ((0, 4, 0, 4), (3, 0, 0, 1)),
+            b"\xa9\xc3\xa9": ((0, 3, 0, 3), (1, 0, 0, 2)),
+            b"b\xf0\x9f\x98": ((1, 0, 0, 3), (4, 0, 4, 0)),
+        }
+        for text, wanted in rows.items():
+            for more, row in zip(([], [0xFFFD, 0xFFFE]), wanted):
+                for made in both_kinds([0x41, 0x5B, 0x61, 0x7B, *more]):
+                    found = (made.span_utf8(text), made.span_utf8(text, False))
+                    self.assertEqual((*found, made.span_back_utf8(text), made.span_back_utf8(text, False)), row)
+        for wrong in ("abc", 5, None):
+            for call in (self.letters.span_utf8, self.letters.span_back_utf8):
+                with self.assertRaisesRegex(TypeError, "^text: expected a bytes-like object, found "):
+                    call(wrong)
 
     def test_frozen(self):
         for ends in ([], [0, 0x110000], *ENDS):
@@ -390,24 +403,19 @@ class Sets(unittest.TestCase):
 
     def test_lists_that_are_no_sets(self):
         for ends in ([1], [2, 1], [1, 1], [0, 0x110001], [-1, 4], [1, 1 << 40]):
-            with self.assertRaises(InvalidSet):
-                CodePointSet(ends)
+            self.assertRaises(InvalidSet, CodePointSet, ends)
         for ends, said in (
             ([1], r"^ends: expected an even count, found 1$"),
             ([1, 9, 9, 12], r"^ends\[2\]: expected more than 9, found 9$"),
             ([0, 0x110001], r"^ends\[1\]: expected a number from 0 to 0x110000, found 1114113$"),
             ([-5, 7], r"^ends\[0\]: expected a number from 0 to 0x110000, found -5$"),
         ):
-            with self.assertRaisesRegex(InvalidSet, said):
-                CodePointSet(ends)
-        with self.assertRaises(TypeError):
-            CodePointSet("AZ")
+            self.assertRaisesRegex(InvalidSet, said, CodePointSet, ends)
+        self.assertRaises(TypeError, CodePointSet, "AZ")
         for operation in (operator.or_, operator.and_, operator.sub, operator.xor):
             for wrong in (5, None, [0x41], "A"):
-                with self.assertRaises(TypeError):
-                    operation(self.letters, wrong)
-                with self.assertRaises(TypeError):
-                    operation(wrong, self.letters)
+                self.assertRaises(TypeError, operation, self.letters, wrong)
+                self.assertRaises(TypeError, operation, wrong, self.letters)
 
 if __name__ == "__main__":
     unittest.main()

@@ -46,13 +46,11 @@ class Tries(unittest.TestCase):
         for wrong in (97.0, "ab", "", b"a", None):
             with self.assertRaises(TypeError):
                 trie[wrong]
-            with self.assertRaises(TypeError):
-                trie.values([wrong])
+            self.assertRaises(TypeError, trie.values, [wrong])
 
     def test_neither_in_nor_iteration(self):
         trie = Trie(read(NAMES[0]))
-        with self.assertRaises(TypeError):
-            iter(trie)
+        self.assertRaises(TypeError, iter, trie)
         with self.assertRaises(TypeError):
             65 in trie
 
@@ -70,6 +68,20 @@ class Tries(unittest.TestCase):
         made.name, made.slot = "A", {3}
         for it in copies(made):
             self.assertEqual((it, it.data, type(it), it.name, it.slot), (made, read(NAMES[0]), Table, "A", {3}))
+
+    def test_values_of_bytes(self):
+        for width in (1, 2, 4):
+            trie = Trie.build([("a", "z", 1), ("\u03b1", "\U0001f600", 2)], 0, 9, width)
+            for text in (b"", b"az!", "a\u03b1\U0001f600".encode(), 9000 * "a\u03b1\U0001f600".encode(),
+                         b"a\xff\xe4\xb8z\xed\xa0\x80", b"\xf0\x9f\x98", b"\xf4\x90\x80\x80a"):
+                # Python's decoder has one U+FFFD for each ill-formed part.
+                wanted = [9 if c == "\ufffd" else trie[c] for c in text.decode(errors="replace")]
+                for given in (text, bytearray(text), memoryview(text)):
+                    found = trie.values_utf8(given)
+                    self.assertEqual((list(found), found.itemsize), (wanted, width))
+        for wrong in ("abc", 5, None):
+            with self.assertRaisesRegex(TypeError, "^text: expected a bytes-like object, found "):
+                trie.values_utf8(wrong)
 
     def test_slices_are_values_of_ranges(self):
         for name in NAMES:
@@ -107,13 +119,11 @@ class Tries(unittest.TestCase):
             (lambda: trie[1.0], "^code point: expected an int or a str, found float$"),
             (lambda: trie["ab"], "^code point: expected one character, found a str of length 2$"),
         ):
-            with self.assertRaisesRegex(TypeError, said):
-                wrong()
+            self.assertRaisesRegex(TypeError, said, wrong)
 
     def test_no_bytes(self):
         for wrong in (5, True, "abc", None, [1, 2], object()):
-            with self.assertRaises(TypeError):
-                Trie(wrong)
+            self.assertRaises(TypeError, Trie, wrong)
 
     def test_what_a_trie_says_of_itself(self):
         for name in NAMES:
@@ -151,8 +161,7 @@ class Tries(unittest.TestCase):
             told.exception.more = 5
             for it in copies(told.exception):
                 self.assertEqual((it.status, str(it), it.more), (name, str(told.exception), 5))
-        with self.assertRaises(InvalidTrie):
-            Trie(b"")
+        self.assertRaises(InvalidTrie, Trie, b"")
 
 
 class Building(unittest.TestCase):
@@ -179,16 +188,12 @@ class Building(unittest.TestCase):
 
     def test_refusals(self):
         for rows, default, error in (([(0, 1, 256)], 0, 0), ([], 256, 0), ([], 0, 256)):
-            with self.assertRaises(WideValue):
-                Trie.build(rows, default, error, width=1)
+            self.assertRaises(WideValue, Trie.build, rows, default, error, width=1)
         for value in (-1, 1 << 32):
-            with self.assertRaises(WideValue):
-                Trie.build([(0, 1, value)])
+            self.assertRaises(WideValue, Trie.build, [(0, 1, value)])
         for width in (0, 3, (1 << 32) + 1):
-            with self.assertRaises(InvalidFormat):
-                Trie.build([], width=width)
-        with self.assertRaisesRegex(TooLarge, "too large"):
-            Trie.build([(it, it, it) for it in range(0x110000)])
+            self.assertRaises(InvalidFormat, Trie.build, [], width=width)
+        self.assertRaisesRegex(TooLarge, "too large", Trie.build, [(it, it, it) for it in range(0x110000)])
 
     def test_what_is_said_of_refusals(self):
         rows = [(0, 1, 5), ("A", "Z", 300), ("a", "z", 1 << 32)]
@@ -198,10 +203,8 @@ class Building(unittest.TestCase):
             ({"rows": [], "default": -1}, "^default: -1 is not an unsigned number of 32 bits$"),
             ({"rows": [], "error": 256}, "^error: 256 is not an unsigned number of 8 bits$"),
         ):
-            with self.assertRaisesRegex(WideValue, said):
-                Trie.build(**given, width=1)
-        with self.assertRaisesRegex(InvalidFormat, "1, 2 or 4 bytes, found 3"):
-            Trie.build([], width=3)
+            self.assertRaisesRegex(WideValue, said, Trie.build, **given, width=1)
+        self.assertRaisesRegex(InvalidFormat, "1, 2 or 4 bytes, found 3", Trie.build, [], width=3)
 
 if __name__ == "__main__":
     unittest.main()

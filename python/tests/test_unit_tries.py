@@ -53,8 +53,7 @@ class UnitTries(unittest.TestCase):
             self.assertEqual(trie.longest("ba", start), trie.longest("ba"[start:]))
         self.assertEqual(trie.longest("a" + 3000 * " " + "\ud800"), ("a", 1))
         for wrong in (b"a", 5, None):
-            with self.assertRaises(TypeError):
-                trie.longest(wrong)
+            self.assertRaises(TypeError, trie.longest, wrong)
 
     def test_longest_with_lone_surrogates(self):
         trie = UnitTrie.build({"a": 1, "\ud83d": 2, "\ud83db": 3, "\U0001f600": 4, "\ude00": 5})
@@ -97,8 +96,7 @@ class UnitTries(unittest.TestCase):
         self.assertEqual((dict(trie), {**trie}, list(trie)), (words, words, sorted(words)))
         self.assertEqual([bool(it) for it in (trie, UnitTrie(b""))], [True, False])
         for asks in (len, bool, list):
-            with self.assertRaisesRegex(NotATrie, "units are not a trie"):
-                asks(UnitTrie(b"\x30\0"))
+            self.assertRaisesRegex(NotATrie, "units are not a trie", asks, UnitTrie(b"\x30\0"))
 
     def test_the_units_are_validated_once(self):
         words = {f"{it:x}": it for it in range(300)}
@@ -109,13 +107,12 @@ class UnitTries(unittest.TestCase):
         units[:] = bytes(len(units))
         self.assertEqual((len(trie), bool(trie), trie.count(), trie == {}, none.count()), (300, True, 300, False, None))
         for asks in (len, bool):
-            with self.assertRaises(NotATrie):
-                asks(none)
+            self.assertRaises(NotATrie, asks, none)
 
     def test_iteration(self):
         for count in (0, 1, 15, 16, 17, 79, 80, 81, 335, 336, 337, 5000):
             trie = UnitTrie.build({f"{it:x}\u4e16": it for it in range(count)})
-            self.assertEqual(list(trie), trie.keys())
+            self.assertEqual((list(trie), list(trie.iter_items())), (trie.keys(), trie.items()))
             self.assertEqual(list(zip(trie, range(count))), list(zip(trie.keys(), range(count))))
         words = {"": 1, "\ud83d": 2, "\U0001f600": 3, "a" * 5000: 4, "\u4e16" * 9000: 5, "b" * 60000: 6}
         self.assertEqual(list(UnitTrie.build(words)), UnitTrie.build(words).keys())
@@ -126,7 +123,7 @@ class UnitTries(unittest.TestCase):
     def test_the_first_key_lists_no_others(self):
         trie = UnitTrie.build({f"{it:x}": it for it in range(30000)})
         tracemalloc.start()
-        self.assertEqual(next(iter(trie)), "0")
+        self.assertEqual((next(iter(trie)), next(trie.iter_items())), ("0", ("0", trie["0"])))
         taken = tracemalloc.get_traced_memory()[1]
         tracemalloc.stop()
         self.assertLess(taken, 20000)
@@ -193,8 +190,7 @@ class UnitTries(unittest.TestCase):
         trie = UnitTrie.build({"\ud83d": 6, "\ufffd": 9})
         self.assertEqual((len(trie), trie.items()), (2, [("\ufffd", 6), ("\ufffd", 9)]))
         self.assertEqual((trie["\ud83d"], dict(trie)), (6, {"\ufffd": 9}))
-        with self.assertRaises(KeyError):
-            dict(UnitTrie.build({"\ud83d": 6}))
+        self.assertRaises(KeyError, dict, UnitTrie.build({"\ud83d": 6}))
 
     def test_copies(self):
         for trie in (self.worked, self.pair, UnitTrie(b"")):
@@ -206,22 +202,17 @@ class UnitTries(unittest.TestCase):
 
     def test_no_bytes(self):
         for wrong in (5, True, "abc", None, [1, 2]):
-            with self.assertRaises(TypeError):
-                UnitTrie(wrong)
+            self.assertRaises(TypeError, UnitTrie, wrong)
 
     def test_no_keys(self):
         for wrong in (5, None, {0x61}, ["a"], [1.0], b"a", bytearray(b"a")):
             for asks in (self.worked.__getitem__, self.worked.__contains__, self.worked.get):
-                with self.assertRaisesRegex(TypeError, "^key: expected a str or a list of "):
-                    asks(wrong)
+                self.assertRaisesRegex(TypeError, "^key: expected a str or a list of ", asks, wrong)
         for wrong in (b"a", bytearray(b"ab")):
-            with self.assertRaisesRegex(TypeError, "^key: expected a str or a list of "):
-                UnitTrie.build([(wrong, 1)])
+            self.assertRaisesRegex(TypeError, "^key: expected a str or a list of ", UnitTrie.build, [(wrong, 1)])
         for asks in (self.worked.longest, self.worked.prefixes):
-            with self.assertRaisesRegex(TypeError, "^text: expected a str, found bytes$"):
-                asks(b"a")
-            with self.assertRaisesRegex(TypeError, "^start: expected an int, found float$"):
-                asks("a", start=1.0)
+            self.assertRaisesRegex(TypeError, "^text: expected a str, found bytes$", asks, b"a")
+            self.assertRaisesRegex(TypeError, "^start: expected an int, found float$", asks, "a", start=1.0)
         for wrong in ([-1], [0x10000], [1 << 70], (97, -5)):
             for error in (WideUnit, OverflowError, ValueError, BekstaudiError):
                 with self.assertRaisesRegex(error, f"^key: {wrong[-1]} is not an unsigned number of 16 bits$"):
@@ -230,8 +221,7 @@ class UnitTries(unittest.TestCase):
                     UnitTrie.build([(wrong, 1)])
         with self.assertRaisesRegex(WideUnit, r"^key \[0, 1, 2, 3, 4, 5, \.\.\.\]: 70000 is not an unsigned"):
             UnitTrie.build([(iter([*range(50), 70000]), 1)])
-        with self.assertRaises(TypeError):
-            UnitTrie.build({"a": 1.0})
+        self.assertRaises(TypeError, UnitTrie.build, {"a": 1.0})
         self.assertEqual(self.worked.get("b", default=7), 7)
         self.assertNotIn(300 * "\U0001f600", self.worked)
 
@@ -266,8 +256,7 @@ class UnitTries(unittest.TestCase):
             ({"b": 0, "a": 1 << 31}, WideValue, "^key 'a': 2147483648 is not a signed number"),
             ({"\ud83d": -(1 << 31) - 1}, WideValue, r"^key '\\ud83d': -2147483649 is not"),
         ):
-            with self.assertRaisesRegex(why, said):
-                UnitTrie.build(entries)
+            self.assertRaisesRegex(why, said, UnitTrie.build, entries)
 
     def test_names(self):
         if not os.path.exists(f"{FOLDER}/names.units"):

@@ -10,9 +10,10 @@
     ('cat', 3)
 
 A code point is an int, or a str of one character; anything else is a TypeError. Objects never
-change. They read bytes-like objects in place if these are read-only, such as bytes and
-`mmap.mmap(file.fileno(), 0, access=mmap.ACCESS_READ)`, and copy all others. The bytes of a mapped
-file must not change while an object uses them: results are then unspecified, but memory-safe.
+change, but for a MutableCodePointSet. They read bytes-like objects in place if these are read-only,
+such as bytes and `mmap.mmap(file.fileno(), 0, access=mmap.ACCESS_READ)`, and copy all others. The
+bytes of a mapped file must not change while an object uses them: results are then unspecified, but
+memory-safe.
 """
 import collections.abc
 import functools
@@ -40,7 +41,8 @@ from ._errors import (
 )
 
 __all__ = ["BekstaudiError", "CodePointSet", "FrozenCodePointSet", "LongKey", "InvalidFormat", "NoMemory"]
-__all__ += ["InvalidSet", "NotATrie", "SameKey", "TooLarge", "Trie", "InvalidTrie", "UnitTrie", "WideUnit", "WideValue"]
+__all__ += ["InvalidSet", "MutableCodePointSet", "NotATrie", "SameKey", "TooLarge", "Trie", "InvalidTrie"]
+__all__ += ["UnitTrie", "WideUnit", "WideValue"]
 __version__ = _native.version
 
 
@@ -359,12 +361,16 @@ class UnitTrie(_native.UnitTrie):
         same = same and len(set(map(_units, other))) == len(other)
         return same is bool(is_equal)
 
-    def __iter__(self):
+    def iter_items(self):
+        """Yield the keys with their values in the order of `items`, page by page."""
         # A page also takes time for the entries before it, so the pages grow.
         skipped, most = 0, 16
         while page := self._page(skipped, most):
-            yield from (key for key, _ in page)
+            yield from page
             skipped, most = skipped + len(page), min(4 * most, 1 << 20)
+
+    def __iter__(self):
+        return (key for key, _ in self.iter_items())
 
     __reduce_ex__ = _reduce_ex
 
@@ -374,6 +380,9 @@ class UnitTrie(_native.UnitTrie):
     def __repr__(self):
         return f"<{type(self).__name__}: {len(self.data) // 2} units>"
 
+
+# It uses the classes above.
+from ._mutable import MutableCodePointSet  # noqa: E402
 
 collections.abc.Set.register(CodePointSet)
 collections.abc.Mapping.register(UnitTrie)
