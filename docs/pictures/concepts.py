@@ -2,15 +2,18 @@
 them."""
 from picture import BLUE, GREEN, GREY, INK, PALE, Picture
 
-# The classes of general categories, by the first letter of their names, and their colours.
+# The general categories by the start of their names: what is shown for them, and its colour.
 CLASSES = {
-    "L": ("letter", "#0b62c4"),
+    "Lu": ("uppercase", "#083d7a"),
+    "Ll": ("lowercase", "#4f9bef"),
+    "L": ("other letter", "#0b62c4"),
     "M": ("mark", "#8250df"),
     "N": ("number", "#1a7f45"),
     "P": ("punctuation", "#bf5a00"),
     "S": ("symbol", "#c9267a"),
     "Z": ("separator", "#5a6670"),
-    "C": ("control, private or unassigned", "#d0d7de"),
+    "Co": ("private use", "#e8c468"),
+    "C": ("control, unassigned", "#d0d7de"),
 }
 # The blocks of 64 code points in the picture of a trie.
 BLOCKS = (0x0000, 0x0040, 0x0400, 0x0440, 0x0480, 0x4E00, 0x4E40, 0x4E80, 0xE000, 0xE040)
@@ -38,14 +41,14 @@ def draw_trie(trie, names):
     for offset in offsets:
         picture.text(x_of[offset], below - 8, f"from cell {offset}", INK, text_anchor="middle", font_size=12)
         for k, value in enumerate(data[offset : offset + 64]):
-            colour = CLASSES[names[value][0]][1]
+            _, colour = CLASSES.get(names[value]) or CLASSES[names[value][0]]
             picture.box(x_of[offset] - 48 + 12 * (k % 8), below + 12 * (k // 8), 11, 11, colour, rx=1)
     x = 30
-    picture.text(x, 362, "data: 64 values in each block, here by their class", GREEN)
+    picture.text(x, 362, "data: 64 values in each block, in the colours of their kinds", GREEN)
     for name, colour in CLASSES.values():
         picture.box(x, 380, 11, 11, colour, rx=1)
         picture.text(x + 17, 390, name, INK, font_size=12)
-        x += 34 + 7 * len(name)
+        x += 28 + 6.6 * len(name)
     picture.write("trie.svg")
 
 
@@ -97,7 +100,8 @@ def draw_frozen(words, rows, value):
     picture = Picture(1000, 392, "A frozen set")
     picture.text(30, 38, "A frozen set: one bit for each code point, in blocks of 256", font_size=20)
     count = len({offset(it) for it in range(4352)})
-    said = f"Lu, the uppercase letters: {count} different blocks of four words, {len(words):,} words with the offsets"
+    assert len(words) == 1088 + 4 * (count + 1)
+    said = f"Lu, the uppercase letters: {len(words):,} words. 1,088 have the offsets; then come {count} blocks and the full one"
     picture.text(30, 62, said, GREY)
     picture.text(30, 92, "the offset of each block of 256 code points, in words", BLUE)
     found = list(dict.fromkeys(offset(it) for it in blocks))
