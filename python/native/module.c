@@ -30,9 +30,9 @@ static bool is_wrong_processor(void) {
 
 static int execute(PyObject *module) {
     if (is_wrong_processor()) return -1;
-    static const char *const names[] = {"Trie", "CodePointSet", "UnitTrie", "Spans"};
-    PyType_Spec *const specs[] = {&trie_spec, &set_spec, &units_spec, &spans_spec};
-    for (int i = 0; i < 4; i++) {
+    static const char *const names[] = {"Trie", "CodePointSet", "UnitTrie", "UnitTrieCursor", "Spans"};
+    PyType_Spec *const specs[] = {&trie_spec, &set_spec, &units_spec, &cursor_spec, &spans_spec};
+    for (int i = 0; i < 5; i++) {
         PyObject *type = PyType_FromSpec(specs[i]);
         if (!type || PyModule_AddObject(module, names[i], type)) {
             Py_XDECREF(type);

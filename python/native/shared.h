@@ -193,6 +193,19 @@ PyObject *output_view(PyObject *out, Py_ssize_t count, Py_ssize_t width, void **
 /* Returns a memoryview of `count` new items of `width` bytes, and their address. */
 PyObject *new_view(Py_ssize_t count, Py_ssize_t width, void **address);
 
+/* ---- Keys of unit tries ---- */
+
+/* The units of a key. `units` is `few` or memory to free. */
+typedef struct {
+    uint16_t few[128];
+    uint16_t *units;
+    size_t count;
+} key_units;
+
+/* Reads a str or a list of units. Returns 0, or -1 with an exception set. */
+int key_of(PyObject *given, key_units *key);
+void key_free(key_units *key);
+
 /* ---- Sets ---- */
 
 typedef struct {
@@ -247,7 +260,7 @@ Py_ssize_t set_span_end(code_point_set *self, const text *from, Py_ssize_t at, b
 
 /* ---- Types ---- */
 
-extern PyType_Spec trie_spec, set_spec, units_spec, spans_spec;
+extern PyType_Spec trie_spec, set_spec, units_spec, cursor_spec, spans_spec;
 PyObject *build_trie(PyObject *module, PyObject *args);
 PyObject *build_units(PyObject *module, PyObject *args);
 

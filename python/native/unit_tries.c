@@ -39,14 +39,7 @@ static int64_t read_unit(PyObject *item) {
     return -1;
 }
 
-/* The units of a key. `units` is `few` or memory to free. */
-typedef struct {
-    uint16_t few[128];
-    uint16_t *units;
-    size_t count;
-} key_units;
-
-static void key_free(key_units *key) {
+void key_free(key_units *key) {
     if (key->units != key->few) PyMem_Free(key->units);
 }
 
@@ -83,8 +76,7 @@ static int list_key(PyObject *given, key_units *key) {
     return -1;
 }
 
-/* Reads a str or a list of units. Returns 0, or -1 with an exception set. */
-static int key_of(PyObject *given, key_units *key) {
+int key_of(PyObject *given, key_units *key) {
     if (PyUnicode_Check(given)) return text_key(given, key);
     if (PySequence_Check(given) && !PyBytes_Check(given) && !PyByteArray_Check(given)) return list_key(given, key);
     return raise_type("key", "a str or a list of 16-bit units", given), -1;

@@ -1,10 +1,11 @@
 """Unit tries."""
 import collections.abc
+import copy
 import os
 import tracemalloc
 import unittest
 
-from bekstaudi import BekstaudiError, LongKey, NotATrie, SameKey, UnitTrie, WideUnit, WideValue
+from bekstaudi import BekstaudiError, LongKey, NotATrie, SameKey, UnitTrie, UnitTrieCursor, WideUnit, WideValue
 from samples import FOLDER, copies
 
 
@@ -87,6 +88,36 @@ class UnitTries(unittest.TestCase):
                 found = [(it, trie[it]) for it in map(text.__getitem__, map(slice, range(len(text) + 1))) if it in trie]
                 self.assertEqual(trie.prefixes(text), found)
                 self.assertEqual(trie.longest(text), found[-1] if found else None)
+
+    def test_cursors(self):
+        trie = UnitTrie.build({"car": 2, "cat": 3, "category": 4, "\U0001f600": 5})
+        here = trie.cursor()
+        self.assertEqual((here.value, here.next_units(), here.unique_value()), (None, [0x63, 0xD83D], None))
+        self.assertTrue(here.step("ca"))
+        before_t = here.copy()
+        self.assertEqual((here.step("t"), here.value, here.unique_value()), (True, 3, None))
+        self.assertEqual((here.step("eg"), here.value, here.unique_value()), (True, None, 4))
+        self.assertEqual((here.step("ory"), here.value, here.next_units()), (True, 4, []))
+        self.assertEqual((before_t.step([0x72]), before_t.value, before_t.unique_value()), (True, 2, 2))
+        for after_the_last in ("", "x", "r"):
+            self.assertEqual(before_t.step(after_the_last), after_the_last == "")
+        self.assertEqual((before_t.step(""), before_t.value, before_t.next_units()), (False, None, []))
+        self.assertEqual([trie.cursor().step(it) for it in ("\ud83d", "\U0001f600", "\U0001f601", "")], [1, 1, 0, 1])
+        self.assertFalse(UnitTrie(b"").cursor().step(""))
+        for wrong in (b"a", 5, None):
+            self.assertRaises(TypeError, here.step, wrong)
+        self.assertRaises(WideUnit, here.step, [70000])
+        self.assertRaises(TypeError, UnitTrieCursor, "cat")
+
+    def test_cursors_of_many_units(self):
+        trie = UnitTrie.build({chr(it) + "b": it % 3 for it in range(0x100, 0x1400)})
+        self.assertEqual(trie.cursor().next_units(), list(range(0x100, 0x1400)))
+        damaged = UnitTrie(bytes(it ^ (place % 97 == 5) for place, it in enumerate(trie.data)))
+        for it in range(0x100, 0x1400):
+            here, there = trie.cursor(), damaged.cursor()
+            self.assertEqual((here.step(chr(it)), here.unique_value()), (True, it % 3))
+            there.step(chr(it) + "b")
+            self.assertEqual((there.value, copy.copy(there).value), 2 * (damaged.get(chr(it) + "b"),))
 
     def test_as_a_mapping(self):
         words = {"car": 2, "cat": 3, "": -1}

@@ -42,8 +42,10 @@ from ._errors import (
 
 __all__ = ["BekstaudiError", "CodePointSet", "FrozenCodePointSet", "LongKey", "InvalidFormat", "NoMemory"]
 __all__ += ["InvalidSet", "MutableCodePointSet", "NotATrie", "SameKey", "TooLarge", "Trie", "InvalidTrie"]
-__all__ += ["UnitTrie", "WideUnit", "WideValue"]
+__all__ += ["UnitTrie", "UnitTrieCursor", "WideUnit", "WideValue"]
 __version__ = _native.version
+
+UnitTrieCursor = _native.UnitTrieCursor
 
 
 # The repr of a set shows at most so many boundaries.
@@ -360,6 +362,10 @@ class UnitTrie(_native.UnitTrie):
         # Two keys of a dict may be one key here: a character, and its two surrogates.
         same = same and len(set(map(_units, other))) == len(other)
         return same is bool(is_equal)
+
+    def cursor(self):
+        """Return a UnitTrieCursor before the first unit: it follows keys unit by unit."""
+        return UnitTrieCursor(self)
 
     def iter_items(self):
         """Yield the keys with their values in the order of `items`, page by page."""

@@ -5,6 +5,7 @@ from _typeshed import ReadableBuffer
 from typing_extensions import Self
 
 from . import _native
+from ._native import UnitTrieCursor as UnitTrieCursor
 from ._errors import (
     BekstaudiError as BekstaudiError,
     LongKey as LongKey,
@@ -22,7 +23,7 @@ from ._errors import (
 __all__ = [
     "BekstaudiError", "CodePointSet", "FrozenCodePointSet", "LongKey", "InvalidFormat", "NoMemory",
     "InvalidSet", "MutableCodePointSet", "NotATrie", "SameKey", "TooLarge", "Trie", "InvalidTrie", "UnitTrie",
-    "WideUnit", "WideValue",
+    "UnitTrieCursor", "WideUnit", "WideValue",
 ]
 __version__: str
 
@@ -99,6 +100,7 @@ class UnitTrie(_native.UnitTrie, Mapping[str, int]):  # type: ignore[misc]
     def build(cls, entries: Mapping[str, int] | Iterable[tuple[_Key, int]]) -> Self: ...
     def keys(self, prefix: _Key = "") -> list[str]: ...  # type: ignore[override]
     def values(self, prefix: _Key = "") -> list[int]: ...  # type: ignore[override]
+    def cursor(self) -> UnitTrieCursor: ...
     def iter_items(self) -> Iterator[tuple[str, int]]: ...
     def __iter__(self) -> Iterator[str]: ...
     def __getnewargs__(self) -> tuple[bytes]: ...
