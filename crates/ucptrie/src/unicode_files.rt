@@ -104,7 +104,8 @@ pub fn are_names_of_one(property: &[u8], name: &[u8]) -> bool {
 /// Returns the field of a property in `UnicodeData.txt`. `name` is what the file was read from.
 fn unicode_data_field(alloc: Global, name: &str, property: Option<&str>) -> Result<usize, Error> {
     let Some(property) = property else {
-        let why = "the file has many properties: name one by --property or --field";
+        let why =
+            "the file has many properties: name one by --property or --field, for join as FILE:NAME";
         return Err(about(alloc, name, why));
     };
     for (short, long, field) in UNICODE_DATA.iter() {
@@ -174,7 +175,8 @@ fn only_field(alloc: Global, name: &str, file: &[u8]) -> Result<Columns<'static>
     }
     match conflict_of_texts(alloc, file)? {
         Some(conflict) => {
-            let how = ": if the file has several properties, name one by --property";
+            let how =
+                ": if the file has several properties, name one by --property, for join as FILE:NAME";
             Err(said(two_values(alloc, name, conflict, how)))
         }
         None => Ok(Columns::Field(1)),
@@ -323,7 +325,8 @@ fn columns<'f, 'a: 'f>(
         FileKind::Unihan => match property {
             Some(property) => columns_of_unihan(alloc, property, name, file),
             None => {
-                let why = "the file has many properties: name one by --property";
+                let why =
+                    "the file has many properties: name one by --property, for join as FILE:NAME";
                 Err(about(alloc, name, why))
             }
         },

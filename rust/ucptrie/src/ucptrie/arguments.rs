@@ -250,7 +250,7 @@ const JOIN: [Argument; 9] = [
         ..WIDTH
     },
     Argument {
-        help: "The value above 10FFFF; by default 0, that of 0000",
+        help: "The value above 10FFFF and of ill-formed text; by default that of FFFD",
         ..ERROR
     },
     Argument {

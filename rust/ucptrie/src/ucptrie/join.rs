@@ -26,6 +26,7 @@ use crate::ucptrie_tables::value_names::MOST;
 use crate::ucptrie_tables::width::ValueWidth;
 use crate::ucptrie_tables::written::{Form, written};
 use bekstaudi::codepointtrie::TrieType;
+use bekstaudi::codepointtrie::Write;
 
 /// Returns the file in a word `FILE`, or `FILE:PROPERTY,..`, and its properties.
 fn file_of(word: &str) -> (&str, Option<&str>) {
@@ -97,10 +98,27 @@ fn borrowed<'n>(copies: &'n [ValueName]) -> Result<Vec<Name<'n>>, AllocError> {
     Ok(names)
 }
 
+/// What an ill-formed part of a text counts as.
+const REPLACEMENT_CHARACTER: u32 = 0xFFFD;
+
+/// Returns the number of the combination that a code point has.
+fn number_at(join: &Join, c: u32) -> u32 {
+    for write in &join.writes {
+        let (first, last, number) = match write {
+            Write::One(only, number) => (*only, *only, *number),
+            Write::Range(range, number) => (*range.start(), *range.end(), *number),
+        };
+        if first <= c && c <= last {
+            return number;
+        }
+    }
+    0
+}
+
 /// Returns what the table of a join is to be: its values have the asked width, or else the fewest
 /// bits that all of them and the error value fit.
 fn options(matches: &ArgMatches<'_>, join: &Join) -> TableOptions {
-    let error = number(matches, "error").unwrap_or(0);
+    let error = number(matches, "error").unwrap_or(number_at(join, REPLACEMENT_CHARACTER));
     let last = u32::try_from(join.firsts.len().saturating_sub(1)).unwrap_or(u32::MAX);
     TableOptions {
         trie_type: trie_type(matches).unwrap_or(TrieType::Fast),
