@@ -60,7 +60,7 @@ fn same_line(alloc: Global, first: &str, second: &str) -> Result<String, AllocEr
     line.push_str(first)?;
     line.push_str(" and ")?;
     line.push_str(second)?;
-    line.push_str(": the same name in source")?;
+    line.push_str(": the same name in source: choose another --name")?;
     Ok(line)
 }
 

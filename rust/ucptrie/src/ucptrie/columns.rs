@@ -157,7 +157,7 @@ fn values_of(choice: &Choice<'_>, numbering: Numbering<'_>) -> Result<ColumnValu
 
 /// What is said of a file that says too little of code points without a line.
 const NO_DEFAULT: &str =
-    "no line says which value the other code points have: ucptrie build --default NUMBER takes one";
+    "no line says which value the other code points have: join a file whose @missing lines say it";
 
 /// Returns the table of a file of the Unicode Character Database, and what its values are.
 fn file_column(

@@ -62,7 +62,7 @@ fn same_line(first: &str, second: &str) -> Result<String, AllocError> {
     line.try_push_str(first)?;
     line.try_push_str(" and ")?;
     line.try_push_str(second)?;
-    line.try_push_str(": the same name in source")?;
+    line.try_push_str(": the same name in source: choose another --name")?;
     Ok(line)
 }
 
