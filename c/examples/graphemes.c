@@ -1,11 +1,9 @@
 /* Prints the grapheme clusters of a text, what users take for characters, with | between them (UAX #29).
    U=/usr/share/unicode
-   (cat $U/auxiliary/GraphemeBreakProperty.txt; grep Extended_Pictographic $U/emoji/emoji-data.txt) > breaks.txt
-   ./ucptrie build breaks.txt --width 8 --as icu -o breaks.icu
-   ./ucptrie build breaks.txt --width 8 --as c --name breaks -o breaks.h
+   (cat $U/auxiliary/GraphemeBreakProperty.txt; grep Extended_Pictographic $U/emoji/emoji-data.txt) |
+       ./ucptrie build - --width 8 --as bks --name breaks -o breaks.h
    cc graphemes.c $(pkg-config --cflags --libs bekstaudi) -o graphemes
-   ./graphemes breaks.icu 'noël' */
-#include <bekstaudi.h>
+   ./graphemes 'noël' */
 #include "breaks.h"
 #include <stdio.h>
 
@@ -61,19 +59,16 @@ static size_t first_cluster(const bks_trie *classes, const char *text, size_t si
 }
 
 int main(int count, char **arguments) {
-    static char bytes[1 << 16];
     bks_trie classes;
-    FILE *file = count == 3 ? fopen(arguments[1], "rb") : NULL;
-    if (!file || bks_open(&classes, bytes, fread(bytes, 1, sizeof bytes, file)) != BKS_OK) {
-        fprintf(stderr, "usage: graphemes breaks.icu TEXT\n");
+    if (count != 2 || breaks_open(&classes) != BKS_OK) {
+        fprintf(stderr, "usage: graphemes TEXT\n");
         return 2;
     }
-    const char *text = arguments[2];
+    const char *text = arguments[1];
     for (size_t left = strlen(text), size; left > 0; text += size, left -= size) {
         size = first_cluster(&classes, text, left);
         fwrite(text, 1, size, stdout);
         putchar(size < left ? '|' : '\n');
     }
-    fclose(file);
     return 0;
 }

@@ -47,14 +47,12 @@ def dictionary(room, flags):
 
 def graphemes(room, flags):
     """The clusters of the texts of Unicode's GraphemeBreakTest.txt."""
-    breaks = f"{room}/breaks"
-    example_programs.write_breaks(f"{breaks}.txt")
-    build = [f"{TOP}/ucptrie", "build", f"{breaks}.txt", "--width", "8", "--as"]
-    yield passes("breaks.icu", [*build, "icu", "-o", f"{breaks}.icu"])
-    yield passes("breaks.h", [*build, "c", "--name", "breaks", "-o", f"{breaks}.h"])
+    example_programs.write_breaks(f"{room}/breaks.txt")
+    build = [f"{TOP}/ucptrie", "build", f"{room}/breaks.txt", "--width", "8", "--as", "bks"]
+    yield passes("breaks.h", [*build, "--name", "breaks", "-o", f"{room}/breaks.h"])
     words = [CC, "-std=c99", *STRICT, f"-I{room}", "-o", f"{room}/graphemes", f"{TOP}/c/examples/graphemes.c"]
     yield passes("graphemes.c", [*words, *flags])
-    cut = lambda text: subprocess.run([f"{room}/graphemes", f"{breaks}.icu", text], stdout=subprocess.PIPE).stdout
+    cut = lambda text: subprocess.run([f"{room}/graphemes", text], stdout=subprocess.PIPE).stdout
     texts = example_programs.clusters()
     wrong = [it for it in texts if cut("".join(it)) != f"{'|'.join(it)}\n".encode()]
     print(f"graphemes.c: {len(texts)} texts of Unicode, {len(wrong)} wrong")
