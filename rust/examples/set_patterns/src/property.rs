@@ -4,6 +4,7 @@ use crate::binary;
 use crate::category::{CATEGORY, Category};
 use crate::script::{SCRIPT, Script};
 use bekstaudi::codepointinvlist::CodePointInversionList as Set;
+use std::sync::LazyLock;
 
 /// The boundaries of the sets of binary properties.
 const BINARY: [(&str, &[u32]); 13] = [
@@ -35,37 +36,61 @@ pub fn set_of(property: &str) -> Option<Set<'static>> {
 }
 
 fn category(name: &str) -> Option<Set<'static>> {
-    let (names, members) = row(include_str!("PropertyValueAliases.txt"), "gc ;", name)?;
-    if !members.is_empty() {
-        return members.split('|').filter_map(category).reduce(|all, set| &all | &set);
+    let values = categories(name)?;
+    Some(CATEGORY.get_set_where(|it| values.contains(&it)))
+}
+
+/// Returns the category with a name, or those of a group.
+fn categories(name: &str) -> Option<Vec<Category>> {
+    let row = row(&VALUES, "gc ;", name)?;
+    if !row.members.is_empty() {
+        return Some(row.members.split('|').filter_map(categories).flatten().collect());
     }
-    let value = names.iter().find_map(|it| Category::from_name(it));
-    Some(CATEGORY.get_set_where(|it| Some(it) == value))
+    Some(row.names.iter().find_map(|it| Category::from_name(it)).into_iter().collect())
 }
 
 fn script(name: &str) -> Option<Set<'static>> {
-    let (names, _) = row(include_str!("PropertyValueAliases.txt"), "sc ;", name)?;
-    let value = names.iter().find_map(|it| Script::from_name(it));
+    let value = row(&VALUES, "sc ;", name)?.names.iter().find_map(|it| Script::from_name(it));
     Some(SCRIPT.get_set_where(|it| Some(it) == value))
 }
 
 fn binary(name: &str) -> Option<Set<'static>> {
-    let names = match row(include_str!("PropertyAliases.txt"), "", name) {
-        Some((names, _)) => names,
+    let names = match row(&PROPERTIES, "", name) {
+        Some(row) => row.names.clone(),
         None => vec![loose(name)],
     };
     let (_, boundaries) = BINARY.iter().find(|(it, _)| names.iter().any(|name| name == it))?;
     Set::try_from_u32_inversion_list_slice(boundaries).ok()
 }
 
-/// Returns the row with a name in a file of aliases: all names, and the members if the name is that of
-/// a group, as in `gc ; L ; Letter # Ll | Lm | Lo | Lt | Lu`.
-fn row(file: &'static str, start: &str, name: &str) -> Option<(Vec<String>, &'static str)> {
-    file.lines().filter_map(|line| line.strip_prefix(start)).find_map(|line| {
-        let (names, members) = line.split_once('#').unwrap_or((line, ""));
-        let names: Vec<String> = names.split(';').map(loose).collect();
-        names.contains(&loose(name)).then_some((names, members))
-    })
+/// A row of a file of aliases, such as `gc ; L ; Letter # Ll | Lm | Lo | Lt | Lu`.
+struct Row {
+    /// What it starts with.
+    start: &'static str,
+    /// All names after that.
+    names: Vec<String>,
+    /// The members, if the names are those of a group.
+    members: &'static str,
+}
+
+static VALUES: LazyLock<Vec<Row>> =
+    LazyLock::new(|| rows(include_str!("PropertyValueAliases.txt"), &["gc ;", "sc ;"]));
+static PROPERTIES: LazyLock<Vec<Row>> = LazyLock::new(|| rows(include_str!("PropertyAliases.txt"), &[""]));
+
+/// Returns the rows of a file that start with one of these.
+fn rows(file: &'static str, starts: &[&'static str]) -> Vec<Row> {
+    let row = |line: &'static str| {
+        let (start, rest) = starts.iter().find_map(|it| Some((it, line.strip_prefix(it)?)))?;
+        let (names, members) = rest.split_once('#').unwrap_or((rest, ""));
+        Some(Row { start, names: names.split(';').map(loose).collect(), members })
+    };
+    file.lines().filter_map(row).collect()
+}
+
+/// Returns the row with a name.
+fn row(rows: &'static [Row], start: &str, name: &str) -> Option<&'static Row> {
+    let name = loose(name);
+    rows.iter().find(|it| it.start == start && it.names.contains(&name))
 }
 
 /// Returns a name as Unicode compares it: without case, white space, `-` and `_`.
