@@ -10,7 +10,7 @@ pub use Rattle.icu_invlist.specs.InversionList.{characters, complement_of, toggl
 pub use Rattle.icu_invlist.specs.NamedCodePoints.{IsUnionOf, adds, end_of_included, end_of_inclusive, is_used_up, open_end, open_start, range_of_numbers}
 pub use Rattle.icu_invlist.specs.Refusals.{IsRefusedList, IsRefusedRange, IsRefusedSlice}
 pub use Rattle.icu_frozen_sets.specs.FrozenView.{view_words}
-pub use Rattle.icu_frozen_sets.specs.FrozenWords.{IsFrozenOf, bit_in, is_held, place_in}
+pub use Rattle.icu_frozen_sets.specs.FrozenWords.{IsFrozenOf, bit_in, is_held, offset_at, offset_words, place_in}
 pub use Rattle.icu_frozen_sets.specs.LongestSpans.{AllHeld, IsByteOf, IsHeldByte, IsLossySpan, IsLossySpanBack, IsSpan, IsSpanBack, unit_count, unit_span}
 pub use Rattle.icu_frozen_sets.specs.Spans.{AreAlternating, AreSpans, GivesSpan, IsFirstSpan, IsOfOneKind, TextToCut, front_of}
 pub use Rattle.icu_frozen_sets.specs.TextFronts.{IsTextUpTo}

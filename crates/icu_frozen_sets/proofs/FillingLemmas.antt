@@ -29,7 +29,7 @@ no_bit k = rw (bit_at-zero k) refl
 pub none_filled : (t : List ℕ) (c : ℕ) → c < code_point_limit → IsFilling t 0 → filled t 0 0 c ≡ false
 none_filled t c h f = elim (cases_eq (c / 256) 0) [
   | inl q ↦ filled_here t 0 0 c q ∙ no_bit (c % 256)
-  | inr n ↦ filled_else t 0 0 c n ∙ empty_block t c f.tables (f.empty (c / 256) (omega arith) (omega arith))
+  | inr n ↦ filled_else t 0 0 c n ∙ empty_block t c f.tables (f.empty (c / 256) (omega (arith, n)) (omega arith) (omega arith))
 ]
 
 -- ---- the current block is written, and another begins
@@ -39,7 +39,7 @@ module _ (t new : List ℕ) (block at next : ℕ) (f : IsFilling t at) (order : 
       → (c : ℕ) → c < code_point_limit → filled new 0 next c ≡ filled t block at c
   moved_same alike c h = elim (cases_eq (c / 256) next) [
     | inl q ↦ filled_here new 0 next c q ∙ (no_bit (c % 256) ∙ sym (filled_else t block at c (λ p. other (sym p ∙ q))
-        ∙ empty_block t c f.tables (f.empty (c / 256) (omega arith) (omega arith))))
+        ∙ empty_block t c f.tables (f.empty (c / 256) (omega (arith, q, other)) (omega (arith, q)) (omega arith))))
     | inr n ↦ filled_else new 0 next c n ∙ elim (cases_eq (c / 256) at) [
       | inl q ↦ s.set c q ∙ (alike c ∙ sym (filled_here t block at c q))
       | inr m ↦ s.kept c m h ∙ sym (filled_else t block at c m)
@@ -120,7 +120,8 @@ module _ (t mid new : List ℕ) (block at start end : ℕ) (words : List ℕ) (f
       filled_here new (2 ^ (end % 256) - 1) (end / 256) c q ∙ (ap (λ (n : ℕ). nat_eq (bit_at n (c % 256)) 1) whole
       ∙ (range_bits 0 0 (end % 256) (c % 256) (pow_pos 0) (omega arith)
       ∙ (ap (λ (b : Bool). b || between 0 (end % 256) (c % 256)) (no_bit (c % 256)
-      ∙ sym (filled_else t block at c (λ p. omega arith) ∙ empty_block t c f.tables (f.empty (c / 256) (omega arith) (omega arith))))
+      ∙ sym (filled_else t block at c (λ p. omega arith) ∙ empty_block t c f.tables
+      (f.empty (c / 256) (omega (arith, q, later)) (omega (arith, q, s, later)) (omega arith))))
       ∙ ap (λ (b : Bool). filled t block at c || b) (last_part start end c q later))))
 
   -- In the first block.

@@ -1,14 +1,14 @@
 -- The ranges of a set are filled one after another.
-use Rattle.std.proofs.Common.{◌≡◌, ◌∙◌, ℕ, ◌+◌, ◌-◌, ◌*◌, ◌<◌, ◌≤◌, List, [], ◌∷◌, length, drop, get_or, min, refl, ap, sym, arith, suc, Bool, true, false, inl, inr}
-use Rattle.std.specs.Prelude.{nat_lt, nat_le, ◌&&◌, ◌||◌}
+use Rattle.std.proofs.Common.{◌≡◌, ◌∙◌, ℕ, ◌+◌, ◌-◌, ◌*◌, ◌/◌, ◌<◌, ◌≤◌, List, [], ◌∷◌, length, drop, get_or, min, refl, ap, sym, add-zero, arith, zero, suc, Bool, true, false, inl, inr}
+use Rattle.std.specs.Prelude.{◌⊎◌, nat_lt, nat_le, ◌&&◌, ◌||◌}
 use Rattle.std.specs.List.{All}
 use Rattle.std.specs.declared.ops.RangeInclusive.{RangeInclusive}
 use Rattle.std.proofs.lemmas.Bool.{cases_lt, lt-ltb, le-ltb, le-leb, lt-leb}
 use Rattle.std.proofs.lemmas.List.{drop_all, drop_more}
 use Rattle.icu_zerovec.specs.CodePoints.{code_point_limit}
 use Rattle.icu_invlist.specs.InversionList.{AreApart, IsOfCodePoints, IsValid, StartsBehind, between, holds, in_ranges, ranges_of}
-use Rattle.icu_frozen_sets.specs.FrozenWords.{IsFrozenOf, bit_in}
-use Rattle.icu_frozen_sets.specs.Inside.Filling.{AreBelow, AreClosed, AreTables, IsFilling, IsFrozen, bit_among, bits_of, filled}
+use Rattle.icu_frozen_sets.specs.FrozenWords.{IsFrozenOf, bit_in, offset_words}
+use Rattle.icu_frozen_sets.specs.Inside.Filling.{AreBelow, AreClosed, AreTables, HasOffset, IsFilling, IsFrozen, bit_among, bits_of, filled}
 use Rattle.icu_frozen_sets.proofs.BitLemmas.{or_false}
 use Rattle.icu_frozen_sets.proofs.MarkLemmas.{below_later}
 
@@ -22,10 +22,52 @@ abbrev pub AreBelowFirst : List ℕ → List ℕ → ℕ → List (RangeInclusiv
 AreBelowFirst starts ends at [] = Unit {0}
 AreBelowFirst starts ends at (r ∷ rs) = AreBelow starts ends at r.start
 
+-- p is above all boundaries but the end of the code space.
+abbrev pub IsAbove : ℕ → List ℕ → Type 0
+IsAbove p set = (i : ℕ) → i < length set → (get_or set i 0 < p) ⊎ (get_or set i 0 ≡ code_point_limit)
+
+-- Boundaries ascend.
+rises : (xs : List ℕ) (i n : ℕ) → IsValid xs → i + n < length xs → get_or xs i 0 ≤ get_or xs (i + n) 0
+rises xs i zero v l = rw add-zero (omega arith)
+rises xs i (suc n) v l =
+    let before = rises xs i n v (omega arith) in
+    let step = v.ascending (i + n) (omega arith) in
+    let e : i + suc n ≡ i + n + 1 = omega arith in rw e (omega arith)
+
+pub below_last : (xs : List ℕ) (k i last : ℕ) → IsValid xs → last ≡ get_or xs k 0 → k < length xs → i ≤ k → get_or xs i 0 ≤ last
+below_last xs k i last v e h l =
+    let same : i + (k - i) ≡ k = omega (arith, l) in
+    let up = rw same at (rises xs i (k - i) v (omega (arith, same, h))) in
+    omega (arith, e, up)
+
+-- The block of each boundary has an offset, and not many more blocks have.
+pub record AreEnough (set t : List ℕ) : Type 0 where
+  pub own : (i : ℕ) → i < length set → HasOffset t (get_or set i 0 / 256)
+  pub short : (p : ℕ) → IsAbove p set → offset_words t ≤ p / 1024 + 2
+
+pub enough_first : (set t : List ℕ) (last : ℕ)
+    → ((i : ℕ) → i < length set → (get_or set i 0 ≤ last) ⊎ (get_or set i 0 ≡ code_point_limit))
+    → ((p : ℕ) → IsAbove p set → last ≤ p) → ((p : ℕ) → p ≤ last → HasOffset t (p / 256)) → offset_words t ≤ last / 1024 + 2
+    → AreEnough set t
+enough_first set t last there least own short = record {
+  own = λ i l. elim (there i l) [
+    | inl below ↦ own (get_or set i 0) below
+    | inr end ↦ λ h. absurd (omega (arith, end, h))
+  ];
+  short = λ p above. (let l = least p above in omega (arith, l, short));
+}
+
+pub enough_kept : (set t new : List ℕ) → offset_words new ≡ offset_words t → AreEnough set t → AreEnough set new
+enough_kept set t new same e = record {
+  own = λ i l h. (let o = e.own i l h in omega (arith, o, same));
+  short = λ p above. (let s = e.short p above in omega (arith, s, same));
+}
+
 -- Each code point in the set is filled, or in one of the ranges that are left.
 pub record Freezes (set : List ℕ) (left : List (RangeInclusive ℕ)) (t : List ℕ) (starts ends : List ℕ) (carried : Bool) (at : ℕ)
     : Type 0 where
   pub filling : IsFilling t at
+  pub enough : AreEnough set t
   pub closed : AreClosed starts ends carried
   pub apart : AreApart left
   pub within : All IsOfCodePoints left
@@ -67,12 +109,13 @@ below_rest starts ends at last [] b h = tt
 below_rest starts ends at last (r ∷ rs) b h = below_later starts ends at (last + 2) r.start b (omega arith)
 
 pub freezes_none : (set : List ℕ) (left : List (RangeInclusive ℕ)) (t : List ℕ) (starts ends : List ℕ) (carried : Bool) (at : ℕ)
-    → IsFilling t at → AreClosed starts ends carried → ((next : ℕ) → AreBelow starts ends at next)
+    → IsFilling t at → AreEnough set t → AreClosed starts ends carried → ((next : ℕ) → AreBelow starts ends at next)
     → ((c : ℕ) → c < code_point_limit → filled t (bits_of starts ends carried) at c ≡ false)
     → AreApart left → All IsOfCodePoints left → ((c : ℕ) → in_ranges left c ≡ holds set c)
     → Freezes set left t starts ends carried at
-freezes_none set left t starts ends carried at f closed below none apart within held = record {
+freezes_none set left t starts ends carried at f enough closed below none apart within held = record {
   filling = f;
+  enough = enough;
   closed = closed;
   apart = apart;
   within = within;
@@ -99,12 +142,13 @@ module _ (set : List ℕ) (left rest : List (RangeInclusive ℕ)) (r : RangeIncl
   range_within = let w = inside 0 r (omega arith) in omega arith
 
   pub freezes_more : (t1 : List ℕ) (starts1 ends1 : List ℕ) (carried1 : Bool) (new start end : ℕ) → start ≡ r.start → end ≡ r.end + 1
-      → IsFilling t1 new → AreClosed starts1 ends1 carried1 → AreBelow starts1 ends1 new (end + 1)
+      → IsFilling t1 new → offset_words t1 ≡ offset_words t → AreClosed starts1 ends1 carried1 → AreBelow starts1 ends1 new (end + 1)
       → ((c : ℕ) → c < code_point_limit → filled t1 (bits_of starts1 ends1 carried1) new c
       ≡ (filled t (bits_of starts ends carried) at c || between start end c))
       → Freezes set rest t1 starts1 ends1 carried1 new
-  freezes_more t1 starts1 ends1 carried1 new start end s e filling closed below bits = record {
+  freezes_more t1 starts1 ends1 carried1 new start end s e filling same closed below bits = record {
     filling = filling;
+    enough = enough_kept set t t1 same f.enough;
     closed = closed;
     apart = here.1;
     within = λ k d h. inside (suc k) d (omega arith);
@@ -119,7 +163,7 @@ module _ (set : List ℕ) (left rest : List (RangeInclusive ℕ)) (r : RangeIncl
 
 -- All ranges are filled.
 module _ (set : List ℕ) (left : List (RangeInclusive ℕ)) (t : List ℕ) (starts ends : List ℕ) (carried : Bool) (at : ℕ) (new : List ℕ)
-    (f : Freezes set left t starts ends carried at) (none : left ≡ []) (tables : AreTables new)
+    (f : Freezes set left t starts ends carried at) (none : left ≡ []) (tables : AreTables new) (same : offset_words new ≡ offset_words t)
     (bits : (c : ℕ) → c < code_point_limit → bit_in new c ≡ filled t (bits_of starts ends carried) at c) where
   all_bits : (c : ℕ) → c < code_point_limit → bit_in new c ≡ holds set c
   all_bits c h = bits c h ∙ sym (f.held c h
@@ -129,7 +173,11 @@ module _ (set : List ℕ) (left : List (RangeInclusive ℕ)) (t : List ℕ) (sta
   pub frozen_all : IsValid set → IsFrozenOf set new
   frozen_all v = record {
     valid = v;
+    some = tables.some;
+    few = tables.few;
     placed = tables.placed;
+    offsets = (let l = tables.least in omega (arith, l));
+    short = (enough_kept set t new same f.enough).short;
     most = tables.most;
     bits = all_bits;
   }

@@ -16,6 +16,7 @@ pub mod SameLengthLemmas
 pub mod SetLemmas
 pub mod SpanConditionLemmas
 pub mod SpanLemmas
+pub mod StartLemmas
 pub mod TextFrontLemmas
 pub mod TextPieces
 pub mod ThreeByteLemmas

@@ -81,8 +81,8 @@ same_word word i = same_bool (bit_at word i == 1)
     same_bool true = refl
     same_bool false = refl
 
-pub has_ascii : (table : List ℕ) (held : Bool) (place w v t u : ℕ) → place ≡ place_in table 0 → w ≡ get_or table (1088 + place) 0
-    → v ≡ get_or table (1088 + place + 1) 0 → ((i : ℕ) → i < 64 → (bit_at t i == 1) ≡ beq (bit_at w i == 1) held)
+pub has_ascii : (table : List ℕ) (held : Bool) (place w v t u : ℕ) → place ≡ place_in table 0 → w ≡ get_or table place 0
+    → v ≡ get_or table (place + 1) 0 → ((i : ℕ) → i < 64 → (bit_at t i == 1) ≡ beq (bit_at w i == 1) held)
     → ((i : ℕ) → i < 64 → (bit_at u i == 1) ≡ beq (bit_at v i == 1) held) → HasAscii table held (t ∷ u ∷ [])
 has_ascii table held place w v t u p e f low high c l =
     let block : c / 256 ≡ 0 = omega arith in
@@ -91,14 +91,14 @@ has_ascii table held place w v t u p e f low high c l =
     elim (cases_lt c 64) [
       | inl h ↦
           let word : c / 64 ≡ 0 = omega arith in
-          let at : 1088 + place_in table (c / 256) + c / 64 % 4 ≡ 1088 + place = rw (block, word) (omega (arith, p)) in
+          let at : place_in table (c / 256) + c / 64 % 4 ≡ place = rw (block, word) (omega (arith, p)) in
           let bit : bit_in table c ≡ (bit_at w (c % 64) == 1) =
           ap (λ (k : ℕ). bit_at (get_or table k 0) (c % 64) == 1) at ∙ ap (λ (k : ℕ). bit_at k (c % 64) == 1) (sym e) in
           ap (λ (k : ℕ). bit_at (get_or (t ∷ u ∷ []) k 0) (c % 64) == 1) word
           ∙ (low (c % 64) (omega arith) ∙ ap (λ (b : Bool). beq b held) (sym (inside ∙ bit)))
       | inr h ↦
           let word : c / 64 ≡ 1 = omega arith in
-          let at : 1088 + place_in table (c / 256) + c / 64 % 4 ≡ 1088 + place + 1 = rw (block, word) (omega (arith, p)) in
+          let at : place_in table (c / 256) + c / 64 % 4 ≡ place + 1 = rw (block, word) (omega (arith, p)) in
           let bit : bit_in table c ≡ (bit_at v (c % 64) == 1) =
           ap (λ (k : ℕ). bit_at (get_or table k 0) (c % 64) == 1) at ∙ ap (λ (k : ℕ). bit_at k (c % 64) == 1) (sym f) in
           ap (λ (k : ℕ). bit_at (get_or (t ∷ u ∷ []) k 0) (c % 64) == 1) word

@@ -10,11 +10,12 @@ use Rattle.std.proofs.lemmas.Str.{length-encode}
 use Rattle.icu_zerovec.specs.CodePoints.{code_point_limit}
 use Rattle.icu_utf.specs.Utf8.{IsFirstPart}
 use Rattle.icu_utf.proofs.CallerLemmas.{three_bytes_found}
-use Rattle.icu_frozen_sets.specs.FrozenWords.{bit_in, is_held, place_in}
+use Rattle.icu_frozen_sets.specs.FrozenWords.{bit_in, is_held, offset_at, offset_words, place_in}
 use Rattle.icu_frozen_sets.specs.LongestSpans.{AllHeld, IsSpan}
 use Rattle.icu_frozen_sets.specs.Inside.ThreeByte.{AreBitsOf, AreOfThree, IsPassed, IsThree, wide_place}
 use Rattle.icu_frozen_sets.specs.declared.three_byte.Passed.{Passed}
 use Rattle.icu_frozen_sets.proofs.LongestSpanLemmas.{is_alike, is_other, one_more, span_to_other}
+use Rattle.icu_frozen_sets.proofs.PlaceLemmas.{place_inside}
 
 -- ---- a character at the start of bytes
 -- It is within them.
@@ -107,7 +108,7 @@ module _ (sound : Type 0) (is_in : ℕ → Bool) (held : Bool) (bytes : List ℕ
 
 -- ---- the bits of 64 code points
 -- Those of a frozen set.
-pub table_bits : (table : List ℕ) (high place w : ℕ) → high < 1024 → place ≡ 1088 + place_in table (high / 4) + high % 4
+pub table_bits : (table : List ℕ) (high place w : ℕ) → high < 1024 → place ≡ place_in table (high / 4) + high % 4
     → w ≡ get_or table place 0 → AreBitsOf (is_held table) high w
 table_bits table high place w most p e j l =
     let c : ℕ = 64 * high + j in
@@ -116,7 +117,7 @@ table_bits table high place w most p e j l =
     let rest : c % 64 ≡ j = omega arith in
     let inside : is_held table c ≡ bit_in table c =
     ap (λ (b : Bool). b && bit_in table c) (lt-ltb c code_point_limit (omega arith)) in
-    let at : 1088 + place_in table (c / 256) + c / 64 % 4 ≡ place = rw (block, word) (sym p) in
+    let at : place_in table (c / 256) + c / 64 % 4 ≡ place = rw (block, word) (sym p) in
     let bit : bit_in table c ≡ (bit_at w j == 1) =
     ap (λ (k : ℕ). bit_at (get_or table k 0) (c % 64) == 1) at
     ∙ (ap (λ (k : ℕ). bit_at (get_or table place 0) k == 1) rest ∙ ap (λ (k : ℕ). bit_at k j == 1) (sym e)) in
@@ -187,17 +188,24 @@ wide_none table i j l which =
     ] in
     ones_at j l ∙ sym (cond-true _ 0xFFFF (place_in table b) is)
 
-pub wide_some : (table : List ℕ) (i j w : ℕ) → j < 4 → (i / 2 ≡ 0 → ⊥) → (i / 2 ≡ 27 → ⊥) → w ≡ get_or table i 0
-    → w / 2 ^ (16 * j) % 2 ^ 16 ≡ wide_place table (4 * i + j)
-wide_some table i j w l first last e =
+pub wide_some : (table : List ℕ) (i j w : ℕ) → j < 4 → (i / 2 ≡ 0 → ⊥) → (i / 2 ≡ 27 → ⊥)
+    → w / 2 ^ (16 * j) % 2 ^ 16 ≡ place_in table (4 * i + j) → w / 2 ^ (16 * j) % 2 ^ 16 ≡ wide_place table (4 * i + j)
+wide_some table i j w l first last place =
     let b : ℕ = 4 * i + j in
     let half : b / 8 ≡ i / 2 = omega arith in
     let not : (b / 8 == 0 || b / 8 == 27) ≡ false =
     or_from _ _ (ne_eqb (b / 8) 0 (λ z. first (sym half ∙ z))) (ne_eqb (b / 8) 27 (λ z. last (sym half ∙ z))) in
+    place ∙ sym (cond-false _ 0xFFFF (place_in table b) not)
+
+-- A word of offsets has those of four blocks.
+pub four_places : (table : List ℕ) (i j w : ℕ) → j < 4 → i < offset_words table → w ≡ get_or table i 0
+    → w / 2 ^ (16 * j) % 2 ^ 16 ≡ place_in table (4 * i + j)
+four_places table i j w l h e =
+    let b : ℕ = 4 * i + j in
     let four : b / 4 ≡ i = omega arith in
     let rest : b % 4 ≡ j = omega arith in
-    let place : w / 2 ^ (16 * j) % 2 ^ 16 ≡ place_in table b = rw (four, rest, e) refl in
-    place ∙ sym (cond-false _ 0xFFFF (place_in table b) not)
+    let place : w / 2 ^ (16 * j) % 2 ^ 16 ≡ offset_at table b = rw (four, rest, e) refl in
+    place ∙ sym (place_inside table b (omega (arith, l, h)))
 
 -- Four more offsets are written.
 pub wide_more : (table old new : List ℕ) (i four : ℕ) → ((j : ℕ) → j < 4 → four / 2 ^ (16 * j) % 2 ^ 16 ≡ wide_place table (4 * i + j))

@@ -22,7 +22,7 @@ abbrev pub SaysOf : List ℕ → Bool → List ℕ → ℕ → Type 0
 SaysOf table held words c = (bit_at (get_or words (c / 64) 0) (c % 64) == 1) ≡ beq (is_held table c) held
 
 pub short_more : (table : List ℕ) (held : Bool) (words : List ℕ) (k place w t : ℕ) → length words ≡ 36 → k < 32
-    → place ≡ place_in table (k / 4) → w ≡ get_or table (1088 + place + k % 4) 0
+    → place ≡ place_in table (k / 4) → w ≡ get_or table (place + k % 4) 0
     → ((i : ℕ) → i < 64 → (bit_at t i == 1) ≡ beq (bit_at w i == 1) held)
     → ((c : ℕ) → c / 64 < k → SaysOf table held words c) → (c : ℕ) → c / 64 < k + 1 → SaysOf table held (set words k t) c
 short_more table held words k place w t n h p e bits before c m = elim (cases_eq (c / 64) k) [
@@ -31,7 +31,7 @@ short_more table held words k place w t n h p e bits before c m = elim (cases_eq
       let inside : is_held table c ≡ bit_in table c =
       ap (λ (b : Bool). b && bit_in table c) (lt-ltb c code_point_limit (omega arith)) in
       let block : c / 256 ≡ k / 4 = omega arith in
-      let at : 1088 + place_in table (c / 256) + c / 64 % 4 ≡ 1088 + place + k % 4 = rw (block, q) (omega (arith, p)) in
+      let at : place_in table (c / 256) + c / 64 % 4 ≡ place + k % 4 = rw (block, q) (omega (arith, p)) in
       let bit : bit_in table c ≡ (bit_at w (c % 64) == 1) =
       ap (λ (j : ℕ). bit_at (get_or table j 0) (c % 64) == 1) at ∙ ap (λ (j : ℕ). bit_at j (c % 64) == 1) (sym e) in
       ap (λ (j : ℕ). bit_at j (c % 64) == 1) (get_or-set_at words k (c / 64) t 0 q there)
@@ -41,8 +41,8 @@ short_more table held words k place w t n h p e bits before c m = elim (cases_eq
 
 -- The four words of a block.
 pub short_block : (table : List ℕ) (held : Bool) (words : List ℕ) (b p w0 w1 w2 w3 t0 t1 t2 t3 : ℕ) → length words ≡ 36 → b < 8
-    → p ≡ place_in table b → w0 ≡ get_or table (1088 + p) 0 → w1 ≡ get_or table (1088 + p + 1) 0
-    → w2 ≡ get_or table (1088 + p + 2) 0 → w3 ≡ get_or table (1088 + p + 3) 0
+    → p ≡ place_in table b → w0 ≡ get_or table p 0 → w1 ≡ get_or table (p + 1) 0
+    → w2 ≡ get_or table (p + 2) 0 → w3 ≡ get_or table (p + 3) 0
     → ((i : ℕ) → i < 64 → (bit_at t0 i == 1) ≡ beq (bit_at w0 i == 1) held)
     → ((i : ℕ) → i < 64 → (bit_at t1 i == 1) ≡ beq (bit_at w1 i == 1) held)
     → ((i : ℕ) → i < 64 → (bit_at t2 i == 1) ≡ beq (bit_at w2 i == 1) held)
@@ -60,10 +60,10 @@ short_block table held words b p w0 w1 w2 w3 t0 t1 t2 t3 n l is e0 e1 e2 e3 h0 h
     let q1 : (4 * b + 1) / 4 ≡ b = omega arith in
     let q2 : (4 * b + 2) / 4 ≡ b = omega arith in
     let q3 : (4 * b + 3) / 4 ≡ b = omega arith in
-    let same0 : 1088 + p ≡ 1088 + p + 4 * b % 4 = omega arith in
-    let same1 : 1088 + p + 1 ≡ 1088 + p + (4 * b + 1) % 4 = omega arith in
-    let same2 : 1088 + p + 2 ≡ 1088 + p + (4 * b + 2) % 4 = omega arith in
-    let same3 : 1088 + p + 3 ≡ 1088 + p + (4 * b + 3) % 4 = omega arith in
+    let same0 : p ≡ p + 4 * b % 4 = omega arith in
+    let same1 : p + 1 ≡ p + (4 * b + 1) % 4 = omega arith in
+    let same2 : p + 2 ≡ p + (4 * b + 2) % 4 = omega arith in
+    let same3 : p + 3 ≡ p + (4 * b + 3) % 4 = omega arith in
     let one = short_more table held words (4 * b) p w0 t0 n (omega arith) (rw q0 is)
     (e0 ∙ ap (λ (j : ℕ). get_or table j 0) same0) h0 before in
     let two = short_more table held words1 (4 * b + 1) p w1 t1 n1 (omega arith) (rw q1 is)

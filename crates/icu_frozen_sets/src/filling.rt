@@ -3,10 +3,10 @@ ghost use Rattle.std.specs.Prelude.{◌≡◌, ℕ, ◌+◌, ◌*◌, ◌/◌, �
 ghost use Rattle.std.specs.Int.{bit_at, from_bool};
 ghost use Rattle.icu_zerovec.specs.CodePoints.{code_point_limit};
 ghost use Rattle.icu_invlist.specs.InversionList.{between};
-ghost use Rattle.icu_frozen_sets.specs.FrozenWords.{bit_in};
-ghost use Rattle.icu_frozen_sets.specs.Inside.Filling.{AreBelow, AreClosed, AreTables, IsFilling, bits_of, block_bit, filled, number};
+ghost use Rattle.icu_frozen_sets.specs.FrozenWords.{bit_in, offset_words};
+ghost use Rattle.icu_frozen_sets.specs.Inside.Filling.{AreBelow, AreClosed, AreTables, HasOffset, IsFilling, bits_of, block_bit, filled, number};
 
-use crate::bits::{BLOCKS, FrozenWords};
+use crate::bits::{BLOCKS, FrozenWords, offsets_for};
 use icu_zerovec::MemoryError;
 use std::alloc::Global;
 
@@ -64,11 +64,14 @@ fn difference(ends: &[u64; 4], starts: &[u64; 4], carried: bool) -> [u64; 4]
 }
 
 impl Filling {
-    /// Returns a filling without ranges, with capacity for a set of `ranges` ranges.
+    /// Returns a filling without ranges, with capacity for a set of `ranges` ranges. `last` is the
+    /// last boundary of the set that is not the end of the code space, or 0 if there is none.
     ///
     /// # Errors
     /// Returns `MemoryError` if an allocation fails.
-    pub(crate) fn new(alloc: Global, ranges: usize) -> Result<Filling, MemoryError>
+    pub(crate) fn new(alloc: Global, last: u32, ranges: usize) -> Result<Filling, MemoryError>
+        ensures own { IfOk result (λ f. (p : ℕ) → p ≤ last → HasOffset f.bits (p / 256)) }
+        ensures short { IfOk result (λ f. offset_words f.bits ≤ last / 1024 + 2) }
         ensures filling { IfOk result (λ f. IsFilling f.bits f.at) }
         ensures closed { IfOk result (λ f. AreClosed f.starts f.ends f.carried) }
         ensures below { IfOk result (λ f. (next : ℕ) → AreBelow f.starts f.ends f.at next) }
@@ -76,7 +79,7 @@ impl Filling {
             → filled f.bits (bits_of f.starts f.ends f.carried) f.at c ≡ false) }
     {
         Ok(Filling {
-            bits: FrozenWords::new(alloc, ranges)?,
+            bits: FrozenWords::new(alloc, offsets_for(last), ranges)?,
             starts: [0; 4],
             ends: [0; 4],
             carried: false,
@@ -106,6 +109,9 @@ impl Filling {
         requires closed { AreClosed self.old.starts self.old.ends self.old.carried }
         requires order { self.old.at ≤ at }
         requires within { at ≤ BLOCKS }
+        requires own { HasOffset self.old.bits at }
+        ensures offsets { OnOk result
+            (offset_words self.new.bits ≡ offset_words self.old.bits) }
         ensures filling { OnOk result (IsFilling self.new.bits at) }
         ensures at { OnOk result (self.new.at ≡ at) }
         ensures closed { OnOk result (AreClosed self.new.starts self.new.ends self.new.carried) }
@@ -137,6 +143,9 @@ impl Filling {
         requires here { self.old.at ≡ start / 256 }
         requires later { start / 256 < end / 256 }
         requires within { end ≤ code_point_limit }
+        requires own { HasOffset self.old.bits (end / 256) }
+        ensures offsets { OnOk result
+            (offset_words self.new.bits ≡ offset_words self.old.bits) }
         ensures filling { OnOk result (IsFilling self.new.bits self.new.at) }
         ensures closed { OnOk result (AreClosed self.new.starts self.new.ends self.new.carried) }
         ensures below { OnOk result
@@ -168,6 +177,10 @@ impl Filling {
         requires below { AreBelow self.old.starts self.old.ends self.old.at start }
         requires some { start < end }
         requires within { end ≤ code_point_limit }
+        requires first { HasOffset self.old.bits (start / 256) }
+        requires last { HasOffset self.old.bits (end / 256) }
+        ensures offsets { OnOk result
+            (offset_words self.new.bits ≡ offset_words self.old.bits) }
         ensures filling { OnOk result (IsFilling self.new.bits self.new.at) }
         ensures closed { OnOk result (AreClosed self.new.starts self.new.ends self.new.carried) }
         ensures below { OnOk result
@@ -195,6 +208,8 @@ impl Filling {
         requires filling { IsFilling self.bits self.at }
         requires closed { AreClosed self.starts self.ends self.carried }
         ensures tables { IfOk result (λ words. AreTables words.items) }
+        ensures offsets { IfOk result (λ words. offset_words words.items
+            ≡ offset_words self.bits) }
         ensures bits { IfOk result (λ words. (c : ℕ) → c < code_point_limit
             → bit_in words.items c
             ≡ filled self.bits (bits_of self.starts self.ends self.carried) self.at c) }

@@ -14,7 +14,7 @@ ghost use Rattle.icu_frozen_sets.specs.Inside.Characters.{IsAsked};
 ghost use Rattle.icu_frozen_sets.specs.Inside.Filling.{bit_among};
 
 use crate::ascii::ascii_of;
-use crate::view::{FrozenView, PLACE_WORDS, bit_of_parts, contains, place_of, word};
+use crate::view::{FrozenView, bit_of_parts, contains, place_of, word};
 use crate::words::frozen_words;
 use icu_invlist::codepointinvlist::CodePointInversionList;
 use icu_utf::places::{number_of_four, place_of_three, place_of_two};
@@ -23,12 +23,13 @@ use icu_zerovec::ule::AsULE;
 use std::alloc::Global;
 use std::marker::Model;
 
-/// A set of code points for many look-ups, each of which takes two loads and no search (ICU: a
-/// frozen UnicodeSet).
+/// A set of code points for many look-ups, each of which takes at most three loads and no search
+/// (ICU: a frozen UnicodeSet).
 ///
 /// It stores the set and, in 64-bit words, a bit for each code point, in blocks of 256. The words
-/// take 9 kB, plus 32 bytes for each range up to 142 ranges. If more blocks than that are neither
-/// empty nor full, they take at most 64 bytes for each such block.
+/// take 8 bytes for each 1,024 code points up to the last boundary below 0x110000, at most 112 bytes
+/// more, and 32 bytes for each range up to 142 ranges. If more blocks than that are neither empty nor
+/// full, they take at most 64 bytes for each such block.
 ///
 /// ```
 /// let letters = FrozenCodePointSet::freeze(alloc, &set)?;
@@ -46,7 +47,7 @@ pub struct FrozenCodePointSet {
     /// The bits of the code points below 0x800, which have at most two bytes in UTF-8: one word for
     /// each lead byte.
     two_bytes: [u64; 32],
-    /// The block offsets, four in a word, and then the words of the blocks.
+    /// The offsets of the blocks, four in a word, and then the words of the blocks.
     words: Vec<u64>,
 }
 
@@ -82,12 +83,7 @@ fn first_words(table: &[u64]) -> [u64; 32]
 {
     let mut words = [0; 32];
     for k in 0..8 {
-        put_four(
-            &mut words,
-            4 * k,
-            table,
-            PLACE_WORDS + place_of(table, k as u32),
-        );
+        put_four(&mut words, 4 * k, table, place_of(table, k as u32));
     }
     words
 }
@@ -140,10 +136,12 @@ impl FrozenCodePointSet {
         &self.set
     }
 
-    /// Returns the words of the frozen set, for example to write them to a file. The first 1,088
-    /// have the offsets of the 4,352 blocks of 256 code points, four in a word with the first one in
-    /// the lowest bits. Each of the others has the bits of 64 code points, lowest first. A block's
-    /// offset says at which of them its four words start.
+    /// Returns the words of the frozen set, for example to write them to a file. [`FrozenView`] says
+    /// what is in them.
+    ///
+    /// A small set takes few words: one for each 1,024 code points up to the last boundary below
+    /// 0x110000, at most 14 more, and four for each block of 256 code points that is neither empty
+    /// nor full. White_Space takes 37 words.
     ///
     /// [`FrozenView::new`] makes them a frozen set again, without a copy.
     ///

@@ -9,7 +9,7 @@ ghost use Rattle.icu_frozen_sets.specs.FrozenView.{view_words};
 ghost use Rattle.icu_frozen_sets.specs.FrozenWords.{IsFrozenOf, bit_in, is_held};
 
 use crate::frozen::FrozenCodePointSet;
-use crate::view::{FULL_BLOCK, FrozenView, PLACE_WORDS, place_of, word};
+use crate::view::{FULL_BLOCK, FrozenView, offset_count, place_of, word};
 use icu_invlist::codepointinvlist::RangeOf;
 use icu_zerovec::CODE_POINT_LIMIT;
 use std::ops::RangeInclusive;
@@ -49,15 +49,15 @@ fn ones_from(word: u64, place: u32) -> u32
 fn is_full(table: &[u64], place: usize) -> bool
     requires { place < 2 ^ 16 }
     ensures { result ≡ true → (k : ℕ) → k < 4
-        → slice_index table.now (1088 + place + k) ≡ 2 ^ 64 - 1 }
+        → slice_index table.now (place + k) ≡ 2 ^ 64 - 1 }
 {
-    if place as u64 != FULL_BLOCK {
+    if place != offset_count(table) + FULL_BLOCK {
         return false;
     }
-    let first = word(table, PLACE_WORDS + place);
-    let second = word(table, PLACE_WORDS + place + 1);
-    let third = word(table, PLACE_WORDS + place + 2);
-    let fourth = word(table, PLACE_WORDS + place + 3);
+    let first = word(table, place);
+    let second = word(table, place + 1);
+    let third = word(table, place + 2);
+    let fourth = word(table, place + 3);
     first == u64::MAX && second == u64::MAX && third == u64::MAX && fourth == u64::MAX
 }
 
@@ -74,7 +74,7 @@ fn past_ones(table: &[u64], c: u32) -> u32
     if is_full(table, place) {
         return (c / 256 + 1) * 256;
     }
-    let bits = word(table, PLACE_WORDS + place + (c / 64 % 4) as usize);
+    let bits = word(table, place + (c / 64 % 4) as usize);
     c + ones_from(bits, c % 64)
 }
 

@@ -12,7 +12,7 @@ use crate::ascii_blocks::skip_ascii_blocks;
 use crate::longest_span::long_span;
 use crate::three_byte::{Passed, skip_three_byte};
 use crate::two_byte::has_short;
-use crate::view::{PLACE_WORDS, contains, place_of, word};
+use crate::view::{contains, place_of, word};
 use icu_zerovec::CODE_POINT_LIMIT;
 use std::marker::Model;
 
@@ -118,7 +118,7 @@ impl<'a> FrozenKind<'a> {
     pub(crate) fn new(table: &'a [u64], held: bool) -> FrozenKind<'a>
         ensures { result ≡ record { numbers = table.now; held = held } }
     {
-        let first = PLACE_WORDS + place_of(table, 0);
+        let first = place_of(table, 0);
         let ascii = [
             turned(word(table, first), held),
             turned(word(table, first + 1), held),

@@ -2,12 +2,13 @@
 //! them, as a space between words does.
 ghost use Rattle.std.specs.Prelude.{◌≡◌, ℕ, ◌+◌, ◌*◌, ◌/◌, ◌%◌, ◌^◌, ◌<◌, ◌≤◌, ◌==◌, Some, true, length, slice_index};
 ghost use Rattle.std.specs.Int.{bit_at};
-ghost use Rattle.icu_frozen_sets.specs.FrozenWords.{is_held};
+ghost use Rattle.icu_frozen_sets.specs.FrozenWords.{is_held, offset_words, place_in};
 ghost use Rattle.icu_frozen_sets.specs.Inside.TwoByte.{AreShortWords};
 ghost use Rattle.icu_frozen_sets.specs.Inside.ThreeByte.{AreBitsOf, AreOfThree, IsPassed, IsThree, wide_place};
 
+use crate::bits::four_times;
 use crate::two_byte::has_short;
-use crate::view::{PLACE_WORDS, word};
+use crate::view::{offset_count, place_of, word};
 
 /// In the table of block offsets: the block has no character of three bytes.
 const NO_PLACE: u16 = 0xFFFF;
@@ -35,9 +36,11 @@ fn write_four(places: &mut [u16; 256], start: usize, four: u64)
 }
 
 /// Returns the word with the offsets of four blocks, or four times [`NO_PLACE`] if they have
-/// shorter characters or surrogates.
+/// shorter characters or surrogates. `far` is the word for blocks after the last offset.
 #[inline(always)]
-fn wide_word(table: &[u64], i: usize) -> u64
+fn wide_word(table: &[u64], i: usize, far: u64) -> u64
+    requires { (j : ℕ) → j < 4 → offset_words table.now ≤ i
+        → far / 2 ^ (16 * j) % 2 ^ 16 ≡ place_in table.now (4 * i + j) }
     ensures { (j : ℕ) → j < 4 → result / 2 ^ (16 * j) % 2 ^ 16 ≡ wide_place table.now (4 * i + j) }
 {
     if i / 2 == 0 {
@@ -46,7 +49,20 @@ fn wide_word(table: &[u64], i: usize) -> u64
     if i / 2 == 27 {
         return u64::MAX;
     }
-    word(table, i)
+    if i < offset_count(table) {
+        word(table, i)
+    } else {
+        far
+    }
+}
+
+/// Returns four times the last offset, which is that of all later blocks, too.
+#[inline(always)]
+fn far_word(table: &[u64]) -> u64
+    ensures { (b j : ℕ) → 4 * offset_words table.now ≤ b → j < 4
+        → result / 2 ^ (16 * j) % 2 ^ 16 ≡ place_in table.now b }
+{
+    four_times(place_of(table, u32::MAX) as u64)
 }
 
 /// Returns the offsets of the first 256 blocks. Blocks of shorter characters, and of surrogates,
@@ -56,8 +72,9 @@ pub(crate) fn wide_places(table: &[u64]) -> [u16; 256]
     ensures { (b : ℕ) → b < 256 → slice_index result b ≡ wide_place table.now b }
 {
     let mut places = [0; 256];
+    let far = far_word(table);
     for i in 0..64 {
-        write_four(&mut places, 4 * i, wide_word(table, i));
+        write_four(&mut places, 4 * i, wide_word(table, i, far));
     }
     places
 }
@@ -106,7 +123,7 @@ fn three_bits(table: &[u64], places: &[u16; 256], high: u32) -> Option<u64>
     ensures bits { (bits : ℕ) → result ≡ Some bits → AreBitsOf (is_held table.now) high bits }
 {
     let place = places[(high / 4) as usize];
-    let index = PLACE_WORDS + usize::from(place) + (high % 4) as usize;
+    let index = usize::from(place) + (high % 4) as usize;
     if place == NO_PLACE || index >= table.len() {
         return None;
     }

@@ -1,10 +1,10 @@
 -- The words of a frozen set while they are filled, from the first code point on. The current block is
 -- separate, as the starts and the ends of the ranges in it: one bit marks each.
-use Rattle.std.specs.Prelude.{ℕ, ◌+◌, ◌-◌, ◌*◌, ◌/◌, ◌%◌, ◌^◌, ◌<◌, ◌≤◌, ◌≡◌, ◌≢◌, List, length, slice_index, slice_index_or, Bool, false, ◌==◌, if◌then◌else◌}
+use Rattle.std.specs.Prelude.{ℕ, ◌+◌, ◌-◌, ◌*◌, ◌/◌, ◌%◌, ◌^◌, ◌<◌, ◌≤◌, ◌≡◌, ◌≢◌, List, length, slice_index, slice_index_or, Bool, false, ◌==◌, min, if◌then◌else◌}
 use Rattle.std.specs.Int.{bit_at, from_bool}
 use Rattle.icu_zerovec.specs.CodePoints.{code_point_limit}
 use Rattle.icu_invlist.specs.InversionList.{holds}
-use Rattle.icu_frozen_sets.specs.FrozenWords.{IsFrozenOf, bit_in, place_in}
+use Rattle.icu_frozen_sets.specs.FrozenWords.{IsFrozenOf, bit_in, offset_words, place_in}
 
 -- Whether the bit of c is 1 in the words of its block.
 abbrev pub block_bit : List ℕ → ℕ → Bool
@@ -19,29 +19,39 @@ abbrev pub IsUniform : List ℕ → Bool → Type 0
 IsUniform block value =
     (k : ℕ) → k < 4 → slice_index block k ≡ (if value then 2 ^ 64 - 1 else 0)
 
--- The four words of each block are there. The blocks start with the words of the empty and of the
--- full block. There are at most four words for each block, and eight more.
+-- The offsets are followed by the words of the block of U+0000, of the empty block and of the full block.
+-- The four words of each block are there. There are at most four words for each block, and eight more.
 pub record AreTables (table : List ℕ) : Type 0 where
-  pub least : 1096 ≤ length table
-  pub most : length table ≤ 1096 + 4 * 4352
-  pub placed : (b : ℕ) → b < 4352 → 1088 + place_in table b + 4 ≤ length table
-  pub none : (k : ℕ) → k < 4 → slice_index table (1088 + k) ≡ 0
-  pub all : (k : ℕ) → k < 4 → slice_index table (1092 + k) ≡ 2 ^ 64 - 1
+  pub some : 0 < offset_words table
+  pub few : offset_words table ≤ 1088
+  pub least : offset_words table + 12 ≤ length table
+  pub most : length table ≤ offset_words table + 8 + 4 * 4352
+  pub above : (b : ℕ) → b < 4352 → offset_words table ≤ place_in table b
+  pub placed : (b : ℕ) → b < 4352 → place_in table b + 4 ≤ length table
+  pub none : (k : ℕ) → k < 4 → slice_index table (offset_words table + 4 + k) ≡ 0
+  pub all : (k : ℕ) → k < 4 → slice_index table (offset_words table + 8 + k) ≡ 2 ^ 64 - 1
+
+-- Block b has an offset that is not that of later blocks, too, or it is the end of all blocks.
+abbrev pub HasOffset : List ℕ → ℕ → Type 0
+HasOffset table b = b < 4352 → min (b + 2) 4352 ≤ 4 * offset_words table
 
 -- In the new words, block `at` has these bits. Nothing else changes.
 pub record SetsBlock (old new : List ℕ) (at : ℕ) (bits : ℕ → Bool) : Type 0 where
   pub tables : AreTables new
-  pub few : length new ≤ length old + 4
+  pub offsets : offset_words new ≡ offset_words old
+  pub few : length new ≤ length old + 4 * min at 1
   pub others : (b : ℕ) → b ≢ at → b < 4352 → place_in new b ≡ place_in old b
   pub kept : (c : ℕ) → c / 256 ≢ at → c < code_point_limit → bit_in new c ≡ bit_in old c
   pub set : (c : ℕ) → c / 256 ≡ at → bit_in new c ≡ bits c
 
--- The words have the blocks below `at`. All others are empty.
+-- The words have the blocks below `at`. All others are empty, except that the words of the block of U+0000
+-- may have any bits before they are written.
 pub record IsFilling (table : List ℕ) (at : ℕ) : Type 0 where
   pub tables : AreTables table
-  pub few : length table ≤ 1096 + 4 * at
+  pub few : length table ≤ offset_words table + 12 + 4 * (at - 1)
   pub within : at ≤ 4352
-  pub empty : (b : ℕ) → at ≤ b → b < 4352 → place_in table b ≡ 0
+  pub own : HasOffset table at
+  pub empty : (b : ℕ) → 0 < b → at ≤ b → b < 4352 → place_in table b ≡ offset_words table + 4
 
 -- Four words as one number, whose bit k is bit k % 64 of word k / 64.
 unfoldable pub number : List ℕ → ℕ

@@ -1,6 +1,6 @@
 //! Filling the words of a frozen set, range by range.
 
-use crate::icu_frozen_sets::bits::{BLOCKS, FrozenWords};
+use crate::icu_frozen_sets::bits::{BLOCKS, FrozenWords, offsets_for};
 use crate::icu_zerovec::MemoryError;
 use crate::support::prelude::*;
 
@@ -49,14 +49,15 @@ fn difference(ends: &[u64; 4], starts: &[u64; 4], carried: bool) -> [u64; 4] {
 }
 
 impl Filling {
-    /// Returns a filling without ranges, with capacity for a set of `ranges` ranges.
+    /// Returns a filling without ranges, with capacity for a set of `ranges` ranges. `last` is the
+    /// last boundary of the set that is not the end of the code space, or 0 if there is none.
     ///
     /// # Errors
     /// Returns `MemoryError` if an allocation fails.
     #[inline]
-    pub(crate) fn new(ranges: usize) -> Result<Filling, MemoryError> {
+    pub(crate) fn new(last: u32, ranges: usize) -> Result<Filling, MemoryError> {
         Ok(Filling {
-            bits: FrozenWords::new(ranges)?,
+            bits: FrozenWords::new(offsets_for(last), ranges)?,
             starts: [0; 4],
             ends: [0; 4],
             carried: false,

@@ -1,7 +1,7 @@
 //! Whether a frozen set contains a range.
 
 use crate::icu_frozen_sets::frozen::FrozenCodePointSet;
-use crate::icu_frozen_sets::view::{FULL_BLOCK, FrozenView, PLACE_WORDS, place_of, word};
+use crate::icu_frozen_sets::view::{FULL_BLOCK, FrozenView, offset_count, place_of, word};
 use crate::icu_invlist::codepointinvlist::RangeOf;
 use crate::icu_zerovec::CODE_POINT_LIMIT;
 use crate::support::prelude::*;
@@ -33,13 +33,13 @@ fn ones_from(word: u64, place: u32) -> u32 {
 /// have.
 #[inline(always)]
 fn is_full(table: &[u64], place: usize) -> bool {
-    if place as u64 != FULL_BLOCK {
+    if place != offset_count(table) + FULL_BLOCK {
         return false;
     }
-    let first = word(table, PLACE_WORDS + place);
-    let second = word(table, PLACE_WORDS + place + 1);
-    let third = word(table, PLACE_WORDS + place + 2);
-    let fourth = word(table, PLACE_WORDS + place + 3);
+    let first = word(table, place);
+    let second = word(table, place + 1);
+    let third = word(table, place + 2);
+    let fourth = word(table, place + 3);
     first == u64::MAX && second == u64::MAX && third == u64::MAX && fourth == u64::MAX
 }
 
@@ -51,7 +51,7 @@ fn past_ones(table: &[u64], c: u32) -> u32 {
     if is_full(table, place) {
         return (c / 256 + 1) * 256;
     }
-    let bits = word(table, PLACE_WORDS + place + (c / 64 % 4) as usize);
+    let bits = word(table, place + (c / 64 % 4) as usize);
     c + ones_from(bits, c % 64)
 }
 

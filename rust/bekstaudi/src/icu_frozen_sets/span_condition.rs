@@ -4,7 +4,7 @@ use crate::icu_frozen_sets::ascii_blocks::skip_ascii_blocks;
 use crate::icu_frozen_sets::longest_span::long_span;
 use crate::icu_frozen_sets::three_byte::{Passed, skip_three_byte};
 use crate::icu_frozen_sets::two_byte::has_short;
-use crate::icu_frozen_sets::view::{PLACE_WORDS, contains, place_of, word};
+use crate::icu_frozen_sets::view::{contains, place_of, word};
 use crate::icu_zerovec::CODE_POINT_LIMIT;
 use crate::support::prelude::*;
 
@@ -56,7 +56,7 @@ impl<'a> FrozenKind<'a> {
     /// Returns the kind by the frozen set at the start of the words.
     #[inline(always)]
     pub(crate) fn new(table: &'a [u64], held: bool) -> FrozenKind<'a> {
-        let first = PLACE_WORDS + place_of(table, 0);
+        let first = place_of(table, 0);
         let ascii = [
             turned(word(table, first), held),
             turned(word(table, first + 1), held),

@@ -1,8 +1,9 @@
 //! Characters of three bytes that follow one another. One ASCII character may come before each of
 //! them, as a space between words does.
 
+use crate::icu_frozen_sets::bits::four_times;
 use crate::icu_frozen_sets::two_byte::has_short;
-use crate::icu_frozen_sets::view::{PLACE_WORDS, word};
+use crate::icu_frozen_sets::view::{offset_count, place_of, word};
 use crate::support::prelude::*;
 
 /// In the table of block offsets: the block has no character of three bytes.
@@ -26,16 +27,26 @@ fn write_four(places: &mut [u16; 256], start: usize, four: u64) {
 }
 
 /// Returns the word with the offsets of four blocks, or four times [`NO_PLACE`] if they have
-/// shorter characters or surrogates.
+/// shorter characters or surrogates. `far` is the word for blocks after the last offset.
 #[inline(always)]
-fn wide_word(table: &[u64], i: usize) -> u64 {
+fn wide_word(table: &[u64], i: usize, far: u64) -> u64 {
     if i / 2 == 0 {
         return u64::MAX;
     }
     if i / 2 == 27 {
         return u64::MAX;
     }
-    word(table, i)
+    if i < offset_count(table) {
+        word(table, i)
+    } else {
+        far
+    }
+}
+
+/// Returns four times the last offset, which is that of all later blocks, too.
+#[inline(always)]
+fn far_word(table: &[u64]) -> u64 {
+    four_times(place_of(table, u32::MAX) as u64)
 }
 
 /// Returns the offsets of the first 256 blocks. Blocks of shorter characters, and of surrogates,
@@ -43,8 +54,9 @@ fn wide_word(table: &[u64], i: usize) -> u64 {
 #[inline(always)]
 pub(crate) fn wide_places(table: &[u64]) -> [u16; 256] {
     let mut places = [0; 256];
+    let far = far_word(table);
     for i in 0..64 {
-        write_four(&mut places, 4 * i, wide_word(table, i));
+        write_four(&mut places, 4 * i, wide_word(table, i, far));
     }
     places
 }
@@ -80,7 +92,7 @@ fn high_of_three(bytes: &[u8]) -> Option<u32> {
 #[inline(always)]
 fn three_bits(table: &[u64], places: &[u16; 256], high: u32) -> Option<u64> {
     let place = places[(high / 4) as usize];
-    let index = PLACE_WORDS + usize::from(place) + (high % 4) as usize;
+    let index = usize::from(place) + (high % 4) as usize;
     if place == NO_PLACE || index >= table.len() {
         return None;
     }

@@ -2,7 +2,7 @@
 //! that depends on which of them are ASCII.
 
 use crate::icu_frozen_sets::span_condition::turned;
-use crate::icu_frozen_sets::view::{PLACE_WORDS, place_of, word};
+use crate::icu_frozen_sets::view::{place_of, word};
 use crate::support::prelude::*;
 
 /// The bits of the bytes from 0xC0 on: whether they start a character of two bytes.
@@ -14,7 +14,7 @@ const LEADS: u64 = 0xFFFF_FFFC;
 pub(crate) fn short_words(table: &[u64], held: bool) -> [u64; 36] {
     let mut words = [0; 36];
     for block in 0..8_u32 {
-        let place = PLACE_WORDS + place_of(table, block);
+        let place = place_of(table, block);
         let first = 4 * block as usize;
         words[first] = turned(word(table, place), held);
         words[first + 1] = turned(word(table, place + 1), held);

@@ -5,11 +5,9 @@ use crate::icu_frozen_sets::span_condition::FrozenKind;
 use crate::icu_zerovec::CODE_POINT_LIMIT;
 use crate::support::prelude::*;
 
-/// How many words the block offsets take.
-pub(crate) const PLACE_WORDS: usize = 1088;
-
-/// The offset of the full block in the words that are made here. That of the empty one is 0.
-pub(crate) const FULL_BLOCK: u64 = 4;
+/// In the words that are made here, the full block starts this number of words after the offsets.
+/// The words of the block of U+0000 and of the empty block are between them.
+pub(crate) const FULL_BLOCK: usize = 8;
 
 /// Returns the word at this index, or 0 if there is none.
 #[inline(always)]
@@ -17,28 +15,39 @@ pub(crate) fn word(table: &[u64], place: usize) -> u64 {
     if place < table.len() { table[place] } else { 0 }
 }
 
-/// Returns the offset of the block's words.
+/// Returns the number of words of offsets.
 #[inline(always)]
-pub(crate) fn place_of(table: &[u64], block: u32) -> usize {
-    let four = word(table, (block / 4) as usize);
-    ((four >> (16 * (block % 4))) % 0x1_0000) as usize
+pub(crate) fn offset_count(table: &[u64]) -> usize {
+    (word(table, 0) % 0x1_0000) as usize
 }
 
-/// Returns the bit of the code point `64 * upper + lower`. One test says that all block offsets are
-/// there.
+/// Returns the last offset, which is that of all later blocks, too.
+#[inline(always)]
+fn last_place(table: &[u64]) -> usize {
+    let count = offset_count(table);
+    if count == 0 {
+        return 0;
+    }
+    (word(table, count - 1) >> 48) as usize
+}
+
+/// Returns the index of the first of the block's words. A branch takes less time than the minimum of
+/// two positions, since few look-ups are past the offsets, or nearly all.
+#[inline(always)]
+pub(crate) fn place_of(table: &[u64], block: u32) -> usize {
+    let at = (block / 4) as usize;
+    if at >= offset_count(table) {
+        return last_place(table);
+    }
+    ((word(table, at) >> (16 * (block % 4))) % 0x1_0000) as usize
+}
+
+/// Returns the bit of the code point `64 * upper + lower`.
 #[inline(always)]
 pub(crate) fn bit_of_parts(table: &[u64], upper: u32, lower: u32) -> bool {
-    if table.len() < PLACE_WORDS {
-        return false;
-    }
-    let (places, blocks) = table.split_at(PLACE_WORDS);
-    let four = places[(upper / 16) as usize];
-    let place = (four >> (16 * (upper / 4 % 4))) % 0x1_0000;
-    let at = place as usize + (upper % 4) as usize;
-    if at >= blocks.len() {
-        return false;
-    }
-    (blocks[at] >> lower) & 1 == 1
+    let place = place_of(table, upper / 4);
+    let bits = word(table, place + (upper % 4) as usize);
+    (bits >> lower) & 1 == 1
 }
 
 /// Returns whether the frozen set contains the code point.
@@ -49,9 +58,11 @@ pub(crate) fn contains(table: &[u64], c: u32) -> bool {
 
 /// A frozen set in 64-bit words, borrowed, for example from a file. It is `Copy`, like `&[u64]`.
 ///
-/// First come 4,352 block offsets of 16 bits, one for each block of 256 code points, four in a word
-/// with the first one in the lowest bits. From word 1,088 on, each word has the bits of 64 code
-/// points, lowest first. A block's offset says at which of these words its four words start.
+/// First come offsets of 16 bits, one for each block of 256 code points, four in a word with the
+/// first one in the lowest bits. A block's offset is the index of the first of its four words, each
+/// of which has the bits of 64 code points, lowest first. The words of the block of U+0000 follow the
+/// offsets, so its offset is also the number of words of offsets. The last offset is that of all
+/// later blocks, too.
 ///
 /// Any words are accepted. Words that are missing count as 0, and words after the set are ignored.
 /// [`FrozenCodePointSet::as_words`](crate::icu_frozen_sets::frozen::FrozenCodePointSet::as_words) returns the words of

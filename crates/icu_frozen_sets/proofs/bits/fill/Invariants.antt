@@ -1,6 +1,6 @@
-use Rattle.std.proofs.Common.{◌≡◌, ℕ, ◌-◌, ◌≤◌, cond, get_or, length}
+use Rattle.std.proofs.Common.{◌≡◌, ℕ, ◌-◌, ◌*◌, ◌≤◌, cond, get_or, length}
 use Rattle.icu_invlist.specs.InversionList.{between}
-use Rattle.icu_frozen_sets.specs.FrozenWords.{place_in}
+use Rattle.icu_frozen_sets.specs.FrozenWords.{offset_at}
 use Rattle.icu_frozen_sets.proofs.bits.fill.Given as goal
 
 abbrev pub invariant-loop-next : goal.invariant-loop-next
@@ -8,8 +8,8 @@ invariant-loop-next l = record {
   order : l.from ≤ l.next;
   within : l.next ≤ l.to;
   len : length l.words ≡ length l.initial.words;
-  full : (b : ℕ) → place_in l.words b ≡ cond (between l.from l.next b) 4 (place_in l.initial.words b);
-  kept : (k : ℕ) → 1088 ≤ k → get_or l.words k 0 ≡ get_or l.initial.words k 0;
+  full : (k : ℕ) → offset_at l.words k ≡ cond (between l.from l.next k) l.full (offset_at l.initial.words k);
+  kept : (k : ℕ) → l.to ≤ 4 * k → get_or l.words k 0 ≡ get_or l.initial.words k 0;
 }
 
 abbrev pub decreases-loop-next : goal.decreases-loop-next

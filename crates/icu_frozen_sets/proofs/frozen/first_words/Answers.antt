@@ -18,7 +18,7 @@ loop-k-preserved c =
             let read : c.place_of.result ≡ place_in table (n / 256) =
             c.place_of.ensures ∙ ap (λ (b : ℕ). place_in table b) (omega (arith, h, q, c.loop-k-test.true)) in
             ap (λ (i : ℕ). get_or c.put_four.new.out i 0) at ∙ (put.written (n / 64 % 4) (omega arith)
-            ∙ ap (λ (p : ℕ). get_or table (1088 + p + n / 64 % 4) 0) read)
+            ∙ ap (λ (p : ℕ). get_or table (p + n / 64 % 4) 0) read)
       ];
     }
 

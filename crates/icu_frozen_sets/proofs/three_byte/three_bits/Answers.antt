@@ -11,7 +11,7 @@ returns-clause-bits c = λ bits e.
     let place : ℕ = get_or c.args.places.now (high / 4) 0 in
     let is : place ≡ wide_place table (high / 4) = c.requires.wide (high / 4) (omega (arith, c.requires.most)) in
     let found = has_place table high place c.requires.most is c.if-place.false in
-    let index : ℕ = 1088 + c.from.result + high % 4 in
-    let at : index ≡ 1088 + place_in table (high / 4) + high % 4 = omega (arith, c.from.ensures, found.1) in
+    let index : ℕ = c.from.result + high % 4 in
+    let at : index ≡ place_in table (high / 4) + high % 4 = omega (arith, c.from.ensures, found.1) in
     let same : bits ≡ get_or table index 0 = cc in
     table_bits table high index bits c.requires.most at same

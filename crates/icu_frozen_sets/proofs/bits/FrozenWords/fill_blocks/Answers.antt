@@ -1,31 +1,67 @@
-use Rattle.std.proofs.Common.{◌∙◌, ℕ, List, ap, arith, cond, get_or, length, subst, sym}
+use Rattle.std.proofs.Common.{◌≡◌, ◌∙◌, ℕ, List, ap, arith, subst, sym}
 use Rattle.std.proofs.lemmas.List.{with_items_is}
-use Rattle.icu_invlist.specs.InversionList.{between}
-use Rattle.icu_frozen_sets.specs.FrozenWords.{bit_in, place_in}
+use Rattle.icu_frozen_sets.specs.FrozenWords.{bit_in, offset_words, place_in}
 use Rattle.icu_frozen_sets.specs.Inside.Filling.{AreTables}
-use Rattle.icu_frozen_sets.proofs.BlockLemmas.{run_bits, run_tables}
+use Rattle.icu_frozen_sets.proofs.BlockLemmas.{fills_run, run_empty}
 use Rattle.icu_frozen_sets.proofs.bits.FrozenWords.fill_blocks.Goals as goal
+
+pub fill-requires-clause-none : goal.fill-requires-clause-none
+fill-requires-clause-none c =
+    let v = c.self.inside.words in
+    let count : c.offset_count-offsets.result ≡ offset_words v.items =
+    c.offset_count-offsets.ensures ∙ ap (λ (l : List ℕ). offset_words l) c.deref.ensures.value in
+    run_empty v.items c.deref_mut.result.now c.args.from c.args.to c.min-last.result c.offset_count-offsets.result
+    (rw (← c.self.view_is) at c.requires.tables) count c.min-last.ensures c.deref_mut.ensures.value
+    (rw (← c.self.view_is) at c.requires.none)
 
 pub returns-clause-tables : goal.returns-clause-tables
 returns-clause-tables c =
     let v = c.self.inside.words in
     let f = c.fill in
-    let items = c.deref_mut.ensures.value in
     let kept = with_items_is v f.new.words (omega (arith, f.ensures.len, c.deref_mut.ensures.len)) in
-    subst AreTables (sym kept)
-    (run_tables v.items f.new.words c.args.from c.args.to (rw (← c.self.view_is) at c.requires.tables)
-    (f.ensures.len ∙ ap (λ (l : List ℕ). length l) items)
-    (λ b. f.ensures.full b ∙ ap (λ (l : List ℕ). cond (between c.args.from c.args.to b) 4 (place_in l b)) items)
-    (λ k h. f.ensures.kept k h ∙ ap (λ (l : List ℕ). get_or l k 0) items))
+    let count : c.offset_count-offsets.result ≡ offset_words v.items =
+    c.offset_count-offsets.ensures ∙ ap (λ (l : List ℕ). offset_words l) c.deref.ensures.value in
+    let run = fills_run v.items c.deref_mut.result.now f.new.words c.args.from c.args.to c.min-last.result c.offset_count-offsets.result
+    (rw (← c.self.view_is) at c.requires.tables) c.requires.some c.requires.order c.requires.there
+    (rw (← c.self.view_is) at c.requires.before) (rw (← c.self.view_is) at c.requires.after) count c.min-last.ensures
+    c.deref_mut.ensures.value f.ensures.len f.ensures.full f.ensures.kept in
+    subst AreTables (sym kept) run.tables
+
+pub returns-clause-offsets : goal.returns-clause-offsets
+returns-clause-offsets c =
+    let v = c.self.inside.words in
+    let f = c.fill in
+    let kept = with_items_is v f.new.words (omega (arith, f.ensures.len, c.deref_mut.ensures.len)) in
+    let count : c.offset_count-offsets.result ≡ offset_words v.items =
+    c.offset_count-offsets.ensures ∙ ap (λ (l : List ℕ). offset_words l) c.deref.ensures.value in
+    let run = fills_run v.items c.deref_mut.result.now f.new.words c.args.from c.args.to c.min-last.result c.offset_count-offsets.result
+    (rw (← c.self.view_is) at c.requires.tables) c.requires.some c.requires.order c.requires.there
+    (rw (← c.self.view_is) at c.requires.before) (rw (← c.self.view_is) at c.requires.after) count c.min-last.ensures
+    c.deref_mut.ensures.value f.ensures.len f.ensures.full f.ensures.kept in
+    rw (← c.self.view_is) (ap (λ (l : List ℕ). offset_words l) kept ∙ run.offsets)
+
+pub returns-clause-others : goal.returns-clause-others
+returns-clause-others c =
+    let v = c.self.inside.words in
+    let f = c.fill in
+    let kept = with_items_is v f.new.words (omega (arith, f.ensures.len, c.deref_mut.ensures.len)) in
+    let count : c.offset_count-offsets.result ≡ offset_words v.items =
+    c.offset_count-offsets.ensures ∙ ap (λ (l : List ℕ). offset_words l) c.deref.ensures.value in
+    let run = fills_run v.items c.deref_mut.result.now f.new.words c.args.from c.args.to c.min-last.result c.offset_count-offsets.result
+    (rw (← c.self.view_is) at c.requires.tables) c.requires.some c.requires.order c.requires.there
+    (rw (← c.self.view_is) at c.requires.before) (rw (← c.self.view_is) at c.requires.after) count c.min-last.ensures
+    c.deref_mut.ensures.value f.ensures.len f.ensures.full f.ensures.kept in
+    rw (← c.self.view_is) (λ b l h. ap (λ (t : List ℕ). place_in t b) kept ∙ run.after b l h)
 
 pub returns-clause-bits : goal.returns-clause-bits
 returns-clause-bits c =
     let v = c.self.inside.words in
     let f = c.fill in
-    let items = c.deref_mut.ensures.value in
     let kept = with_items_is v f.new.words (omega (arith, f.ensures.len, c.deref_mut.ensures.len)) in
-    rw (← c.self.view_is) (λ k h. ap (λ (l : List ℕ). bit_in l k) kept
-    ∙ run_bits v.items f.new.words c.args.from c.args.to (rw (← c.self.view_is) at c.requires.tables)
-    (f.ensures.len ∙ ap (λ (l : List ℕ). length l) items)
-    (λ b. f.ensures.full b ∙ ap (λ (l : List ℕ). cond (between c.args.from c.args.to b) 4 (place_in l b)) items)
-    (λ i l. f.ensures.kept i l ∙ ap (λ (l : List ℕ). get_or l i 0) items) k)
+    let count : c.offset_count-offsets.result ≡ offset_words v.items =
+    c.offset_count-offsets.ensures ∙ ap (λ (l : List ℕ). offset_words l) c.deref.ensures.value in
+    let run = fills_run v.items c.deref_mut.result.now f.new.words c.args.from c.args.to c.min-last.result c.offset_count-offsets.result
+    (rw (← c.self.view_is) at c.requires.tables) c.requires.some c.requires.order c.requires.there
+    (rw (← c.self.view_is) at c.requires.before) (rw (← c.self.view_is) at c.requires.after) count c.min-last.ensures
+    c.deref_mut.ensures.value f.ensures.len f.ensures.full f.ensures.kept in
+    rw (← c.self.view_is) (λ k h. ap (λ (t : List ℕ). bit_in t k) kept ∙ run.bits k h)

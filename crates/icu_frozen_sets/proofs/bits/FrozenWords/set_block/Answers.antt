@@ -1,4 +1,4 @@
-use Rattle.std.proofs.Common.{◌≡◌, ◌-◌, ◌^◌, ◌<◌, ℕ, List, Bool, true, false, length, refl, slice_index}
+use Rattle.std.proofs.Common.{◌≡◌, ◌-◌, ◌^◌, ◌<◌, ℕ, List, Bool, true, false, arith, length, refl, slice_index}
 use Rattle.std.proofs.lemmas.Result.{on_ok_weaker}
 use Rattle.icu_frozen_sets.specs.Inside.Filling.{IsUniform, SetsBlock, block_bit}
 use Rattle.icu_frozen_sets.proofs.BlockLemmas.{sets_empty, uniform_block}
@@ -7,7 +7,7 @@ use Rattle.icu_frozen_sets.proofs.bits.FrozenWords.set_block.Goals as goal
 pub returns-then-is_all-clause-sets : goal.returns-then-is_all-clause-sets
 returns-then-is_all-clause-sets c =
     uniform_block c.args.self.now c.args.self.now c.args.block.now c.args.at false
-    (sets_empty c.args.self.now c.args.at c.requires.tables c.requires.there c.requires.empty) (c.if-is_all.ensures.0 refl)
+    (sets_empty c.args.self.now c.args.at c.requires.filling (omega (arith, c.if-at-eq0.false)) c.requires.there) (c.if-is_all.ensures.0 refl)
 
 pub returns-then-is_all-2-clause-sets : goal.returns-then-is_all-2-clause-sets
 returns-then-is_all-2-clause-sets c =

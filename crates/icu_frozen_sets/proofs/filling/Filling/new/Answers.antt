@@ -13,4 +13,4 @@ returns-clause-below c = λ next. empty_below (0 ∷ 0 ∷ 0 ∷ 0 ∷ []) (0 �
 pub returns-clause-none : goal.returns-clause-none
 returns-clause-none c = λ k h.
     ap (λ (n : ℕ). filled c.in_ok-new.field-0 n 0 k) (empty_bits (0 ∷ 0 ∷ 0 ∷ 0 ∷ []) (0 ∷ 0 ∷ 0 ∷ 0 ∷ []) no_marks)
-    ∙ none_filled c.in_ok-new.field-0 k h c.in_ok-new.ensures
+    ∙ none_filled c.in_ok-new.field-0 k h c.in_ok-new.ensures.filling
