@@ -758,16 +758,18 @@ bool bks_set_nth(const uint32_t *ends, size_t count, uint32_t n, uint32_t *c);
 
 /** The most 64-bit words that a frozen set takes: 148,032 bytes. */
 enum { BKS_FROZEN_MOST = 18504 };
-/** Freezes a set, for many look-ups of two reads each.
+/** Freezes a set, for many look-ups of three reads each.
  *
  * The words are in `table` if all of them fit; otherwise `table` is unchanged: call it first with
  * room 0, or again with more. Allocates with malloc while it runs.
  *
- * First come 4,352 block offsets of 16 bits, one for each block of 256 code points, four in a word,
- * the first one in the lowest bits. From word 1,088 on, each word has the bits of 64 code points,
- * the first one in the lowest bit. A block's offset says at which of these words its four words
- * start. Blocks without members share their words, and so do blocks of members only. There are no
- * pointers in the words: you may copy, store and map them.
+ * First come offsets of 16 bits, one for each block of 256 code points, four in a word, the first
+ * one in the lowest bits. A block's offset is the index of the first of its four words, each of
+ * which has the bits of 64 code points, the first one in the lowest bit. The words of the block of
+ * U+0000 follow the offsets, so its offset is also the number of words of offsets. The last offset
+ * is that of all later blocks, too: White_Space takes 37 words. Other blocks without members share
+ * their words, and so do blocks of members only. There are no pointers in the words: you may copy,
+ * store and map them.
  *
  * @param ends the boundaries of the set
  * @param count how many boundaries there are
@@ -1573,7 +1575,7 @@ static inline uint32_t bks_next32_utf16(const bks_trie *trie, const uint16_t *te
 
 /** Returns whether a frozen set contains a code point: bks_frozen_contains, inline.
  *
- * Two reads, both inside the words. For words that bks_set_freeze did not write, such as untrusted
+ * Three reads, all inside the words. For words that bks_set_freeze did not write, such as untrusted
  * ones, use bks_frozen_contains.
  *
  * @param table the words that bks_set_freeze wrote
@@ -1582,10 +1584,12 @@ static inline uint32_t bks_next32_utf16(const bks_trie *trie, const uint16_t *te
  *
  * ICU: uset_contains. */
 static inline bool bks_frozen_has(const uint64_t *table, uint32_t c) {
-    uint16_t place;
+    uint32_t block = c >> 8, last = 4 * (uint32_t)(table[0] & 0xFFFF) - 1;
+    uint16_t offset;
     if (c >= 0x110000) return false;
-    memcpy(&place, (const uint8_t *)table + 2 * (size_t)(c >> 8), sizeof place);
-    return table[1088 + (size_t)place + (c >> 6 & 3)] >> (c & 63) & 1;
+    if (block > last) block = last;
+    memcpy(&offset, (const uint8_t *)table + 2 * (size_t)block, sizeof offset);
+    return table[(size_t)offset + (c >> 6 & 3)] >> (c & 63) & 1;
 }
 
 #ifdef __cplusplus

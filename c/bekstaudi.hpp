@@ -432,7 +432,7 @@ private:
     std::vector<std::uint32_t> ends_;
 };
 
-/// A set of code points for many look-ups, of two reads each (ICU: a frozen UnicodeSet). A move
+/// A set of code points for many look-ups, of three reads each (ICU: a frozen UnicodeSet). A move
 /// copies the words, so no frozen set is ever without words.
 class frozen_set {
 public:
@@ -440,9 +440,9 @@ public:
     frozen_set() : frozen_set(code_point_set()) {}
     explicit frozen_set(const code_point_set &set) {
         view<std::uint32_t> ends(set.ends());
-        // Each boundary is in one block, and such a block has four words of its own. Blocks without
-        // a boundary share eight words.
-        std::size_t needed = 1088 + 8 + 4 * ends.size();
+        // Each boundary is in one block, and such a block has four words of its own, as the first block
+        // has. Blocks without a boundary share eight words.
+        std::size_t needed = offset_words(ends) + 12 + 4 * ends.size();
         if (needed > BKS_FROZEN_MOST) needed = BKS_FROZEN_MOST;
         do {
             words_.resize(needed);
@@ -522,6 +522,15 @@ public:
 #endif
 
 private:
+    /// Returns how many words the offsets take, four in each. They end after the block of the last
+    /// boundary below 0x110000: the offset after it is that of all later blocks.
+    static std::size_t offset_words(view<std::uint32_t> ends) noexcept {
+        std::size_t count = ends.size();
+        if (count > 0 && ends.data()[count - 1] == 0x110000) count--;
+        std::size_t block = count > 0 ? ends.data()[count - 1] / 256 : 0;
+        return block + 5 < 4352 ? (block + 5) / 4 : 1088;
+    }
+
     std::vector<std::uint64_t> words_;
 };
 

@@ -197,7 +197,7 @@ static void sets(const library *l) {
     FILLED(table), room = any(4) ? BKS_FROZEN_MOST : any(5) ? any(3000) : 0;
     PUT(ASK(bks_set_freeze, SLICE(a, n), SLICE(table, room)));
     put(table, sizeof table);
-    for (size_t i = any(3) ? 0 : any(50); i > 0; i--) table[any(1400)] = any(0);
+    for (size_t i = any(3) ? 0 : any(50); i > 0; i--) table[any(any(2) ? 40 : 1400)] = any(0);
     room = any(5) ? room : any(2000);
     for (int i = 0; i < 30; i++) PUT(ASK(bks_frozen_contains, SLICE(table, room), point()));
     PUT(ASK(bks_frozen_span, SLICE(table, room), SLICE(text, size), held));

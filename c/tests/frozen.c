@@ -11,16 +11,31 @@ static uint64_t room[BKS_FROZEN_MOST + 8];
 
 /* What the header says about any words, read one by one. */
 static bool said(const uint64_t *table, size_t count, uint32_t c) {
-    size_t block = c / 256, place = block / 4 < count ? table[block / 4] >> 16 * (block % 4) & 0xFFFF : 0;
-    size_t at = 1088 + place + c / 64 % 4;
+    size_t words = count > 0 ? table[0] & 0xFFFF : 0, last = words > 0 ? 4 * words - 1 : 0;
+    size_t block = c / 256 < last ? c / 256 : last;
+    size_t offset = block / 4 < count ? table[block / 4] >> 16 * (block % 4) & 0xFFFF : 0;
+    size_t at = offset + c / 64 % 4;
     return c < CODE_POINTS && at < count && (table[at] >> c % 64 & 1) != 0;
+}
+
+/* How many words a set takes: offsets, four in each, up to the one after the block of the last boundary
+   below 0x110000; the words of the first block, the empty one and the full one; and those of each other
+   block with a boundary inside. */
+static int64_t words_of(const uint32_t *ends, size_t count) {
+    uint32_t offsets = 1, own = 0, block = 0;
+    for (size_t i = 0; i < count && ends[i] < CODE_POINTS; i++) {
+        offsets = ends[i] / 256 < 4347 ? (ends[i] / 256 + 5) / 4 : 1088;
+        own += ends[i] % 256 > 0 && ends[i] / 256 > block;
+        if (ends[i] % 256 > 0) block = ends[i] / 256;
+    }
+    return offsets + 12 + 4 * own;
 }
 
 /* Freezes the set into exactly as many words as it needs, before a closed page. A buffer that is
    too short is unchanged, and so is the rest of a longer one. */
 static uint64_t *frozen(const uint32_t *ends, size_t count, int64_t *size) {
     *size = bks_set_freeze(ends, count, room, 0);
-    CHECK(*size > 1088 && *size <= BKS_FROZEN_MOST);
+    CHECK(*size == words_of(ends, count) && *size <= BKS_FROZEN_MOST);
     size_t bytes = 8 * (size_t)*size;
     uint64_t *table = (uint64_t *)before_closed_page(bytes);
     CHECK(bks_set_freeze(ends, count, table, (size_t)*size) == *size);
@@ -82,19 +97,30 @@ static void spans(const set_table *s, const uint64_t *table, size_t size) {
     released(units, 2 * count);
 }
 
-/* Every second code point, so that each block has words of its own; no code point; and all. */
+/* Every second code point, so that each block has words of its own; no code point; all; White_Space; and
+   the last one, whose block is the last one. */
 static void extremes(void) {
     static uint32_t ends[CODE_POINTS];
-    const uint32_t all[] = {0, CODE_POINTS};
+    const uint32_t all[] = {0, CODE_POINTS}, last[] = {CODE_POINTS - 1, CODE_POINTS};
+    const uint32_t spaces[] = {0x09,   0x0E,   0x20,   0x21,   0x85,   0x86,   0xA0,   0xA1,   0x1680, 0x1681,
+                               0x2000, 0x200B, 0x2028, 0x202A, 0x202F, 0x2030, 0x205F, 0x2060, 0x3000, 0x3001};
     int64_t size;
     for (uint32_t c = 0; c < CODE_POINTS; c++) ends[c] = c;
     uint64_t *table = frozen(ends, CODE_POINTS, &size);
     CHECK(size == BKS_FROZEN_MOST);
     for (uint32_t c = 0; c < CODE_POINTS; c++) CHECK(bks_frozen_has(table, c) == (c % 2 == 0));
     table = frozen(ends, 0, &size);
+    CHECK(size == 13);
     for (uint32_t c = 0; c < CODE_POINTS; c++) CHECK(!bks_frozen_has(table, c));
     table = frozen(all, 2, &size);
+    CHECK(size == 13);
     for (uint32_t c = 0; c < CODE_POINTS; c++) CHECK(bks_frozen_has(table, c));
+    table = frozen(spaces, 20, &size);
+    CHECK(size == 37);
+    for (uint32_t c = 0; c < CODE_POINTS; c++) CHECK(bks_frozen_has(table, c) == bks_set_contains(spaces, 20, c));
+    table = frozen(last, 2, &size);
+    CHECK(size == 1104);
+    for (uint32_t c = 0; c < CODE_POINTS; c++) CHECK(bks_frozen_has(table, c) == (c == CODE_POINTS - 1));
 }
 
 /* Boundaries that are no set. */
@@ -228,6 +254,7 @@ static void damaged(const uint64_t *table, size_t size) {
     memcpy(copy, table, 8 * count);
     for (uint32_t n = below(40); n > 0 && count > 0; n--)
         copy[below(2) ? below((uint32_t)count) : below(count < 320 ? (uint32_t)count : 320)] = next_number();
+    if (count > 0 && below(4) == 0) copy[0] = (copy[0] & ~(uint64_t)0xFFFF) | below(4);
     for (uint32_t c = below(64); c < CODE_POINTS + 999; c += 1 + below(199))
         CHECK(bks_frozen_contains(copy, count, c) == said(copy, count, c));
     for (int held = 0; held < 2; held++) {

@@ -1,7 +1,7 @@
 /* The type bekstaudi._native.CodePointSet.
  *
- * A set stores its boundaries. After many look-ups it also stores its frozen form, a table of 9 to
- * 148 kB that takes two reads per look-up. Sets never change, so callers see no difference but time. */
+ * A set stores its boundaries. After many look-ups it also stores its frozen form, a table of up to
+ * 148 kB that takes three reads per look-up. Sets never change, so callers see no difference but time. */
 #include "shared.h"
 #include <string.h>
 

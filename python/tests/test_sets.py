@@ -351,22 +351,27 @@ class Sets(unittest.TestCase):
                 self.assertEqual((it, hash(it), type(it)), (frozen, hash(frozen), FrozenCodePointSet))
             for it in (frozen | made, ~frozen, FrozenCodePointSet.from_chars("ab"), FrozenCodePointSet.from_ranges([(1, 2)])):
                 self.assertIs(type(it), FrozenCodePointSet)
-                self.assertGreater(it.__sizeof__(), 8000)
+                self.assertGreater(it.__sizeof__(), it.words.nbytes)
             self.assertIs(type(made | frozen), CodePointSet)
 
     def test_words_of_a_frozen_set(self):
         # The layout that bekstaudi.h describes.
-        for ends in ([], [0, 0x110000], *ENDS):
+        last, spaces = [0x10FFFF, 0x110000], CodePointSet.from_chars("\t\n\v\f\r \x85\xa0\u1680\u2028\u2029\u202f\u205f\u3000")
+        spaces |= CodePointSet.from_ranges([(0x2000, 0x200A)])
+        sizes = (([], 13), ([0, 0x110000], 13), (ENDS[0], 13), (spaces.ends, 37), (last, 1104), (ENDS[1], None))
+        for ends, size in sizes:
             frozen, members = FrozenCodePointSet(ends), set(CodePointSet(ends))
             words = frozen.words
             self.assertEqual((words.format, words.itemsize, words.readonly), ("Q", 8, True))
             offsets = memoryview(words.cast("B")).cast("H")
-            for c in [*range(0, 0x110000, 97), *range(0x300)]:
-                word = words[1088 + offsets[c >> 8] + (c >> 6 & 3)]
+            end = 4 * offsets[0] - 1
+            for c in [*range(0, 0x110000, 97), *range(0x300), *range(0x10FF00, 0x110000)]:
+                word = words[offsets[min(c >> 8, end)] + (c >> 6 & 3)]
                 self.assertEqual(word >> (c & 63) & 1, c in members)
             self.assertEqual(array.array("Q", words).tobytes(), bytes(words))
             del frozen
-            self.assertEqual(len(words[1088:]) % 4, 0)
+            self.assertEqual(len(words[offsets[0] :]) % 4, 0)
+            self.assertIn(size, (len(words), None))
         with self.assertRaises(TypeError):
             words[0] = 5
         with self.assertRaises(AttributeError):

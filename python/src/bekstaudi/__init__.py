@@ -276,7 +276,7 @@ class CodePointSet(_native.CodePointSet):
 
 
 class FrozenCodePointSet(CodePointSet):
-    """A CodePointSet with a table of 9 to 148 kB, by which each look-up takes two reads.
+    """A CodePointSet with a table of 104 bytes to 148 kB, by which each look-up takes three reads.
 
     `CodePointSet.freeze` makes it; `FrozenCodePointSet(ends)` does so from boundaries. It equals, and
     has the hash of, the set that it was made of.
