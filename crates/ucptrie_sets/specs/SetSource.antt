@@ -1,9 +1,9 @@
 -- A set as source: its exact text in C and in Rust.
-use Rattle.std.specs.Prelude.{◌≡◌, ℕ, ◌+◌, ◌%◌, ◌==◌, List, [], ◌∷◌, ◌++◌, codes, length, map, max, if◌then◌else◌}
+use Rattle.std.specs.Prelude.{◌≡◌, ℕ, ◌+◌, ◌-◌, ◌*◌, ◌%◌, ◌==◌, List, [], ◌∷◌, ◌++◌, codes, length, map, max, if◌then◌else◌}
 use Rattle.std.specs.Char.{to_ascii_uppercase}
 use Rattle.icu_zerovec.specs.CodePoints.{code_point_limit}
 use Rattle.icu_invlist.specs.InversionList.{members_below, ranges_of}
-use Rattle.icu_frozen_sets.specs.FrozenWords.{IsFrozenOf}
+use Rattle.icu_frozen_sets.specs.FrozenWords.{IsFrozenOf, offset_words}
 use Rattle.ucptab_table.specs.Patterns.{filled, named, number_text}
 use Rattle.ucptab_table.specs.declared.pattern.Number.TheVariants.{Decimal, Hexadecimal}
 
@@ -95,28 +95,35 @@ static_text name set = title set ++ static_head name ++ cells_from 0 set ++ stat
 
 -- ---- A frozen set in C
 
--- What precedes the array of so many words.
-unfoldable pub frozen_c_head : List ℕ → ℕ → List ℕ
-frozen_c_head name count = filled name (Decimal count ∷ [])
+-- The last block with an offset in the words of a frozen set. Each word of offsets has four.
+abbrev pub last_block : List ℕ → ℕ
+last_block words = 4 * offset_words words - 1
+
+-- What precedes the array of the words. A look-up reads the last block's offset for all later blocks.
+unfoldable pub frozen_c_head : List ℕ → List ℕ → List ℕ
+frozen_c_head name words = filled name (Decimal (length words) ∷ Decimal (last_block words) ∷ [])
     (codes "// The words of the frozen set, for bks_frozen_contains and bks_frozen_has of "
-    ++ codes "bekstaudi.h. The first\n// 1088 have four offsets each, one for each block of 256 code "
-    ++ codes "points. The others have a bit for\n// each code point of a block, 64 in each word.\n\n"
-    ++ codes "#include <stdbool.h>\n#include <stdint.h>\n\nenum { @_length = % };\n\n"
+    ++ codes "bekstaudi.h. First come\n// offsets, one for each block of 256 code points, four in a "
+    ++ codes "word. A block's offset is the index of its\n// four words, which have a bit for each code "
+    ++ codes "point. The last offset is that of all later blocks.\n\n"
+    ++ codes "#include <stdbool.h>\n#include <stdint.h>\n\n"
+    ++ codes "enum { @_length = %, @_last_block = % };\n\n"
     ++ codes "static const uint64_t @_words[@_length] = {\n")
 
 -- The look-up in the words.
 unfoldable pub frozen_c_look_up : List ℕ → List ℕ
 frozen_c_look_up name = named name
     (codes "\n};\n\n// Whether c is in the set, by two reads and without a library.\n"
-    ++ codes "static inline bool @_contains(uint32_t c) {\n    uint32_t block;\n"
+    ++ codes "static inline bool @_contains(uint32_t c) {\n    uint32_t block = c >> 8, offset;\n"
     ++ codes "    if (c > 0x10ffff) return false;\n"
-    ++ codes "    block = (uint32_t)(@_words[c >> 10] >> (c >> 8 & 3) * 16) & 0xffff;\n"
-    ++ codes "    return @_words[1088 + block + (c >> 6 & 3)] >> (c & 63) & 1;\n}\n")
+    ++ codes "    if (block > @_last_block) block = @_last_block;\n"
+    ++ codes "    offset = (uint32_t)(@_words[block >> 2] >> (block & 3) * 16) & 0xffff;\n"
+    ++ codes "    return @_words[offset + (c >> 6 & 3)] >> (c & 63) & 1;\n}\n")
 
 -- Words in C: an array with them, and the look-up.
 abbrev pub frozen_c : List ℕ → List ℕ → List ℕ
 frozen_c name words =
-    frozen_c_head name (length words) ++ cells_from 0 words ++ frozen_c_look_up name
+    frozen_c_head name words ++ cells_from 0 words ++ frozen_c_look_up name
 
 -- The text is the frozen set in C, with the words of the set.
 pub record IsFrozenC (name set text : List ℕ) : Type 0 where
@@ -126,13 +133,15 @@ pub record IsFrozenC (name set text : List ℕ) : Type 0 where
 
 -- ---- A frozen set in Rust
 
--- What precedes the array of so many words.
-unfoldable pub frozen_rust_head : List ℕ → ℕ → List ℕ
-frozen_rust_head name count = filled name (Decimal count ∷ [])
+-- What precedes the array of the words. A look-up reads the last block's offset for all later blocks.
+unfoldable pub frozen_rust_head : List ℕ → List ℕ → List ℕ
+frozen_rust_head name words = filled name (Decimal (last_block words) ∷ Decimal (length words) ∷ [])
     (codes "#[allow(dead_code, non_snake_case, clippy::module_inception)]\npub mod @ {\n"
-    ++ codes "    /// The words of the frozen set, for `FrozenView` of `bekstaudi`. The first 1088 have four "
-    ++ codes "offsets\n    /// each, one for each block of 256 code points. The others have a bit for each "
-    ++ codes "code point of a\n    /// block, 64 in each word.\n"
+    ++ codes "    /// The last block with an offset, which is that of all later blocks too.\n"
+    ++ codes "    const LAST_BLOCK: u32 = %;\n\n"
+    ++ codes "    /// The words of the frozen set, for `FrozenView` of `bekstaudi`. First come offsets, "
+    ++ codes "one for each\n    /// block of 256 code points, four in a word. A block's offset is the "
+    ++ codes "index of its four words,\n    /// which have a bit for each code point.\n"
     ++ codes "    #[rustfmt::skip]\n    pub static WORDS: [u64; %] = [\n")
 
 -- The look-up in the words.
@@ -141,14 +150,15 @@ frozen_rust_look_up =
     codes "\n    ];\n\n    /// Returns whether the set contains `c`, by two reads.\n"
     ++ codes "    pub fn contains(c: u32) -> bool {\n"
     ++ codes "        if c > 0x10FFFF {\n            return false;\n        }\n"
-    ++ codes "        let block = WORDS[(c >> 10) as usize] >> ((c >> 8 & 3) * 16) & 0xFFFF;\n"
-    ++ codes "        let word = WORDS[1088 + block as usize + (c >> 6 & 3) as usize];\n"
+    ++ codes "        let block = (c >> 8).min(LAST_BLOCK);\n"
+    ++ codes "        let offset = WORDS[(block >> 2) as usize] >> ((block & 3) * 16) & 0xFFFF;\n"
+    ++ codes "        let word = WORDS[offset as usize + (c >> 6 & 3) as usize];\n"
     ++ codes "        (word >> (c & 63)) & 1 == 1\n    }\n}\n"
 
 -- Words in Rust: a module with them, and the look-up.
 abbrev pub frozen_rust : List ℕ → List ℕ → List ℕ
 frozen_rust name words =
-    frozen_rust_head name (length words) ++ cells_from 0 words ++ frozen_rust_look_up
+    frozen_rust_head name words ++ cells_from 0 words ++ frozen_rust_look_up
 
 -- The text is the frozen set in Rust, with the words of the set.
 pub record IsFrozenRust (name set text : List ℕ) : Type 0 where

@@ -2,7 +2,7 @@
 ghost use Rattle.std.specs.Prelude.{◌≡◌, ◌++◌, IfOk, OnOk, string_bytes};
 ghost use Rattle.ucptrie_sets.specs.SetSource.{frozen_rust, frozen_rust_head, frozen_rust_look_up, IsFrozenRust, rust_head, rust_search, rust_text};
 
-use crate::source::{frozen_of, push_boundaries, push_words, title_of};
+use crate::source::{frozen_of, last_block_of, push_boundaries, push_words, title_of};
 use icu_invlist::codepointinvlist::CodePointInversionList;
 use std::alloc::{AllocError, Global};
 use ucptab_table::pattern::Number::Decimal;
@@ -69,31 +69,36 @@ const LOOK_UP: &str = "
         if c > 0x10FFFF {
             return false;
         }
-        let block = WORDS[(c >> 10) as usize] >> ((c >> 8 & 3) * 16) & 0xFFFF;
-        let word = WORDS[1088 + block as usize + (c >> 6 & 3) as usize];
+        let block = (c >> 8).min(LAST_BLOCK);
+        let offset = WORDS[(block >> 2) as usize] >> ((block & 3) * 16) & 0xFFFF;
+        let word = WORDS[offset as usize + (c >> 6 & 3) as usize];
         (word >> (c & 63)) & 1 == 1
     }
 }
 ";
 
-/// What precedes the words. `@` is replaced by the name, and `%` by their number.
+/// What precedes the words. `@` is replaced by the name, and `%` by a number.
 const WORDS: &str = "\
 #[allow(dead_code, non_snake_case, clippy::module_inception)]
 pub mod @ {
-    /// The words of the frozen set, for `FrozenView` of `bekstaudi`. The first 1088 have four offsets
-    /// each, one for each block of 256 code points. The others have a bit for each code point of a
-    /// block, 64 in each word.
+    /// The last block with an offset, which is that of all later blocks too.
+    const LAST_BLOCK: u32 = %;
+
+    /// The words of the frozen set, for `FrozenView` of `bekstaudi`. First come offsets, one for each
+    /// block of 256 code points, four in a word. A block's offset is the index of its four words,
+    /// which have a bit for each code point.
     #[rustfmt::skip]
     pub static WORDS: [u64; %] = [
 ";
 
-/// Appends what precedes so many words of a frozen set.
+/// Appends what precedes the words of a frozen set.
 #[tactic(auto, unfolding(crate::specs::SetSource::frozen_rust_head))]
-fn push_frozen_head(text: &mut String, name: &str, count: usize) -> Result<(), AllocError>
+fn push_frozen_head(text: &mut String, name: &str, words: &[u64]) -> Result<(), AllocError>
     ensures { OnOk result (string_bytes text.new
-        ≡ string_bytes text.old ++ frozen_rust_head name.now count) }
+        ≡ string_bytes text.old ++ frozen_rust_head name.now words.now) }
 {
-    push_pattern(text, WORDS, name, &[Decimal(count)])
+    let numbers = [Decimal(last_block_of(words)), Decimal(words.len())];
+    push_pattern(text, WORDS, name, &numbers)
 }
 
 /// Appends the look-up in the words of a frozen set.
@@ -109,7 +114,7 @@ fn push_frozen(text: &mut String, words: &[u64], name: &str) -> Result<(), Alloc
     ensures { OnOk result (string_bytes text.new
         ≡ string_bytes text.old ++ frozen_rust name.now words.now) }
 {
-    push_frozen_head(text, name, words.len())?;
+    push_frozen_head(text, name, words)?;
     push_words(text, words)?;
     push_look_up(text)
 }

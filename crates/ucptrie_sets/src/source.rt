@@ -2,7 +2,7 @@
 ghost use Rattle.std.specs.Prelude.{◌≡◌, ◌+◌, ◌*◌, ◌^◌, ◌<◌, ◌≤◌, ◌++◌, IfOk, OnOk, length, string_bytes};
 ghost use Rattle.ucptab_table.specs.Patterns.{number_text};
 ghost use Rattle.ucptab_table.specs.declared.pattern.Number.TheVariants.{Hexadecimal};
-ghost use Rattle.ucptrie_sets.specs.SetSource.{cells_from, gap, title};
+ghost use Rattle.ucptrie_sets.specs.SetSource.{cells_from, gap, last_block, title};
 
 use icu_frozen_sets::frozen::FrozenCodePointSet;
 use icu_invlist::codepointinvlist::CodePointInversionList;
@@ -40,6 +40,17 @@ pub(crate) fn frozen_of(
         return Err(AllocError);
     };
     Ok(frozen)
+}
+
+/// Returns the last block that has an offset in the words of a frozen set. Their first word has the
+/// number of words of offsets.
+pub(crate) fn last_block_of(words: &[u64]) -> usize
+    ensures { result ≡ last_block words.now }
+{
+    let Some(first) = words.first() else {
+        return 0;
+    };
+    (4 * (*first % 0x1_0000) as usize).saturating_sub(1)
 }
 
 /// Appends what precedes the cell `i` of an array: nothing, a comma and a space, or a comma and a

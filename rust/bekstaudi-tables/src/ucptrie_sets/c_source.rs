@@ -5,7 +5,9 @@ use crate::support::AllocError;
 use crate::support::prelude::*;
 use crate::ucptab_table::pattern::Number::Decimal;
 use crate::ucptab_table::pattern::{push_named, push_pattern};
-use crate::ucptrie_sets::source::{frozen_of, push_boundaries, push_words, title_of};
+use crate::ucptrie_sets::source::{
+    frozen_of, last_block_of, push_boundaries, push_words, title_of,
+};
 use bekstaudi::codepointinvlist::CodePointInversionList;
 
 /// What precedes the boundaries. `@` is replaced by the name, and `%` by a number.
@@ -73,14 +75,14 @@ pub(crate) fn c_text(set: &CodePointInversionList<'_>, name: &str) -> Result<Str
 
 /// What precedes the words of a frozen set. `@` is replaced by the name, and `%` by a number.
 const WORDS: &str = "\
-// The words of the frozen set, for bks_frozen_contains and bks_frozen_has of bekstaudi.h. The first
-// 1088 have four offsets each, one for each block of 256 code points. The others have a bit for
-// each code point of a block, 64 in each word.
+// The words of the frozen set, for bks_frozen_contains and bks_frozen_has of bekstaudi.h. First come
+// offsets, one for each block of 256 code points, four in a word. A block's offset is the index of its
+// four words, which have a bit for each code point. The last offset is that of all later blocks.
 
 #include <stdbool.h>
 #include <stdint.h>
 
-enum { @_length = % };
+enum { @_length = %, @_last_block = % };
 
 static const uint64_t @_words[@_length] = {
 ";
@@ -91,16 +93,18 @@ const LOOK_UP: &str = "
 
 // Whether c is in the set, by two reads and without a library.
 static inline bool @_contains(uint32_t c) {
-    uint32_t block;
+    uint32_t block = c >> 8, offset;
     if (c > 0x10ffff) return false;
-    block = (uint32_t)(@_words[c >> 10] >> (c >> 8 & 3) * 16) & 0xffff;
-    return @_words[1088 + block + (c >> 6 & 3)] >> (c & 63) & 1;
+    if (block > @_last_block) block = @_last_block;
+    offset = (uint32_t)(@_words[block >> 2] >> (block & 3) * 16) & 0xffff;
+    return @_words[offset + (c >> 6 & 3)] >> (c & 63) & 1;
 }
 ";
 
-/// Appends what precedes so many words of a frozen set.
-fn push_frozen_head(text: &mut String, name: &str, count: usize) -> Result<(), AllocError> {
-    push_pattern(text, WORDS, name, &[Decimal(count)])
+/// Appends what precedes the words of a frozen set.
+fn push_frozen_head(text: &mut String, name: &str, words: &[u64]) -> Result<(), AllocError> {
+    let numbers = [Decimal(words.len()), Decimal(last_block_of(words))];
+    push_pattern(text, WORDS, name, &numbers)
 }
 
 /// Appends the look-up in the words of a frozen set.
@@ -110,7 +114,7 @@ fn push_look_up(text: &mut String, name: &str) -> Result<(), AllocError> {
 
 /// Appends an array with the words of a frozen set, and a look-up in it.
 fn push_frozen(text: &mut String, words: &[u64], name: &str) -> Result<(), AllocError> {
-    push_frozen_head(text, name, words.len())?;
+    push_frozen_head(text, name, words)?;
     push_words(text, words)?;
     push_look_up(text, name)
 }

@@ -5,7 +5,9 @@ use crate::support::AllocError;
 use crate::support::prelude::*;
 use crate::ucptab_table::pattern::Number::Decimal;
 use crate::ucptab_table::pattern::push_pattern;
-use crate::ucptrie_sets::source::{frozen_of, push_boundaries, push_words, title_of};
+use crate::ucptrie_sets::source::{
+    frozen_of, last_block_of, push_boundaries, push_words, title_of,
+};
 use bekstaudi::codepointinvlist::CodePointInversionList;
 
 /// The search in the boundaries.
@@ -59,27 +61,32 @@ const LOOK_UP: &str = "
         if c > 0x10FFFF {
             return false;
         }
-        let block = WORDS[(c >> 10) as usize] >> ((c >> 8 & 3) * 16) & 0xFFFF;
-        let word = WORDS[1088 + block as usize + (c >> 6 & 3) as usize];
+        let block = (c >> 8).min(LAST_BLOCK);
+        let offset = WORDS[(block >> 2) as usize] >> ((block & 3) * 16) & 0xFFFF;
+        let word = WORDS[offset as usize + (c >> 6 & 3) as usize];
         (word >> (c & 63)) & 1 == 1
     }
 }
 ";
 
-/// What precedes the words. `@` is replaced by the name, and `%` by their number.
+/// What precedes the words. `@` is replaced by the name, and `%` by a number.
 const WORDS: &str = "\
 #[allow(dead_code, non_snake_case, clippy::module_inception)]
 pub mod @ {
-    /// The words of the frozen set, for `FrozenView` of `bekstaudi`. The first 1088 have four offsets
-    /// each, one for each block of 256 code points. The others have a bit for each code point of a
-    /// block, 64 in each word.
+    /// The last block with an offset, which is that of all later blocks too.
+    const LAST_BLOCK: u32 = %;
+
+    /// The words of the frozen set, for `FrozenView` of `bekstaudi`. First come offsets, one for each
+    /// block of 256 code points, four in a word. A block's offset is the index of its four words,
+    /// which have a bit for each code point.
     #[rustfmt::skip]
     pub static WORDS: [u64; %] = [
 ";
 
-/// Appends what precedes so many words of a frozen set.
-fn push_frozen_head(text: &mut String, name: &str, count: usize) -> Result<(), AllocError> {
-    push_pattern(text, WORDS, name, &[Decimal(count)])
+/// Appends what precedes the words of a frozen set.
+fn push_frozen_head(text: &mut String, name: &str, words: &[u64]) -> Result<(), AllocError> {
+    let numbers = [Decimal(last_block_of(words)), Decimal(words.len())];
+    push_pattern(text, WORDS, name, &numbers)
 }
 
 /// Appends the look-up in the words of a frozen set.
@@ -89,7 +96,7 @@ fn push_look_up(text: &mut String) -> Result<(), AllocError> {
 
 /// Appends a module with the words of a frozen set, and a look-up in them.
 fn push_frozen(text: &mut String, words: &[u64], name: &str) -> Result<(), AllocError> {
-    push_frozen_head(text, name, words.len())?;
+    push_frozen_head(text, name, words)?;
     push_words(text, words)?;
     push_look_up(text)
 }
