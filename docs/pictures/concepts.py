@@ -95,15 +95,18 @@ def draw_inversion_list(rows, value):
 
 def draw_frozen(words, rows, value):
     """A bit for each code point: blocks of 256, of which equal ones share their words."""
-    offset = lambda block: words[block // 4] >> 16 * (block % 4) & 0xFFFF
-    blocks = (0x00, 0x01, 0x4E, 0x4F)
+    last = 4 * (words[0] & 0xFFFF) - 1
+    at = lambda block: min(block, last)
+    offset = lambda block: words[at(block) // 4] >> 16 * (at(block) % 4) & 0xFFFF
+    blocks = (0x00, 0x01, 0x4E, last, 0x10FF)
     picture = Picture(1000, 392, "A frozen set")
     picture.text(30, 38, "A frozen set: one bit for each code point, in blocks of 256", font_size=20)
     count = len({offset(it) for it in range(4352)})
-    assert len(words) == 1088 + 4 * (count + 1)
-    said = f"Lu, the uppercase letters: {len(words):,} words. 1,088 have the offsets; then come {count} blocks and the full one"
+    assert len(words) == offset(0) + 4 * (count + 1)
+    said = f"Lu, the uppercase letters: {len(words):,} words. {offset(0)} have the offsets; then come {count} blocks and the full one"
     picture.text(30, 62, said, GREY)
-    picture.text(30, 92, "the offset of each block of 256 code points, in words", BLUE)
+    said = f"the offset of each block of 256 code points: the index of its first word. The last one, of U+{256 * last:04X},"
+    picture.text(30, 92, f"{said} is that of all later blocks", BLUE)
     found = list(dict.fromkeys(offset(it) for it in blocks))
     x_of = {it: 30 + 940 * (2 * k + 1) / (2 * len(found)) for k, it in enumerate(found)}
     for k, block in enumerate(blocks):
@@ -117,7 +120,7 @@ def draw_frozen(words, rows, value):
         picture.text(x_of[it], 200, f"from word {it}", INK, text_anchor="middle", font_size=12)
         block = next(b for b in blocks if offset(b) == it)
         for bit in range(256):
-            is_set = words[1088 + it + bit // 64] >> bit % 64 & 1
+            is_set = words[it + bit // 64] >> bit % 64 & 1
             assert is_set == (256 * block + bit in inside)
             x, y = x_of[it] - 144 + 9 * (bit % 32), 210 + 14 * (bit // 32)
             picture.box(x, y, 8, 12, GREEN if is_set else PALE, rx=1)
