@@ -99,9 +99,9 @@ static_text name set = title set ++ static_head name ++ cells_from 0 set ++ stat
 abbrev pub last_block : List ℕ → ℕ
 last_block words = 4 * offset_words words - 1
 
--- What precedes the array of the words. A look-up reads the last block's offset for all later blocks.
-unfoldable pub frozen_c_head : List ℕ → List ℕ → List ℕ
-frozen_c_head name words = filled name (Decimal (length words) ∷ Decimal (last_block words) ∷ [])
+-- What precedes the array of so many words. A look-up reads the last block's offset for all later blocks.
+unfoldable pub frozen_c_head : List ℕ → ℕ → ℕ → List ℕ
+frozen_c_head name count last = filled name (Decimal count ∷ Decimal last ∷ [])
     (codes "// The words of the frozen set, for bks_frozen_contains and bks_frozen_has of "
     ++ codes "bekstaudi.h. First come\n// offsets, one for each block of 256 code points, four in a "
     ++ codes "word. A block's offset is the index of its\n// four words, which have a bit for each code "
@@ -123,7 +123,7 @@ frozen_c_look_up name = named name
 -- Words in C: an array with them, and the look-up.
 abbrev pub frozen_c : List ℕ → List ℕ → List ℕ
 frozen_c name words =
-    frozen_c_head name words ++ cells_from 0 words ++ frozen_c_look_up name
+    frozen_c_head name (length words) (last_block words) ++ cells_from 0 words ++ frozen_c_look_up name
 
 -- The text is the frozen set in C, with the words of the set.
 pub record IsFrozenC (name set text : List ℕ) : Type 0 where
@@ -133,9 +133,9 @@ pub record IsFrozenC (name set text : List ℕ) : Type 0 where
 
 -- ---- A frozen set in Rust
 
--- What precedes the array of the words. A look-up reads the last block's offset for all later blocks.
-unfoldable pub frozen_rust_head : List ℕ → List ℕ → List ℕ
-frozen_rust_head name words = filled name (Decimal (last_block words) ∷ Decimal (length words) ∷ [])
+-- What precedes the array of so many words. A look-up reads the last block's offset for all later blocks.
+unfoldable pub frozen_rust_head : List ℕ → ℕ → ℕ → List ℕ
+frozen_rust_head name count last = filled name (Decimal last ∷ Decimal count ∷ [])
     (codes "#[allow(dead_code, non_snake_case, clippy::module_inception)]\npub mod @ {\n"
     ++ codes "    /// The last block with an offset, which is that of all later blocks too.\n"
     ++ codes "    const LAST_BLOCK: u32 = %;\n\n"
@@ -158,7 +158,7 @@ frozen_rust_look_up =
 -- Words in Rust: a module with them, and the look-up.
 abbrev pub frozen_rust : List ℕ → List ℕ → List ℕ
 frozen_rust name words =
-    frozen_rust_head name words ++ cells_from 0 words ++ frozen_rust_look_up
+    frozen_rust_head name (length words) (last_block words) ++ cells_from 0 words ++ frozen_rust_look_up
 
 -- The text is the frozen set in Rust, with the words of the set.
 pub record IsFrozenRust (name set text : List ℕ) : Type 0 where

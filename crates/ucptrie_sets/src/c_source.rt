@@ -114,14 +114,19 @@ static inline bool @_contains(uint32_t c) {
 }
 ";
 
-/// Appends what precedes the words of a frozen set.
+/// Appends what precedes so many words of a frozen set, in which `last` is the last block with an
+/// offset.
 #[tactic(auto, unfolding(crate::specs::SetSource::frozen_c_head))]
-fn push_frozen_head(text: &mut String, name: &str, words: &[u64]) -> Result<(), AllocError>
+fn push_frozen_head(
+    text: &mut String,
+    name: &str,
+    count: usize,
+    last: usize,
+) -> Result<(), AllocError>
     ensures { OnOk result (string_bytes text.new
-        ≡ string_bytes text.old ++ frozen_c_head name.now words.now) }
+        ≡ string_bytes text.old ++ frozen_c_head name.now count last) }
 {
-    let numbers = [Decimal(words.len()), Decimal(last_block_of(words))];
-    push_pattern(text, WORDS, name, &numbers)
+    push_pattern(text, WORDS, name, &[Decimal(count), Decimal(last)])
 }
 
 /// Appends the look-up in the words of a frozen set.
@@ -138,7 +143,7 @@ fn push_frozen(text: &mut String, words: &[u64], name: &str) -> Result<(), Alloc
     ensures { OnOk result (string_bytes text.new
         ≡ string_bytes text.old ++ frozen_c name.now words.now) }
 {
-    push_frozen_head(text, name, words)?;
+    push_frozen_head(text, name, words.len(), last_block_of(words))?;
     push_words(text, words)?;
     push_look_up(text, name)
 }

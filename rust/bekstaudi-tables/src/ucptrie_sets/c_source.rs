@@ -101,10 +101,15 @@ static inline bool @_contains(uint32_t c) {
 }
 ";
 
-/// Appends what precedes the words of a frozen set.
-fn push_frozen_head(text: &mut String, name: &str, words: &[u64]) -> Result<(), AllocError> {
-    let numbers = [Decimal(words.len()), Decimal(last_block_of(words))];
-    push_pattern(text, WORDS, name, &numbers)
+/// Appends what precedes so many words of a frozen set, in which `last` is the last block with an
+/// offset.
+fn push_frozen_head(
+    text: &mut String,
+    name: &str,
+    count: usize,
+    last: usize,
+) -> Result<(), AllocError> {
+    push_pattern(text, WORDS, name, &[Decimal(count), Decimal(last)])
 }
 
 /// Appends the look-up in the words of a frozen set.
@@ -114,7 +119,7 @@ fn push_look_up(text: &mut String, name: &str) -> Result<(), AllocError> {
 
 /// Appends an array with the words of a frozen set, and a look-up in it.
 fn push_frozen(text: &mut String, words: &[u64], name: &str) -> Result<(), AllocError> {
-    push_frozen_head(text, name, words)?;
+    push_frozen_head(text, name, words.len(), last_block_of(words))?;
     push_words(text, words)?;
     push_look_up(text, name)
 }

@@ -83,10 +83,15 @@ pub mod @ {
     pub static WORDS: [u64; %] = [
 ";
 
-/// Appends what precedes the words of a frozen set.
-fn push_frozen_head(text: &mut String, name: &str, words: &[u64]) -> Result<(), AllocError> {
-    let numbers = [Decimal(last_block_of(words)), Decimal(words.len())];
-    push_pattern(text, WORDS, name, &numbers)
+/// Appends what precedes so many words of a frozen set, in which `last` is the last block with an
+/// offset.
+fn push_frozen_head(
+    text: &mut String,
+    name: &str,
+    count: usize,
+    last: usize,
+) -> Result<(), AllocError> {
+    push_pattern(text, WORDS, name, &[Decimal(last), Decimal(count)])
 }
 
 /// Appends the look-up in the words of a frozen set.
@@ -96,7 +101,7 @@ fn push_look_up(text: &mut String) -> Result<(), AllocError> {
 
 /// Appends a module with the words of a frozen set, and a look-up in them.
 fn push_frozen(text: &mut String, words: &[u64], name: &str) -> Result<(), AllocError> {
-    push_frozen_head(text, name, words)?;
+    push_frozen_head(text, name, words.len(), last_block_of(words))?;
     push_words(text, words)?;
     push_look_up(text)
 }
