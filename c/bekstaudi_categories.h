@@ -7,7 +7,7 @@
  *
  * The values are those of ICU's u_charType (UCharCategory). Above 0x10FFFF, and for ill-formed parts
  * of a text, the value is BKS_CATEGORY_ERROR.
- * data/make writes this file from Unicode's DerivedGeneralCategory.txt:
+ * data/make writes the tables from Unicode's DerivedGeneralCategory.txt:
  * Copyright (C) 2022 Unicode, Inc., under the terms of https://www.unicode.org/copyright.html. */
 #ifndef BEKSTAUDI_CATEGORIES_H
 #define BEKSTAUDI_CATEGORIES_H

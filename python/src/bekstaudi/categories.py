@@ -5,7 +5,7 @@
 ['Lu', 'Ll', 'Nd', 'Zs']
 
 The values are those of ICU's u_charType. Above 0x10FFFF the value is 255, which has no name.
-data/make writes this file from Unicode's DerivedGeneralCategory.txt:
+data/make writes the tables from Unicode's DerivedGeneralCategory.txt:
 Copyright (C) 2022 Unicode, Inc., under the terms of https://www.unicode.org/copyright.html.
 """
 from base64 import b85decode as _b85decode
