@@ -23,11 +23,10 @@ WORDS = {"car": 2, "cat": 3, "category": 4}
 def draw_trie(trie, names):
     """Blocks of 64 code points, of which equal ones share their cells in the data."""
     index, data = trie["index"], trie["data"]
-    picture = Picture(1000, 430, "Equal blocks of a code point trie share their cells")
-    picture.text(30, 38, "A fast code point trie: one index cell for each block of 64 code points", font_size=20)
+    heading = "A fast code point trie: one index cell for each block of 64 code points"
     shared = len({tuple(data[it : it + 64]) for it in index[:1024]})
     said = f"general categories: the 1,024 blocks below U+10000 need {shared} different blocks of data"
-    picture.text(30, 62, said, GREY)
+    picture = Picture(1000, 430, "Equal blocks of a code point trie share their cells", heading, said)
     offsets = sorted({index[it // 64] for it in BLOCKS})
     width, top, below = 940 / len(BLOCKS), 118, 236
     x_of = {it: 30 + 940 * (2 * k + 1) / (2 * len(offsets)) for k, it in enumerate(offsets)}
@@ -66,9 +65,9 @@ def boundaries(rows, value):
 def draw_inversion_list(rows, value):
     """The start of a set on a line, with its boundaries."""
     ends, start, end = boundaries(rows, value), 0x30, 0x108
-    picture = Picture(1000, 300, "The boundaries of a set of code points")
-    picture.text(30, 38, "A set of code points: the ascending list of its boundaries", font_size=20)
-    picture.text(30, 62, f"Lu, the uppercase letters: {len(ends):,} boundaries, {len(ends) // 2} ranges", GREY)
+    heading = "A set of code points: the ascending list of its boundaries"
+    said = f"Lu, the uppercase letters: {len(ends):,} boundaries, {len(ends) // 2} ranges"
+    picture = Picture(1000, 300, "The boundaries of a set of code points", heading, said)
     scale = 940 / (end - start)
     x_of = lambda c: 30 + scale * (c - start)
     shown = [it for it in ends if start <= it < end]
@@ -99,12 +98,10 @@ def draw_frozen(words, rows, value):
     at = lambda block: min(block, last)
     offset = lambda block: words[at(block) // 4] >> 16 * (at(block) % 4) & 0xFFFF
     blocks = (0x00, 0x01, 0x4E, last, 0x10FF)
-    picture = Picture(1000, 392, "A frozen set")
-    picture.text(30, 38, "A frozen set: one bit for each code point, in blocks of 256", font_size=20)
     count = len({offset(it) for it in range(4352)})
     assert len(words) == offset(0) + 4 * (count + 1)
     said = f"Lu, the uppercase letters: {len(words):,} words. {offset(0)} have the offsets; then come {count} blocks and the full one"
-    picture.text(30, 62, said, GREY)
+    picture = Picture(1000, 392, "A frozen set", "A frozen set: one bit for each code point, in blocks of 256", said)
     said = f"the offset of each block of 256 code points: the index of its first word. The last one, of U+{256 * last:04X},"
     picture.text(30, 92, f"{said} is that of all later blocks", BLUE)
     found = list(dict.fromkeys(offset(it) for it in blocks))
@@ -125,44 +122,36 @@ def draw_frozen(words, rows, value):
             x, y = x_of[it] - 144 + 9 * (bit % 32), 210 + 14 * (bit // 32)
             picture.box(x, y, 8, 12, GREEN if is_set else PALE, rx=1)
     picture.text(30, 350, "each word has the bits of 64 code points, here in two lines; green is 1", GREEN)
-    said = "U+0051 Q: the block of U+0000, its second word, bit 17 counted from 0"
-    picture.text(30, 374, said, INK)
+    picture.text(30, 374, "U+0051 Q: the block of U+0000, its second word, bit 17 counted from 0")
     picture.write("frozen.svg")
 
 
 def nodes_of(units):
-    """What each unit of a small unit trie is. Only the short forms of the format are read."""
-    at = 0
-    while at < len(units):
-        lead = units[at]
+    """What each unit of a small unit trie is, and its colour. Only the short forms of the format are read."""
+    rest = iter(units)
+    for lead in rest:
         if lead >= 0x8000:
-            yield f"value {lead - 0x8000}", "", GREEN
-            at += 1
+            yield f"value {lead - 0x8000}", GREEN
             continue
-        value, low = lead >> 6, lead & 0x3F
-        before = f"value {value - 1}, " if value else ""
+        before = f"value {(lead >> 6) - 1}, " if lead >> 6 else ""
+        low = lead & 0x3F
         if low >= 0x30:
-            yield f"{before}next {low - 0x2F}", "", BLUE
-            for unit in units[at + 1 : at + low - 0x2E]:
-                yield chr(unit), "", PALE
-            at += low - 0x2E
+            yield f"{before}next {low - 0x2F}", BLUE
+            yield from ((chr(next(rest)), PALE) for _ in range(low - 0x2F))
             continue
-        yield f"{before}one of {low + 1}", "", BLUE
-        for k in range(low):
-            yield chr(units[at + 1 + 2 * k]), "", PALE
-            yield f"value {units[at + 2 + 2 * k] - 0x8000}", "", GREEN
-        yield chr(units[at + 1 + 2 * low]), "", PALE
-        at += 2 + 2 * low
+        yield f"{before}one of {low + 1}", BLUE
+        for k in range(low + 1):
+            yield chr(next(rest)), PALE
+            if k < low:
+                yield f"value {next(rest) - 0x8000}", GREEN
 
 
 def draw_unit_trie(units):
     """The units of three words, and how a text is matched."""
-    picture = Picture(1000, 330, "A unit trie")
-    picture.text(30, 38, "A unit trie: keys of 16-bit units, each with a number", font_size=20)
-    said = ", ".join(f"{key} {value}" for key, value in WORDS.items())
-    picture.text(30, 62, f"{said}: {len(units)} units, {2 * len(units)} bytes", GREY)
+    said = f"{', '.join(f'{key} {value}' for key, value in WORDS.items())}: {len(units)} units, {2 * len(units)} bytes"
+    picture = Picture(1000, 330, "A unit trie", "A unit trie: keys of 16-bit units, each with a number", said)
     width = 940 / len(units)
-    for k, (unit, (what, _, colour)) in enumerate(zip(units, nodes_of(units), strict=True)):
+    for k, (unit, (what, colour)) in enumerate(zip(units, nodes_of(units), strict=True)):
         x = 30 + width * (k + 0.5)
         picture.box(x - width / 2 + 2, 104, width - 4, 30, colour, rx=3)
         picture.text(x, 124, f"{unit:04X}", INK if colour == PALE else "#ffffff", text_anchor="middle", font_size=14)
