@@ -1,4 +1,4 @@
-"""The rows in tests/data/command_lines. tests/gate/command_lines says how they are written."""
+"""The rows in tests/data/command_lines. tests/data/README.md says how they are written."""
 import itertools
 import os
 import re
@@ -85,6 +85,10 @@ class Row:
         """The input of each run."""
         lines = [bytes_of(it) for it in self.texts("<")]
         return lines if "each" in self.texts("?") else [b"".join(lines)]
+
+    def runs(self):
+        """The command lines, the settings and the input of each run."""
+        return itertools.product(self.commands(), self.settings(), self.inputs())
 
     def status(self):
         return int("".join(self.texts("=")) or 0)
