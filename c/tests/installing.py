@@ -6,23 +6,10 @@ import signal
 import subprocess
 import time
 
-from running import BUILD, CC, TOP, passes, read, write
+from running import BUILD, CC, PARTS, TOP, passes, read, write
 
-# A project that finds the library as CMake does, and one that asks for a later version.
-PROJECT = """cmake_minimum_required(VERSION 3.10)
-project(user C)
-find_package(bekstaudi {wanted} REQUIRED)
-foreach(kind bekstaudi static)
-  add_executable(by_${{kind}} main.c)
-  target_link_libraries(by_${{kind}} PRIVATE bekstaudi::${{kind}})
-endforeach()
-"""
-MAIN = """#include <bekstaudi.h>
-int main(void) {
-    const uint32_t ends[] = {0x41, 0x5B};
-    return bks_set_contains(ends, 2, 0x41) ? 0 : 1;
-}
-"""
+# A project that finds the library as CMake does.
+PROJECT = f"{PARTS}/installed"
 # A compiler that waits: what c/build has started when the signal arrives.
 WAITING = """#!/bin/sh
 echo $$ >"{room}/started"
@@ -39,12 +26,10 @@ def by_cmake(room, prefix):
     if not shutil.which("cmake"):
         print("CMake is not tried: no cmake on PATH")
         return
-    os.makedirs(f"{room}/user")
-    write(f"{room}/user/main.c", MAIN)
     for wanted, is_found in ((version(), True), (version().rpartition(".")[0], True), ("", True), ("99.0", False)):
-        write(f"{room}/user/CMakeLists.txt", PROJECT.format(wanted=wanted))
         shutil.rmtree(f"{room}/made", ignore_errors=True)
-        words = ["cmake", "-S", f"{room}/user", "-B", f"{room}/made", f"-DCMAKE_PREFIX_PATH={prefix}", f"-DCMAKE_C_COMPILER={CC}"]
+        options = {"WANTED": wanted, "CMAKE_PREFIX_PATH": prefix, "CMAKE_C_COMPILER": CC}
+        words = ["cmake", "-S", PROJECT, "-B", f"{room}/made", *(f"-D{name}={it}" for name, it in options.items())]
         ran = subprocess.run(words, stdout=subprocess.PIPE, stderr=subprocess.STDOUT, text=True)
         print(f"find_package(bekstaudi {wanted}): {'found' if ran.returncode == 0 else 'rejected'}")
         if (ran.returncode == 0) != is_found:
@@ -95,8 +80,7 @@ def by_pkg_config(room, prefix):
         return
     known = {**os.environ, "PKG_CONFIG_PATH": f"{prefix}/lib/pkgconfig"}
     ran = subprocess.run(["pkg-config", "--cflags", "--libs", "bekstaudi"], env=known, stdout=subprocess.PIPE, text=True)
-    write(f"{room}/main.c", MAIN)
-    words = [CC, f"{room}/main.c", *shlex.split(ran.stdout), f"-Wl,-rpath,{prefix}/lib", "-o", f"{room}/main"]
+    words = [CC, f"{PROJECT}/main.c", *shlex.split(ran.stdout), f"-Wl,-rpath,{prefix}/lib", "-o", f"{room}/main"]
     yield passes("by pkg-config", words)
     yield passes("by pkg-config", [f"{room}/main"])
 
