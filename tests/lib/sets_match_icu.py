@@ -9,20 +9,6 @@ from scripts import TOP, WITH_ICU, ran, read, write
 
 # The forms that are compared, with the suffixes of their files.
 FORMS = {"icu": "icu", "c": "h", "c-frozen": "frozen.h", "rust": "rs", "rust-frozen": "frozen.rs"}
-# What the two programs include: for each set its sources, and a row of a table.
-IN_C = """{includes}
-static const struct {{ const char *name, *property, *serialized;
-    bool (*contains)(uint32_t), (*frozen)(uint32_t); const uint64_t *words; }} SETS[] = {{
-{rows}
-}};
-"""
-IN_RUST = """{includes}
-type Contains = fn(u32) -> bool;
-static SETS: [(&str, Contains); {count}] = [
-{rows}
-];
-"""
-
 
 def run(words, room):
     return ran(words, cwd=room)
@@ -39,14 +25,13 @@ def written(program, room, name, words):
 
 
 def lists(room, named):
-    """Writes the lists of the sets for the two programs. `named` are names and properties."""
-    each = lambda form: "\n".join(form.format(name, prop) for name, prop in named)
-    includes = each('#include "{0}.h"\n#include "{0}.frozen.h"')
-    rows = each('{{"{0}", "{1}", "{0}.icu", {0}_contains, {0}_frozen_contains, {0}_frozen_words}},')
-    write(f"{room}/sets.h", IN_C.format(includes=includes, rows=rows))
-    includes = each('include!("{0}.rs");\ninclude!("{0}.frozen.rs");')
-    rows = each('("{0}", {0}::contains),\n("{0}", {0}_frozen::contains),')
-    write(f"{room}/sets.rs", IN_RUST.format(includes=includes, rows=rows, count=2 * len(named)))
+    """Writes what the two programs include: the sources of the sets, and a row for each. `named` are names and
+    properties."""
+    each = lambda form: "".join(form.format(name, prop) for name, prop in named)
+    write(f"{room}/sets.h", each('#include "{0}.h"\n#include "{0}.frozen.h"\n'))
+    write(f"{room}/rows.h", each('SET({0}, "{1}")\n'))
+    write(f"{room}/sets.rs", each('include!("{0}.rs");\ninclude!("{0}.frozen.rs");\n'))
+    write(f"{room}/rows.rs", "[" + each('("{0}", {0}::contains), ("{0}", {0}_frozen::contains),') + "]")
 
 
 def compared(room):

@@ -1,10 +1,19 @@
-// Compares the C sources and the serialized sets that sets.h lists with ICU, and prints ICU's ranges.
+// Compares the C sources and the serialized sets that rows.h lists with ICU, and prints ICU's ranges.
 #include <stdio.h>
 #include <string.h>
 #include <unicode/uchar.h>
 #include <unicode/uset.h>
 #include "bekstaudi.h"
 #include "sets.h"
+#define SET(name, property) \
+    {#name, property, #name ".icu", name##_contains, name##_frozen_contains, name##_frozen_words},
+static const struct {
+    const char *name, *property, *serialized;
+    bool (*contains)(uint32_t), (*frozen)(uint32_t);
+    const uint64_t *words;
+} SETS[] = {
+#include "rows.h"
+};
 static uint16_t units[1 << 16];
 static bool stored[0x110001];
 int main(void) {
@@ -28,9 +37,9 @@ int main(void) {
             bool held = c < 0x110000 && u_hasBinaryProperty(c, property);
             if (held && start < 0) start = c;
             if (!held && start >= 0) printf("%X..%X\n", start, c - 1), start = -1;
-            wrong += SETS[i].contains && SETS[i].contains(c) != held;
-            wrong += SETS[i].frozen && SETS[i].frozen(c) != held;
-            wrong += SETS[i].words && bks_frozen_has(SETS[i].words, c) != held;
+            wrong += SETS[i].contains(c) != held;
+            wrong += SETS[i].frozen(c) != held;
+            wrong += bks_frozen_has(SETS[i].words, c) != held;
             wrong += stored[c] != held;
         }
         if (wrong) fprintf(stderr, "%s: %d answers differ from ICU's\n", SETS[i].name, wrong);

@@ -1,5 +1,7 @@
-// Prints the ranges of the Rust sources that sets.rs lists.
+// Prints the ranges of the Rust sources that rows.rs lists.
 include!("sets.rs");
+type Contains = fn(u32) -> bool;
+static SETS: &[(&str, Contains)] = &include!("rows.rs");
 fn main() {
     for (name, contains) in SETS {
         println!("{name}");
