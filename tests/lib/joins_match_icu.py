@@ -34,8 +34,9 @@ def commands(program):
 
 
 def join_faults(program, room):
-    """What is wrong with a joined table, one text for each fault."""
+    """What is wrong with a joined table: the first command that fails, on which the others depend."""
     for words in commands(program):
         done = ran(words, cwd=room)
         if done.returncode:
             yield f"joined: {words[0]}: {done.stdout}{done.stderr}"
+            return

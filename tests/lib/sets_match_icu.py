@@ -10,15 +10,11 @@ from scripts import TOP, WITH_ICU, ran, read, write
 # The forms that are compared, with the suffixes of their files.
 FORMS = {"icu": "icu", "c": "h", "c-frozen": "frozen.h", "rust": "rs", "rust-frozen": "frozen.rs"}
 
-def run(words, room):
-    return ran(words, cwd=room)
-
-
 def written(program, room, name, words):
     """Writes a set in all forms, and returns what went wrong."""
     for form, end in FORMS.items():
         to = name + ("_frozen" if end.startswith("frozen") else "")
-        done = run([program, "set", *words, "--as", form, "--name", to, "-o", f"{name}.{end}"], room)
+        done = ran([program, "set", *words, "--as", form, "--name", to, "-o", f"{name}.{end}"], cwd=room)
         if done.returncode or done.stderr:
             return done.stderr
     return ""
@@ -37,10 +33,10 @@ def lists(room, named):
 def compared(room):
     """What ICU's ranges are, and what differs from ICU in the C sources and the serialized sets."""
     flags = ["-std=c11", "-O1", "-Wall", "-Wextra", "-Werror", f"-I{TOP}/c", "-I."]
-    done = run(["cc", *flags, "-o", "sets", f"{WITH_ICU}/file_sets.c", "-licuuc"], room)
+    done = ran(["cc", *flags, "-o", "sets", f"{WITH_ICU}/file_sets.c", "-licuuc"], cwd=room)
     if done.returncode or done.stderr:
         return "", done.stderr
-    done = run(["./sets"], room)
+    done = ran(["./sets"], cwd=room)
     return done.stdout, done.stderr
 
 
@@ -50,15 +46,15 @@ def rust_faults(room, named, ranges):
         return
     # The sources are included from where this is.
     shutil.copy(f"{WITH_ICU}/file_sets.rs", f"{room}/main.rs")
-    done = run(["rustc", "--edition", "2021", "-O", "-D", "warnings", "-o", "main", "main.rs"], room)
+    done = ran(["rustc", "--edition", "2021", "-O", "-D", "warnings", "-o", "main", "main.rs"], cwd=room)
     if done.returncode or done.stderr:
         yield done.stderr
         return
     each = re.split(r"(?m)^(?=[A-Za-z]\w*$)", ranges)[1:]
-    if run(["./main"], room).stdout != "".join(it + it for it in each):
+    if ran(["./main"], cwd=room).stdout != "".join(it + it for it in each):
         yield "the Rust sources have other ranges than ICU\n"
     if shutil.which("rustfmt"):
-        done = run(["rustfmt", "--check", f"{named[0][0]}.rs", f"{named[0][0]}.frozen.rs"], room)
+        done = ran(["rustfmt", "--check", f"{named[0][0]}.rs", f"{named[0][0]}.frozen.rs"], cwd=room)
         if done.returncode:
             yield f"rustfmt changes the Rust sources: {done.stdout}{done.stderr}"
 
@@ -68,17 +64,17 @@ def exported_faults(program, room):
     if not shutil.which("icuexportdata"):
         return
     os.mkdir(f"{room}/exported")
-    run(["icuexportdata", "--mode", "uprops", "--all", "--index", "-d", "exported"], room)
+    ran(["icuexportdata", "--mode", "uprops", "--all", "--index", "-d", "exported"], cwd=room)
     for path in sorted(glob.glob(f"{room}/exported/*.toml")):
         text = read(path)
         if "[[binary_property]]" not in text:
             continue
         prop = re.search(r'(?m)^long_name = "(.*)"', text)[1]
-        done = run([program, "set", path, "--property", prop, "--as", "toml"], room)
+        done = ran([program, "set", path, "--property", prop, "--as", "toml"], cwd=room)
         if re.search(r"(?s)ranges = \[.*?\n\]", done.stdout + "ranges = [\n]")[0] not in text:
             yield f"{prop}: {done.stdout[:80]}{done.stderr}\n"
             continue
-        done = run([program, "set", path, "--as", "icu", "-o", f"{prop}.exported"], room)
+        done = ran([program, "set", path, "--as", "icu", "-o", f"{prop}.exported"], cwd=room)
         if done.returncode:
             yield f"{prop}: {done.stderr}"
 
