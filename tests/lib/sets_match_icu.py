@@ -1,7 +1,5 @@
-"""The part of tests/gate/properties_match_icu about sets: what `ucptrie set` makes of Unicode's files, and of
-those that ICU's icuexportdata writes, against ICU at all code points."""
-import glob
-import os
+"""The part of tests/gate/properties_match_icu about sets: what `ucptrie set` makes of Unicode's files, against
+ICU at all code points."""
 import re
 import shutil
 
@@ -59,26 +57,6 @@ def rust_faults(room, named, ranges):
             yield f"rustfmt changes the Rust sources: {done.stdout}{done.stderr}"
 
 
-def exported_faults(program, room):
-    """What is wrong with the sets that are read from the files of icuexportdata."""
-    if not shutil.which("icuexportdata"):
-        return
-    os.mkdir(f"{room}/exported")
-    ran(["icuexportdata", "--mode", "uprops", "--all", "--index", "-d", "exported"], cwd=room)
-    for path in sorted(glob.glob(f"{room}/exported/*.toml")):
-        text = read(path)
-        if "[[binary_property]]" not in text:
-            continue
-        prop = re.search(r'(?m)^long_name = "(.*)"', text)[1]
-        done = ran([program, "set", path, "--property", prop, "--as", "toml"], cwd=room)
-        if re.search(r"(?s)ranges = \[.*?\n\]", done.stdout + "ranges = [\n]")[0] not in text:
-            yield f"{prop}: {done.stdout[:80]}{done.stderr}\n"
-            continue
-        done = ran([program, "set", path, "--as", "icu", "-o", f"{prop}.exported"], cwd=room)
-        if done.returncode:
-            yield f"{prop}: {done.stderr}"
-
-
 def set_faults(program, room, properties):
     """What is wrong with the sets of these properties: names, and the words that read them."""
     named = []
@@ -93,4 +71,3 @@ def set_faults(program, room, properties):
     if wrong:
         yield wrong
     yield from rust_faults(room, named, ranges)
-    yield from exported_faults(program, room)
