@@ -5,7 +5,7 @@ import subprocess
 import sys
 
 TOP = os.path.dirname(os.path.dirname(os.path.dirname(os.path.realpath(__file__))))
-# The programs in C, C++ and Rust that compare with ICU.
+# The programs in C, C++ and Rust that scripts compile, most of them to compare with ICU.
 WITH_ICU = f"{TOP}/tests/gate/with_icu"
 
 
