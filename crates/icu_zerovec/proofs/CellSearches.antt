@@ -1,5 +1,5 @@
 -- A search among cells is a search among their values.
-use Rattle.std.proofs.Common.{◌≡◌, ℕ, ◌/◌, ◌<◌, List, [], length, get_or, Option, Some, None, Result, true, refl, arith, sym, ◌∙◌, ap}
+use Rattle.std.proofs.Common.{◌≡◌, ℕ, ◌/◌, ◌<◌, List, [], length, get_or, Option, Some, None, Result, true, refl, arith, sym, ◌∙◌, ap, subst}
 use Rattle.std.specs.declared.result.Result.TheVariants.{Ok, Err}
 use Rattle.std.specs.declared.cmp.Ordering.{Ordering}
 use Rattle.std.specs.Option.{is_some}
@@ -17,7 +17,7 @@ some_value : {T : Type 0} (o : Option T) → is_some o ≡ true → (x : T) × (
 some_value None h = cc
 some_value (Some x) h = (x, refl)
 
-module _ {T : Type 0} (f : List ℕ → Option T) (w : ℕ) (ord : T → Ordering) (b : List ℕ) (p : IsPacked f w b) (positive : 0 < w) where
+module _ {T : Type 0} (f : List ℕ → Option T) (w : ℕ) (ord : T → Ordering) (b : List ℕ) (p : IsPacked f w b) where
   abbrev n : ℕ
   n = length b / w
 
@@ -46,15 +46,21 @@ module _ {T : Type 0} (f : List ℕ → Option T) (w : ℕ) (ord : T → Orderin
       let s = r i j e a (omega (arith, k, length-values_of f w b p)) in
       rw (same_order i (omega arith) d e, same_order j k d e) s
 
-  pub among_values : (r : Result ℕ ℕ) → IsSearchInRange r (length cells) → IsBinarySearchResult (cell_order f w ord) cells r
+  among_cells : (r : Result ℕ ℕ) → IsSearchInRange r (length cells) → IsBinarySearchResult (cell_order f w ord) cells r
       → IsBinarySearchResult ord vals r
-  among_values (Ok i) h s = λ e. sym (same_order i (omega (arith, h, length-chunks w n b)) [] e) ∙ s []
-  among_values (Err i) h s = λ r. let t = s (rises r) in (
+  among_cells (Ok i) h s = λ e. sym (same_order i (omega (arith, h, length-chunks w n b)) [] e) ∙ s []
+  among_cells (Err i) h s = λ r. let t = s (rises r) in (
     λ k e a l. sym (same_order k (omega (arith, l, h, length-chunks w n b)) [] e) ∙ t.0 k [] a l,
     λ k e a l. let m : k < n = omega (arith, l, length-values_of f w b p) in
         sym (same_order k m [] e) ∙ t.1 k [] a (omega (arith, m, length-chunks w n b)),
   )
 
-  pub in_range : (r : Result ℕ ℕ) → IsSearchInRange r (length cells) → IsSearchInRange r (length vals)
-  in_range (Ok i) h = omega (arith, h, length-chunks w n b, length-values_of f w b p)
-  in_range (Err i) h = omega (arith, h, length-chunks w n b, length-values_of f w b p)
+  pub among_values : (xs : List (List ℕ)) → xs ≡ cells → (r : Result ℕ ℕ) → IsSearchInRange r (length xs)
+      → IsBinarySearchResult (cell_order f w ord) xs r → IsBinarySearchResult ord vals r
+  among_values xs q r h s =
+      among_cells r (subst (λ ys. IsSearchInRange r (length ys)) q h) (subst (λ ys. IsBinarySearchResult (cell_order f w ord) ys r) q s)
+
+pub in_range : {T : Type 0} (f : List ℕ → Option T) (w : ℕ) (b : List ℕ) → IsPacked f w b → (xs : List (List ℕ))
+    → xs ≡ first_chunks w (length b / w) b → (r : Result ℕ ℕ) → IsSearchInRange r (length xs) → IsSearchInRange r (length (values_of f w b))
+in_range f w b p xs q (Ok i) h = omega (arith, h, ap length q, length-chunks w (length b / w) b, length-values_of f w b p)
+in_range f w b p xs q (Err i) h = omega (arith, h, ap length q, length-chunks w (length b / w) b, length-values_of f w b p)

@@ -22,6 +22,11 @@ pub length-chunks : (w n : ℕ) (b : List ℕ) → length (first_chunks w n b) �
 length-chunks w zero b = refl
 length-chunks w (suc n) b = ap suc (length-chunks w n (drop w b))
 
+-- Chunks of a width that is w are chunks of the width w.
+pub chunks-width : {v w : ℕ} {xs : List (List ℕ)} (b : List ℕ) → xs ≡ first_chunks v (length b / v) b → v ≡ w
+    → xs ≡ first_chunks w (length b / w) b
+chunks-width b e h = e ∙ ap (λ k. first_chunks k (length b / k) b) h
+
 -- Chunk i is cell i.
 pub get_or-chunks : (w n i : ℕ) (b d : List ℕ) → i < n → get_or (first_chunks w n b) i d ≡ cell w b i
 get_or-chunks w zero i b d l = absurd (omega arith)

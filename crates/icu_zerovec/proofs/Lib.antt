@@ -9,3 +9,4 @@ mod Chunks
 mod PrefixLemmas
 mod CellSearches
 mod Searches
+mod PartitionPoints

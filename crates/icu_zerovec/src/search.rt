@@ -1,5 +1,5 @@
 //! The search of ascending packed values, with two bodies under one contract. In `proved` a proof takes
-//! the place of the test of an index. In `tested` it is std's search of a slice.
+//! the place of the test of an index. In `tested` it uses std's partition point of a slice.
 mod proved;
 mod tested;
 

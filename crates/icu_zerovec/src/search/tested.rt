@@ -1,6 +1,7 @@
-//! The search of std over chunks, which rustc optimizes well.
+//! The search by std's partition point of chunks, which rustc optimizes well.
 ghost use Rattle.std.specs.Prelude.{◌≡◌, length};
 ghost use Rattle.std.specs.List.Sorted.{IsSearchInRange, IsBinarySearchResult};
+ghost use Rattle.std.specs.Ordering.{is_lt};
 ghost use Rattle.icu_zerovec.specs.Cells.{values_of, IsPacked};
 ghost use Rattle.icu_zerovec.specs.CellOrder.{cell_order};
 
@@ -21,7 +22,10 @@ fn order_of<T: AsULE + Ord>(cell: &[u8], x: &T) -> Ordering
     }
 }
 
-/// Searches ascending cells by std's search of a slice.
+/// Searches ascending cells by std's partition point.
+///
+/// Both results have the same index, so rustc needs no jump on equality. `binary_search_by` ends with
+/// one, which processors often predict wrongly.
 #[inline(always)]
 fn search_chunks<const WIDTH: usize, T: AsULE + Ord>(bytes: &[u8], x: &T) -> Result<usize, usize>
     requires width { WIDTH ≡ T.WIDTH }
@@ -30,11 +34,16 @@ fn search_chunks<const WIDTH: usize, T: AsULE + Ord>(bytes: &[u8], x: &T) -> Res
     ensures position { IsBinarySearchResult (λ y. T.cmp y x.now)
         (values_of T.unpack T.WIDTH bytes.now) result }
 {
-    bytes.as_chunks::<WIDTH>().0.binary_search_by(
-        |cell: &[u8; WIDTH]| -> Ordering
-            ensures { result ≡ cell_order T.unpack T.WIDTH (λ y. T.cmp y x.entry.now) cell.now }
-        { order_of::<T>(cell, x) },
-    )
+    let cells = bytes.as_chunks::<WIDTH>().0;
+    let low = cells.partition_point(
+        |cell: &[u8; WIDTH]| -> bool
+            ensures { result ≡ is_lt (cell_order T.unpack T.WIDTH (λ y. T.cmp y x.entry.now) cell.now) }
+        { order_of::<T>(cell, x).is_lt() },
+    );
+    match cells.get(low) {
+        Some(cell) if order_of::<T>(cell, x).is_eq() => Ok(low),
+        _ => Err(low),
+    }
 }
 
 /// Searches ascending packed bytes for `x`. Returns the index of an equal value as `Ok`, or as `Err`

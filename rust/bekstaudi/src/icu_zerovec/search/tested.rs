@@ -1,4 +1,4 @@
-//! The search of std over chunks, which rustc optimizes well.
+//! The search by std's partition point of chunks, which rustc optimizes well.
 
 use crate::icu_zerovec::ule::AsULE;
 use crate::support::prelude::*;
@@ -16,13 +16,19 @@ fn order_of<T: AsULE + Ord>(cell: &[u8], x: &T) -> Ordering {
     }
 }
 
-/// Searches ascending cells by std's search of a slice.
+/// Searches ascending cells by std's partition point.
+///
+/// Both results have the same index, so rustc needs no jump on equality. `binary_search_by` ends with
+/// one, which processors often predict wrongly.
 #[inline(always)]
 fn search_chunks<const WIDTH: usize, T: AsULE + Ord>(bytes: &[u8], x: &T) -> Result<usize, usize> {
-    bytes
-        .as_chunks::<WIDTH>()
-        .0
-        .binary_search_by(|cell: &[u8; WIDTH]| -> Ordering { order_of::<T>(cell, x) })
+    let cells = bytes.as_chunks::<WIDTH>().0;
+    let low =
+        cells.partition_point(|cell: &[u8; WIDTH]| -> bool { order_of::<T>(cell, x).is_lt() });
+    match cells.get(low) {
+        Some(cell) if order_of::<T>(cell, x).is_eq() => Ok(low),
+        _ => Err(low),
+    }
 }
 
 /// Searches ascending packed bytes for `x`. Returns the index of an equal value as `Ok`, or as `Err`
