@@ -1,13 +1,13 @@
 -- The merge into a buffer that may be too short.
-use Rattle.std.proofs.Common.{◌≡◌, ℕ, ◌+◌, ◌-◌, ◌<◌, ◌≤◌, ◌^◌, List, [], ◌∷◌, ◌++◌, length, set, take, drop, get_or, refl, ap, sym, ◌∙◌, subst, arith, suc, Bool, true, false, not, inl, inr}
+use Rattle.std.proofs.Common.{◌≡◌, ℕ, ◌+◌, ◌-◌, ◌<◌, ◌≤◌, ◌^◌, List, [], ◌∷◌, ◌++◌, length, set, take, drop, get_or, refl, ap, sym, ◌∙◌, subst, arith, zero, suc, min, append_assoc, Bool, true, false, not, inl, inr}
 use Rattle.std.specs.Prelude.{if◌then◌else◌, ◌⊎◌}
-use Rattle.std.proofs.lemmas.List.{append-nil, drop_all, length-append, length-drop, length_push, set_past}
+use Rattle.std.proofs.lemmas.List.{append-nil, drop-drop, drop-set-lt, length-append, length-drop, length-set, length_push, set_past, take-append-drop}
 use Rattle.icu_invlist.specs.InversionList.{is_odd, IsValid}
 use Rattle.icu_invlist.specs.Inside.Merging.{Merging, MovesOver}
 use Rattle.icu_zerovec.specs.Buffers.{written}
 use Rattle.icu_invlist.specs.Merge.{HasMerged}
 use Rattle.icu_invlist.specs.Inside.MergeSteps.{MergeSteps, filled, filled_from}
-use Rattle.std.proofs.Math.Seq.{drop-cons}
+use Rattle.std.proofs.Math.Seq.{take-suc-set}
 use mathlib.Core.Bool.{beq}
 use Rattle.icu_invlist.proofs.Merging.{merged_step, none_yet, rests, odd_more, moves_within, turned, turned_both, TurnsAtBoth}
 use Rattle.icu_invlist.proofs.PlaceLemmas.{valid-length}
@@ -157,23 +157,31 @@ has_merged f a b base out out1 new i j w p q n1 n none s passed k l e1 c1 e2 c2 
       buffer = e2 ∙ (rw (o1, m1) (write_after (s.ends ++ drop p a) base (drop q b)) ∙ filled_is ((s.ends ++ drop p a) ++ drop q b) base);
     }
 
-pub write_more : (out xs : List ℕ) (w i : ℕ) → i < length xs
-    → filled_from out w (drop i xs) ≡ filled_from (set out w (get_or xs i 0)) (w + 1) (drop (i + 1) xs)
-unfolding filled_from
-write_more out xs w i h =
-    let e : w + 1 ≡ suc w = omega arith in
-    let k : i + 1 ≡ suc i = omega arith in
-    rw (e, k, drop-cons xs i 0 h) refl
-
-pub write_none : (out xs : List ℕ) (w i : ℕ) → length xs ≤ i → filled_from out w (drop i xs) ≡ out
-unfolding filled_from
-write_none out xs w i h = rw (drop_all i xs h) refl
-
 -- Past the end of the buffer nothing is put.
-pub write_past : (out xs : List ℕ) (w : ℕ) → length out ≤ w → filled_from out w xs ≡ out
+write_past : (out xs : List ℕ) (w : ℕ) → length out ≤ w → filled_from out w xs ≡ out
 unfolding filled_from
 write_past out [] w h = refl
 write_past out (x ∷ xs) w h = rw (set_past out w x h) (write_past out xs (suc w) (omega arith))
+
+-- If there is no item, or no room, nothing is put.
+pub write_nothing : (out xs : List ℕ) (w : ℕ) → min (length xs) (length out - w) ≡ 0 → filled_from out w xs ≡ out
+unfolding filled_from
+write_nothing out [] w h = refl
+write_nothing out (x ∷ xs) w h = write_past out (x ∷ xs) w (omega arith)
+
+-- Items that are put one by one are put as a slice, as many as fit.
+pub write_slice : (out xs : List ℕ) (w n : ℕ) → w ≤ length out → n ≡ min (length xs) (length out - w)
+    → filled_from out w xs ≡ take w out ++ (take n xs ++ drop n (drop w out))
+unfolding filled_from
+write_slice out [] w zero h e = sym (take-append-drop w out)
+write_slice out [] w (suc n) h e = absurd (omega arith)
+write_slice out (x ∷ xs) w zero h e = write_past out (x ∷ xs) w (omega arith) ∙ sym (take-append-drop w out)
+write_slice out (x ∷ xs) w (suc n) h e =
+    let i : w < length out = omega arith in
+    let rest : drop n (drop (suc w) (set out w x)) ≡ drop (suc n) (drop w out) =
+    ap (drop n) (drop-set-lt (suc w) out w x (omega arith)) ∙ (drop-drop n (suc w) out ∙ (ap (λ k. drop k out) (omega arith) ∙ sym (drop-drop (suc n) w out))) in
+    write_slice (set out w x) xs (suc w) n (omega (arith, length-set out w x)) (omega (arith, length-set out w x))
+    ∙ (rw (take-suc-set out w x i, rest) (append_assoc (take w out) (x ∷ []) (take n xs ++ drop (suc n) (drop w out))))
 
 -- There is a next index.
 pub walks_small : (f : Bool → Bool → Bool) (a b base out : List ℕ) (i j w : ℕ) → MergeSteps f a b base out i j w → w + 1 < 2 ^ 64

@@ -4,7 +4,6 @@
 //!   boundaries
 //!   - `cpinvlist`: [`CodePointInversionList`](codepointinvlist::CodePointInversionList), the
 //!     immutable set, and its queries
-//!     - `packing`: packing and unpacking of boundaries
 //!     - `places`: searches for a code point among the boundaries
 //!     - `subsets`: the subset test
 //!   - `equality`: equality and hashing
@@ -17,7 +16,7 @@
 //!   - `conversions`: sets made from ranges
 //!   - `json`: conversion to and from JSON
 //!   - `error`: errors for invalid lists, ranges and JSON values
-//! - `boundaries`: a list of boundaries, wherever it is stored
+//! - `boundaries`: a list of boundaries, wherever it is stored; `packing`: packs and unpacks them
 //! - `fill`, `merge`: changes of a list of boundaries, by a range and by another set
 //! - `spelling`: how ranges are spelled in JSON
 #![tactic(auto)]
@@ -26,4 +25,5 @@ pub mod boundaries;
 pub mod codepointinvlist;
 mod fill;
 pub mod merge;
+mod packing;
 pub(crate) mod spelling;

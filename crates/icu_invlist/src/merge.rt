@@ -332,13 +332,9 @@ fn put_rest<A: Boundaries>(a: A, from: usize, out: &mut [u32], written: usize) -
     ensures out { out.new ≡ filled_from out.old written (drop from (A.list a)) }
 {
     let count = a.count();
-    let mut i = from;
-    let mut next = written;
-    // Two tests end the loop and none is inside, so the compiler vectorises it.
-    while i < count && next < out.len() {
-        out[next] = a.at(i);
-        next += 1;
-        i += 1;
+    let end = out.len().min(written + (count - from));
+    if written < end {
+        a.copy_to(from, &mut out[written..end]);
     }
     written + (count - from)
 }

@@ -184,6 +184,7 @@ macro_rules! modules {
             dead_code,
             unused_imports,
             clippy::manual_map,
+            clippy::manual_memcpy,
             clippy::non_canonical_clone_impl,
             clippy::needless_lifetimes,
             clippy::needless_range_loop,

@@ -11,7 +11,6 @@ ghost use Rattle.icu_zerovec.specs.Slice.{slice_values};
 ghost use Rattle.icu_invlist.specs.InversionList.{AreApart, IsOfCodePoints, IsValid, holds, in_ranges, HoldsAll, IsSubset, ranges_of, members_below, characters, complement_of};
 ghost use Rattle.icu_invlist.specs.Refusals.{IsRefusedList, IsRefusedSlice};
 
-mod packing;
 mod places;
 mod stretches;
 mod subsets;
@@ -22,9 +21,9 @@ use crate::codepointinvlist::iter::{IterChars, IterRanges, IterRangesComplemente
 use crate::codepointinvlist::range_of::RangeOf;
 use crate::codepointinvlist::sizes::{size_of, valid_size};
 use crate::codepointinvlist::utils::is_valid_slice;
+use crate::packing::{cut_to_points, pack, sum_of_sizes, unpack, unpacked};
 use icu_zerovec::ule::AsULE;
 use icu_zerovec::{CODE_POINT_LIMIT, MemoryError, PotentialCodePoint, ZeroSlice, ZeroVec};
-use packing::{cut_to_points, pack, sum_of_sizes, unpack, unpacked};
 use std::alloc::Global;
 use std::marker::Model;
 use std::ops::RangeInclusive;

@@ -240,13 +240,9 @@ fn rest_from(wanted: bool, index: usize, len: usize) -> usize {
 #[inline(always)]
 fn put_rest<A: Boundaries>(a: A, from: usize, out: &mut [u32], written: usize) -> usize {
     let count = a.count();
-    let mut i = from;
-    let mut next = written;
-    // Two tests end the loop and none is inside, so the compiler vectorises it.
-    while i < count && next < out.len() {
-        out[next] = a.at(i);
-        next += 1;
-        i += 1;
+    let end = out.len().min(written + (count - from));
+    if written < end {
+        a.copy_to(from, &mut out[written..end]);
     }
     written + (count - from)
 }

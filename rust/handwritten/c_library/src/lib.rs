@@ -10,6 +10,7 @@
 #![allow(dead_code, unused_imports)]
 #![allow(
     clippy::manual_map,
+    clippy::manual_memcpy,
     clippy::needless_lifetimes,
     clippy::non_canonical_clone_impl,
     clippy::needless_range_loop,

@@ -1,7 +1,6 @@
 //! The immutable set of code points, stored as an inversion list.
 
 use crate::support::prelude::*;
-mod packing;
 mod places;
 mod stretches;
 mod subsets;
@@ -14,10 +13,10 @@ use crate::icu_invlist::codepointinvlist::iter::{
 use crate::icu_invlist::codepointinvlist::range_of::RangeOf;
 use crate::icu_invlist::codepointinvlist::sizes::{size_of, valid_size};
 use crate::icu_invlist::codepointinvlist::utils::is_valid_slice;
+use crate::icu_invlist::packing::{cut_to_points, pack, sum_of_sizes, unpack, unpacked};
 use crate::icu_zerovec::ule::AsULE;
 use crate::icu_zerovec::{CODE_POINT_LIMIT, MemoryError, PotentialCodePoint, ZeroSlice, ZeroVec};
 use core::ops::RangeInclusive;
-use packing::{cut_to_points, pack, sum_of_sizes, unpack, unpacked};
 use stretches::Stretch;
 
 /// An immutable set of code points, which may include surrogates. It borrows or owns the list of

@@ -1,5 +1,5 @@
 use Rattle.std.proofs.Common.{◌≡◌, ◌++◌}
-use Rattle.icu_invlist.proofs.codepointinvlist.cpinvlist.packing.unpacked.Given as goal
+use Rattle.icu_invlist.proofs.packing.unpacked.Given as goal
 
 abbrev pub invariant-loop-end : goal.invariant-loop-end
 invariant-loop-end l = l.points.items ++ l.end-iterator ≡ l.ends

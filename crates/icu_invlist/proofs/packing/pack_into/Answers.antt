@@ -5,7 +5,7 @@ use Rattle.std.proofs.lemmas.Grind.{flat_map-append}
 use Rattle.std.proofs.lemmas.List.{length-take-le}
 use Rattle.icu_zerovec.specs.PackedBytes.{low_bytes}
 use Rattle.icu_invlist.proofs.PackedWords.{packed-length, small-drop}
-use Rattle.icu_invlist.proofs.codepointinvlist.cpinvlist.packing.pack_into.Goals as goal
+use Rattle.icu_invlist.proofs.packing.pack_into.Goals as goal
 
 pub loop-four-preserved : goal.loop-four-preserved
 loop-four-preserved c =

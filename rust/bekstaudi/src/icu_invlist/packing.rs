@@ -5,7 +5,8 @@ use crate::icu_zerovec::{MemoryError, PotentialCodePoint, ZeroVec};
 use crate::support::prelude::*;
 
 /// Copies packed boundaries into a vector.
-pub(super) fn unpacked(
+#[inline]
+pub(crate) fn unpacked(
     ends: &ZeroVec<'_, PotentialCodePoint>,
 ) -> Result<Vec<PotentialCodePoint>, MemoryError> {
     let mut points = Vec::with_room(ends.len())?;
@@ -35,25 +36,43 @@ fn four_of(bytes: &[u8; 12]) -> [u32; 4] {
     ]
 }
 
-/// Appends the boundaries in these bytes to `ends`, which is unchanged if an allocation fails.
-#[inline]
-pub(super) fn unpack(bytes: &[u8], ends: &mut Vec<u32>) -> Result<(), MemoryError> {
-    ends.try_room(bytes.len() / 3)?;
+/// Writes the items to `out` from index `at` on.
+#[inline(always)]
+fn write<T: Copy>(out: &mut [T], at: usize, items: &[T]) {
+    out[at..at + items.len()].copy_from_slice(items);
+}
+
+/// Writes the boundaries in these bytes to `out`, which has an element for each. It reads four at
+/// once.
+#[inline(always)]
+pub(crate) fn unpack_into(out: &mut [u32], bytes: &[u8]) {
+    let mut at = 0;
     let mut rest = bytes;
     while let Some((four, next)) = rest.split_first_chunk::<12>() {
-        ends.try_extend_from_slice(&four_of(four))?;
+        write(out, at, &four_of(four));
+        at += 4;
         rest = next;
     }
     while let Some((three, next)) = rest.split_first_chunk::<3>() {
-        ends.push(u32::from_le_bytes([three[0], three[1], three[2], 0]));
+        let end = u32::from_le_bytes([three[0], three[1], three[2], 0]);
+        write(out, at, &[end]);
+        at += 1;
         rest = next;
     }
+}
+
+/// Appends the boundaries in these bytes to `ends`, which is unchanged if an allocation fails.
+#[inline]
+pub(crate) fn unpack(bytes: &[u8], ends: &mut Vec<u32>) -> Result<(), MemoryError> {
+    let len = ends.len();
+    ends.try_resize(len + bytes.len() / 3, 0)?;
+    unpack_into(&mut ends[len..], bytes);
     Ok(())
 }
 
 /// Returns the sum of the sizes of the ranges between these boundaries.
 #[inline(always)]
-pub(super) fn sum_of_sizes(bytes: &[u8]) -> usize {
+pub(crate) fn sum_of_sizes(bytes: &[u8]) -> usize {
     let mut rest = bytes;
     let mut sum = 0;
     while let Some((four, next)) = rest.split_first_chunk::<12>() {
@@ -80,12 +99,6 @@ fn words_of(four: &[u32; 4]) -> [[u8; 4]; 3] {
     ]
 }
 
-/// Writes the bytes to `out` from index `at` on.
-#[inline(always)]
-fn write(out: &mut [u8], at: usize, bytes: &[u8]) {
-    out[at..at + bytes.len()].copy_from_slice(bytes);
-}
-
 /// Writes the boundaries, which are below 2^24, to `out`, packed in three bytes each. It writes the
 /// bytes of four at once.
 #[inline]
@@ -106,7 +119,7 @@ fn pack_into(out: &mut [u8], ends: &[u32]) {
 /// Returns the boundaries packed in three bytes each, lowest byte first. For no boundaries it
 /// allocates nothing.
 #[inline(always)]
-pub(super) fn pack(ends: &[u32]) -> Result<Vec<u8>, MemoryError> {
+pub(crate) fn pack(ends: &[u32]) -> Result<Vec<u8>, MemoryError> {
     if ends.is_empty() {
         return Ok(Vec::new());
     }
@@ -117,7 +130,8 @@ pub(super) fn pack(ends: &[u32]) -> Result<Vec<u8>, MemoryError> {
 
 /// Copies the numbers, with 0xFFFFFF in place of any number that needs more than 24 bits. That is
 /// not a valid boundary either.
-pub(super) fn cut_to_points(ends: &[u32]) -> Result<Vec<PotentialCodePoint>, MemoryError> {
+#[inline]
+pub(crate) fn cut_to_points(ends: &[u32]) -> Result<Vec<PotentialCodePoint>, MemoryError> {
     let mut points = Vec::with_room(ends.len())?;
     for end in ends {
         points.try_push(PotentialCodePoint::from_u24((*end).min(0xFF_FFFF)))?;

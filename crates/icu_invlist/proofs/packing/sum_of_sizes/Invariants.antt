@@ -2,7 +2,7 @@
 use Rattle.std.proofs.Common.{◌≡◌, ◌+◌, length}
 use Rattle.icu_invlist.specs.Inside.PackedSets.{sum_of_sizes}
 use Rattle.icu_invlist.specs.Inside.StillGiven.{ends_in, ArePackedEnds}
-use Rattle.icu_invlist.proofs.codepointinvlist.cpinvlist.packing.sum_of_sizes.Given as goal
+use Rattle.icu_invlist.proofs.packing.sum_of_sizes.Given as goal
 
 abbrev pub invariant-loop-four : goal.invariant-loop-four
 invariant-loop-four l = record {

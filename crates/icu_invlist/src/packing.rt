@@ -12,7 +12,7 @@ use icu_zerovec::{MemoryError, PotentialCodePoint, ZeroVec};
 use std::alloc::Global;
 
 /// Copies packed boundaries into a vector.
-pub(super) fn unpacked(
+pub(crate) fn unpacked(
     alloc: Global,
     ends: &ZeroVec<'_, PotentialCodePoint>,
 ) -> Result<Vec<PotentialCodePoint>, MemoryError>
@@ -52,28 +52,53 @@ fn four_of(bytes: &[u8; 12]) -> [u32; 4]
     ]
 }
 
-/// Appends the boundaries in these bytes to `ends`, which is unchanged if an allocation fails.
-#[inline]
-pub(super) fn unpack(bytes: &[u8], ends: &mut Vec<u32>) -> Result<(), MemoryError>
-    ensures ok { OnOk result (ends.new.items ≡ ends.old.items ++ ends_in bytes.now) }
-    ensures err { OnErr result (ends.new.items ≡ ends.old.items) }
+/// Writes the items to `out` from index `at` on.
+#[inline(always)]
+fn write<T: Copy>(out: &mut [T], at: usize, items: &[T])
+    requires { at + length items.now ≤ length out.old }
+    ensures written { take (at + length items.now) out.new ≡ take at out.old ++ items.now }
+    ensures len { length out.new ≡ length out.old }
 {
-    ends.reserve(bytes.len() / 3)?;
+    out[at..at + items.len()].copy_from_slice(items);
+}
+
+/// Writes the boundaries in these bytes to `out`, which has an element for each. It reads four at
+/// once.
+#[inline(always)]
+pub(crate) fn unpack_into(out: &mut [u32], bytes: &[u8])
+    requires { length out.old ≡ length bytes.now / 3 }
+    ensures { out.new ≡ ends_in bytes.now }
+{
+    let mut at = 0;
     let mut rest = bytes;
     while let Some((four, next)) = rest.split_first_chunk::<12>() {
-        ends.extend_from_slice(&four_of(four))?;
+        write(out, at, &four_of(four));
+        at += 4;
         rest = next;
     }
     while let Some((three, next)) = rest.split_first_chunk::<3>() {
-        ends.push_reserved(u32::from_le_bytes([three[0], three[1], three[2], 0]));
+        let end = u32::from_le_bytes([three[0], three[1], three[2], 0]);
+        write(out, at, &[end]);
+        at += 1;
         rest = next;
     }
+}
+
+/// Appends the boundaries in these bytes to `ends`, which is unchanged if an allocation fails.
+#[inline]
+pub(crate) fn unpack(bytes: &[u8], ends: &mut Vec<u32>) -> Result<(), MemoryError>
+    ensures ok { OnOk result (ends.new.items ≡ ends.old.items ++ ends_in bytes.now) }
+    ensures err { OnErr result (ends.new.items ≡ ends.old.items) }
+{
+    let len = ends.len();
+    ends.resize(len + bytes.len() / 3, 0)?;
+    unpack_into(&mut ends[len..], bytes);
     Ok(())
 }
 
 /// Returns the sum of the sizes of the ranges between these boundaries.
 #[inline(always)]
-pub(super) fn sum_of_sizes(bytes: &[u8]) -> usize
+pub(crate) fn sum_of_sizes(bytes: &[u8]) -> usize
     requires { ArePackedEnds bytes.now }
     ensures { result ≡ sum_of_sizes (ends_in bytes.now) }
 {
@@ -106,16 +131,6 @@ fn words_of(four: &[u32; 4]) -> [[u8; 4]; 3]
     ]
 }
 
-/// Writes the bytes to `out` from index `at` on.
-#[inline(always)]
-fn write(out: &mut [u8], at: usize, bytes: &[u8])
-    requires { at + length bytes.now ≤ length out.old }
-    ensures written { take (at + length bytes.now) out.new ≡ take at out.old ++ bytes.now }
-    ensures len { length out.new ≡ length out.old }
-{
-    out[at..at + bytes.len()].copy_from_slice(bytes);
-}
-
 /// Writes the boundaries, which are below 2^24, to `out`, packed in three bytes each. It writes the
 /// bytes of four at once.
 fn pack_into(out: &mut [u8], ends: &[u32])
@@ -139,7 +154,7 @@ fn pack_into(out: &mut [u8], ends: &[u32])
 /// Returns the boundaries packed in three bytes each, lowest byte first. For no boundaries it
 /// allocates nothing.
 #[inline(always)]
-pub(super) fn pack(alloc: Global, ends: &[u32]) -> Result<Vec<u8>, MemoryError>
+pub(crate) fn pack(alloc: Global, ends: &[u32]) -> Result<Vec<u8>, MemoryError>
     requires { IsValid ends.now }
     ensures { IfOk result (λ v. v.items ≡ flat_map (low_bytes 3) ends.now) }
 {
@@ -153,7 +168,7 @@ pub(super) fn pack(alloc: Global, ends: &[u32]) -> Result<Vec<u8>, MemoryError>
 
 /// Copies the numbers, with 0xFFFFFF in place of any number that needs more than 24 bits. That is
 /// not a valid boundary either.
-pub(super) fn cut_to_points(
+pub(crate) fn cut_to_points(
     alloc: Global,
     ends: &[u32],
 ) -> Result<Vec<PotentialCodePoint>, MemoryError>

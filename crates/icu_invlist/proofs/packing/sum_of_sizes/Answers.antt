@@ -7,7 +7,7 @@ use Rattle.icu_invlist.specs.Inside.StillGiven.{ends_in}
 use Rattle.icu_invlist.proofs.MemberLemmas.{total-le}
 use Rattle.icu_invlist.proofs.PackedWords.{first_rises, four_ends, next_packed, no_more_ends, second_rises, two_ends, two_rise}
 use Rattle.icu_invlist.proofs.ValidLists.{run_from_valid}
-use Rattle.icu_invlist.proofs.codepointinvlist.cpinvlist.packing.sum_of_sizes.Goals as goal
+use Rattle.icu_invlist.proofs.packing.sum_of_sizes.Goals as goal
 
 pub overflow_sub-sum : goal.overflow_sub-sum
 overflow_sub-sum c =

@@ -3,7 +3,7 @@ use Rattle.std.proofs.Common.{drop, ap, ◌∙◌, ◌%◌, ◌/◌}
 use Rattle.std.proofs.lemmas.List.{drop-drop}
 use Rattle.icu_zerovec.specs.PackedBytes.{AreBytes, number_of}
 use Rattle.icu_invlist.proofs.PackedWords.{word_low, word_high, AreBytes-drop, four_same}
-use Rattle.icu_invlist.proofs.codepointinvlist.cpinvlist.packing.four_of.Goals as goal
+use Rattle.icu_invlist.proofs.packing.four_of.Goals as goal
 
 pub returns : goal.returns
 returns c =

@@ -2,7 +2,7 @@
 use Rattle.std.proofs.Common.{◌≡◌, ◌+◌, ◌*◌, ◌^◌, ◌<◌, ◌++◌, take, drop, length}
 use Rattle.std.specs.List.{All, flat_map}
 use Rattle.icu_zerovec.specs.PackedBytes.{low_bytes}
-use Rattle.icu_invlist.proofs.codepointinvlist.cpinvlist.packing.pack_into.Given as goal
+use Rattle.icu_invlist.proofs.packing.pack_into.Given as goal
 
 abbrev pub invariant-loop-four : goal.invariant-loop-four
 invariant-loop-four l = record {
