@@ -457,10 +457,11 @@ bks_range bks_trie_range(const bks_trie *trie, uint32_t c);
  *          c = ranges[n - 1].last + 1) ..
  *
  * @param trie a trie that bks_open opened
- * @param c the first code point of the first range
+ * @param c the first code point of the first range, any number
  * @param ranges receives the ranges
  * @param room how many ranges fit
- * @return how many it wrote. If that is less than `room`, there is no range after the last one
+ * @return how many it wrote, 0 if c is above 0x10FFFF. If that is less than `room`, there is no range
+ *     after the last one
  *
  * ICU: ucptrie_getRange in a loop. */
 size_t bks_trie_ranges(const bks_trie *trie, uint32_t c, bks_range *ranges, size_t room);
@@ -756,20 +757,19 @@ bool bks_set_index_of(const uint32_t *ends, size_t count, uint32_t c, uint32_t *
  * ICU: uset_charAt. */
 bool bks_set_nth(const uint32_t *ends, size_t count, uint32_t n, uint32_t *c);
 
-/** The most 64-bit words that a frozen set takes: 148,032 bytes. */
-enum { BKS_FROZEN_MOST = 18504 };
+/** The most 64-bit words that a frozen set takes: 148,224 bytes. */
+enum { BKS_FROZEN_MOST = 18528 };
 /** Freezes a set, for many look-ups of three reads each.
  *
  * The words are in `table` if all of them fit; otherwise `table` is unchanged: call it first with
  * room 0, or again with more. Allocates with malloc while it runs.
  *
- * First come offsets of 16 bits, one for each block of 256 code points, four in a word, the first
- * one in the lowest bits. A block's offset is the index of the first of its four words, each of
- * which has the bits of 64 code points, the first one in the lowest bit. The words of the block of
- * U+0000 follow the offsets, so its offset is also the number of words of offsets. The last offset
- * is that of all later blocks, too: White_Space takes 37 words. Other blocks without members share
- * their words, and so do blocks of members only. There are no pointers in the words: you may copy,
- * store and map them.
+ * First come offsets, one word for each block of 1,024 code points. A block's offset is the index of
+ * the first of its sixteen words, each of which has the bits of 64 code points, the first one in the
+ * lowest bit. The words of the block of U+0000 follow the offsets, so its offset is also the number
+ * of words of offsets. The last offset is that of all later blocks, too: White_Space takes 110 words.
+ * Other blocks without members share their words, and so do blocks of members only. Of an offset
+ * only the low 32 bits count. There are no pointers in the words: you may copy, store and map them.
  *
  * @param ends the boundaries of the set
  * @param count how many boundaries there are
@@ -1584,12 +1584,10 @@ static inline uint32_t bks_next32_utf16(const bks_trie *trie, const uint16_t *te
  *
  * ICU: uset_contains. */
 static inline bool bks_frozen_has(const uint64_t *table, uint32_t c) {
-    uint32_t block = c >> 8, last = 4 * (uint32_t)(table[0] & 0xFFFF) - 1;
-    uint16_t offset;
+    uint32_t block = c >> 10, last = (uint32_t)table[0] - 1;
     if (c >= 0x110000) return false;
     if (block > last) block = last;
-    memcpy(&offset, (const uint8_t *)table + 2 * (size_t)block, sizeof offset);
-    return table[(size_t)offset + (c >> 6 & 3)] >> (c & 63) & 1;
+    return table[(size_t)(uint32_t)table[block] + (c >> 6 & 15)] >> (c & 63) & 1;
 }
 
 #ifdef __cplusplus

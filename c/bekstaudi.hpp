@@ -210,6 +210,8 @@ public:
         return of_points(points);
     }
 
+    /// Returns the boundaries, as C has them: the first code point in the set, the first one after it that
+    /// is not, and so on.
     const std::vector<std::uint32_t> &ends() const noexcept { return ends_; }
     bool empty() const noexcept { return ends_.empty(); }
 
@@ -278,7 +280,8 @@ public:
         return {ends_.data() + ends_.size(), ends_.data() + ends_.size()};
     }
 
-    /// Returns the code point at this index, if the set has that many (ICU: uset_charAt).
+    /// Returns the code point at this index, from 0 on in ascending order, if the set has more than so
+    /// many. Takes linear time (ICU: uset_charAt).
     std::optional<std::uint32_t> nth(std::size_t index) const noexcept {
         std::uint32_t c = 0;
         if (index > 0x10FFFF) return std::nullopt;
@@ -301,6 +304,7 @@ public:
                                     other.ends_.size());
     }
 
+    /// Returns whether the set contains the code point c; false above 0x10FFFF (ICU: uset_contains).
     bool contains(std::uint32_t c) const noexcept {
         return bks_set_contains(of().data(), ends_.size(), c);
     }
@@ -350,6 +354,8 @@ public:
     }
 #endif
 
+    /// Return the code points in either set, in both, in the first alone, and in exactly one (ICU:
+    /// uset_addAll, uset_retainAll, uset_removeAll, uset_complementAll).
     friend code_point_set operator|(const code_point_set &a, const code_point_set &b) {
         return made(bks_set_union, a, b);
     }
@@ -438,12 +444,13 @@ class frozen_set {
 public:
     /// Makes the empty set.
     frozen_set() : frozen_set(code_point_set()) {}
+    /// Makes the frozen set of a set. Throws std::bad_alloc if an allocation fails.
     explicit frozen_set(const code_point_set &set) {
         view<std::uint32_t> ends(set.ends());
-        // Each boundary is in one block, and such a block has four words of its own, as the first block
-        // has. Blocks without a boundary share eight words.
-        std::size_t needed = offset_words(ends) + 12 + 4 * ends.size();
-        if (needed > BKS_FROZEN_MOST) needed = BKS_FROZEN_MOST;
+        // Each boundary is in one block, and such a block has sixteen words of its own, as the first
+        // block has. Blocks without a boundary share 32 words.
+        std::size_t offsets = offset_words(ends);
+        std::size_t needed = offsets + 48 + 16 * (ends.size() < offsets ? ends.size() : offsets);
         do {
             words_.resize(needed);
             needed = detail::answered(
@@ -457,6 +464,7 @@ public:
     /// Returns the words, in the layout of bks_set_freeze: store them, or pass them to C.
     const std::vector<std::uint64_t> &words() const noexcept { return words_; }
 
+    /// Returns whether the set contains the code point c; false above 0x10FFFF. Inline (ICU: uset_contains).
     bool contains(std::uint32_t c) const noexcept { return bks_frozen_has(words_.data(), c); }
 
     /// Returns the longest prefix of a text in UTF-8 whose characters are all in the set or, if
@@ -522,13 +530,13 @@ public:
 #endif
 
 private:
-    /// Returns how many words the offsets take, four in each. They end after the block of the last
-    /// boundary below 0x110000: the offset after it is that of all later blocks.
+    /// Returns how many words the offsets take. They end after the block of the last boundary below
+    /// 0x110000: the offset after it is that of all later blocks.
     static std::size_t offset_words(view<std::uint32_t> ends) noexcept {
         std::size_t count = ends.size();
         if (count > 0 && ends.data()[count - 1] == 0x110000) count--;
-        std::size_t block = count > 0 ? ends.data()[count - 1] / 256 : 0;
-        return block + 5 < 4352 ? (block + 5) / 4 : 1088;
+        std::size_t block = count > 0 ? ends.data()[count - 1] / 1024 : 0;
+        return block + 2 < 1088 ? block + 2 : 1088;
     }
 
     std::vector<std::uint64_t> words_;
@@ -564,8 +572,8 @@ public:
     const bks_trie &as_c() const noexcept { return trie_; }
     std::size_t size_bytes() const noexcept { return trie_.size; }
 
-    // Returns the value of c, or the error value if c is above 0x10FFFF. Inline, like bks_get8,
-    // bks_get16 and bks_get32 (ICU: ucptrie_get).
+    /// Returns the value of c, or the error value if c is above 0x10FFFF. Inline, like bks_get8,
+    /// bks_get16 and bks_get32 (ICU: ucptrie_get).
     Value operator[](std::uint32_t c) const noexcept {
         if constexpr (sizeof(Value) == 1)
             return bks_get8(&trie_, c);

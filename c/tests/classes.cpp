@@ -251,14 +251,14 @@ static void frozen_sets() {
     if (ends.size() % 2 != 0) ends.pop_back();
     const code_point_set none, all{0, 0x110000}, few{0x41, 0x5B, 0xDF, 0xE0}, many{bekstaudi::view<uint32_t>(ends)};
     const code_point_set last{0x10FFFF, 0x110000};
-    CHECK(bekstaudi::frozen_set(none).words().size() == 13 && bekstaudi::frozen_set(all).words().size() == 13);
-    CHECK(bekstaudi::frozen_set(few).words().size() == 13 && bekstaudi::frozen_set(last).words().size() == 1104);
+    CHECK(bekstaudi::frozen_set(none).words().size() == 50 && bekstaudi::frozen_set(all).words().size() == 50);
+    CHECK(bekstaudi::frozen_set(few).words().size() == 50 && bekstaudi::frozen_set(last).words().size() == 1152);
     for (const code_point_set &set : {none, all, few, many, last}) {
         bekstaudi::frozen_set first(set), copy(first), moved(std::move(first));
         copy = std::move(moved);
         CHECK(first.words() == copy.words() && moved.words() == copy.words());
         CHECK(first.words().size() <= BKS_FROZEN_MOST);
-        CHECK(first.words().capacity() <= first.words().size() + 4 * set.ends().size());
+        CHECK(first.words().capacity() <= first.words().size() + 16 * set.ends().size());
         for (uint32_t c = 0; c <= CODE_POINTS; c++) CHECK(moved.contains(c) == set.contains(c));
         CHECK(!copy.contains(UINT32_MAX) && copy.span("") == "" && copy.span(std::string_view()).empty());
         for (bool held : {false, true})

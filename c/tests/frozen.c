@@ -11,24 +11,24 @@ static uint64_t room[BKS_FROZEN_MOST + 8];
 
 /* What the header says about any words, read one by one. */
 static bool said(const uint64_t *table, size_t count, uint32_t c) {
-    size_t words = count > 0 ? table[0] & 0xFFFF : 0, last = words > 0 ? 4 * words - 1 : 0;
-    size_t block = c / 256 < last ? c / 256 : last;
-    size_t offset = block / 4 < count ? table[block / 4] >> 16 * (block % 4) & 0xFFFF : 0;
-    size_t at = offset + c / 64 % 4;
+    size_t words = count > 0 ? table[0] & 0xFFFFFFFF : 0, last = words > 0 ? words - 1 : 0;
+    size_t block = c / 1024 < last ? c / 1024 : last;
+    size_t offset = block < count ? table[block] & 0xFFFFFFFF : 0;
+    size_t at = offset + c / 64 % 16;
     return c < CODE_POINTS && at < count && (table[at] >> c % 64 & 1) != 0;
 }
 
-/* How many words a set takes: offsets, four in each, up to the one after the block of the last boundary
-   below 0x110000; the words of the first block, the empty one and the full one; and those of each other
+/* How many words a set takes: offsets up to the one after the block of the last boundary below
+   0x110000; the words of the first block, the empty one and the full one; and those of each other
    block with a boundary inside. */
 static int64_t words_of(const uint32_t *ends, size_t count) {
-    uint32_t offsets = 1, own = 0, block = 0;
+    uint32_t offsets = 2, own = 0, block = 0;
     for (size_t i = 0; i < count && ends[i] < CODE_POINTS; i++) {
-        offsets = ends[i] / 256 < 4347 ? (ends[i] / 256 + 5) / 4 : 1088;
-        own += ends[i] % 256 > 0 && ends[i] / 256 > block;
-        if (ends[i] % 256 > 0) block = ends[i] / 256;
+        offsets = ends[i] / 1024 < 1087 ? ends[i] / 1024 + 2 : 1088;
+        own += ends[i] % 1024 > 0 && ends[i] / 1024 > block;
+        if (ends[i] % 1024 > 0) block = ends[i] / 1024;
     }
-    return offsets + 12 + 4 * own;
+    return offsets + 48 + 16 * own;
 }
 
 /* Freezes the set into exactly as many words as it needs, before a closed page. A buffer that is
@@ -110,16 +110,16 @@ static void extremes(void) {
     CHECK(size == BKS_FROZEN_MOST);
     for (uint32_t c = 0; c < CODE_POINTS; c++) CHECK(bks_frozen_has(table, c) == (c % 2 == 0));
     table = frozen(ends, 0, &size);
-    CHECK(size == 13);
+    CHECK(size == 50);
     for (uint32_t c = 0; c < CODE_POINTS; c++) CHECK(!bks_frozen_has(table, c));
     table = frozen(all, 2, &size);
-    CHECK(size == 13);
+    CHECK(size == 50);
     for (uint32_t c = 0; c < CODE_POINTS; c++) CHECK(bks_frozen_has(table, c));
     table = frozen(spaces, 20, &size);
-    CHECK(size == 37);
+    CHECK(size == 110);
     for (uint32_t c = 0; c < CODE_POINTS; c++) CHECK(bks_frozen_has(table, c) == bks_set_contains(spaces, 20, c));
     table = frozen(last, 2, &size);
-    CHECK(size == 1104);
+    CHECK(size == 1152);
     for (uint32_t c = 0; c < CODE_POINTS; c++) CHECK(bks_frozen_has(table, c) == (c == CODE_POINTS - 1));
 }
 
@@ -253,8 +253,9 @@ static void damaged(const uint64_t *table, size_t size) {
     uint64_t *copy = (uint64_t *)before_closed_page(8 * count);
     memcpy(copy, table, 8 * count);
     for (uint32_t n = below(40); n > 0 && count > 0; n--)
-        copy[below(2) ? below((uint32_t)count) : below(count < 320 ? (uint32_t)count : 320)] = next_number();
-    if (count > 0 && below(4) == 0) copy[0] = (copy[0] & ~(uint64_t)0xFFFF) | below(4);
+        copy[below(2) ? below((uint32_t)count) : below(count < 320 ? (uint32_t)count : 320)] =
+            below(2) ? next_number() : below((uint32_t)count + 16);
+    if (count > 0 && below(4) == 0) copy[0] = (copy[0] & ~(uint64_t)0xFFFFFFFF) | below(4);
     for (uint32_t c = below(64); c < CODE_POINTS + 999; c += 1 + below(199))
         CHECK(bks_frozen_contains(copy, count, c) == said(copy, count, c));
     for (int held = 0; held < 2; held++) {

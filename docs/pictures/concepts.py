@@ -93,22 +93,21 @@ def draw_inversion_list(rows, value):
 
 
 def draw_frozen(words, rows, value):
-    """A bit for each code point: blocks of 256, of which equal ones share their words."""
-    last = 4 * (words[0] & 0xFFFF) - 1
-    at = lambda block: min(block, last)
-    offset = lambda block: words[at(block) // 4] >> 16 * (at(block) % 4) & 0xFFFF
-    blocks = (0x00, 0x01, 0x4E, last, 0x10FF)
-    count = len({offset(it) for it in range(4352)})
-    assert len(words) == offset(0) + 4 * (count + 1)
+    """A bit for each code point: blocks of 1,024, of which the empty ones share their words."""
+    last = words[0] - 1
+    offset = lambda block: words[min(block, last)]
+    blocks = (0x00, 0x01, 0x13, last, 0x43F)
+    count = len({offset(it) for it in range(1088)})
+    assert len(words) == offset(0) + 16 * (count + 1)
     said = f"Lu, the uppercase letters: {len(words):,} words. {offset(0)} have the offsets; then come {count} blocks and the full one"
-    picture = Picture(1000, 392, "A frozen set", "A frozen set: one bit for each code point, in blocks of 256", said)
-    said = f"the offset of each block of 256 code points: the index of its first word. The last one, of U+{256 * last:04X},"
+    picture = Picture(1000, 418, "A frozen set", "A frozen set: one bit for each code point, in blocks of 1,024", said)
+    said = f"the offset of each block of 1,024 code points: the index of its first word. The last one, of U+{1024 * last:04X},"
     picture.text(30, 92, f"{said} is that of all later blocks", BLUE)
     found = list(dict.fromkeys(offset(it) for it in blocks))
     x_of = {it: 30 + 940 * (2 * k + 1) / (2 * len(found)) for k, it in enumerate(found)}
     for k, block in enumerate(blocks):
         x = 30 + 940 * (2 * k + 1) / (2 * len(blocks))
-        picture.text(x, 116, f"U+{256 * block:04X}", GREY, text_anchor="middle", font_size=12)
+        picture.text(x, 116, f"U+{1024 * block:04X}", GREY, text_anchor="middle", font_size=12)
         picture.box(x - 34, 124, 68, 26, BLUE, rx=3)
         picture.text(x, 142, offset(block), "#ffffff", text_anchor="middle")
         picture.line(x, 150, x_of[offset(block)], 186, GREY, stroke_width=1)
@@ -116,13 +115,16 @@ def draw_frozen(words, rows, value):
     for it in found:
         picture.text(x_of[it], 200, f"from word {it}", INK, text_anchor="middle", font_size=12)
         block = next(b for b in blocks if offset(b) == it)
-        for bit in range(256):
-            is_set = words[it + bit // 64] >> bit % 64 & 1
-            assert is_set == (256 * block + bit in inside)
-            x, y = x_of[it] - 144 + 9 * (bit % 32), 210 + 14 * (bit // 32)
-            picture.box(x, y, 8, 12, GREEN if is_set else PALE, rx=1)
-    picture.text(30, 350, "each word has the bits of 64 code points, here in two lines; green is 1", GREEN)
-    picture.text(30, 374, "U+0051 Q: the block of U+0000, its second word, bit 17 counted from 0")
+        for k in range(16):
+            bits = [words[it + k] >> bit & 1 for bit in range(64)]
+            assert bits == [1024 * block + 64 * k + bit in inside for bit in range(64)]
+            x, y = x_of[it] - 112, 210 + 10 * k
+            picture.box(x, y, 224, 9, PALE, rx=0)
+            for bit in range(64):
+                if bits[bit]:
+                    picture.box(x + 3.5 * bit, y, 3, 9, GREEN, rx=0)
+    picture.text(30, 380, "each line is a word with the bits of 64 code points; green is 1", GREEN)
+    picture.text(30, 404, "U+0051 Q: the block of U+0000, its second word, bit 17 counted from 0")
     picture.write("frozen.svg")
 
 

@@ -358,19 +358,19 @@ class Sets(unittest.TestCase):
         # The layout that bekstaudi.h describes.
         last, spaces = [0x10FFFF, 0x110000], CodePointSet.from_chars("\t\n\v\f\r \x85\xa0\u1680\u2028\u2029\u202f\u205f\u3000")
         spaces |= CodePointSet.from_ranges([(0x2000, 0x200A)])
-        sizes = (([], 13), ([0, 0x110000], 13), (ENDS[0], 13), (spaces.ends, 37), (last, 1104), (ENDS[1], None))
+        sizes = (([], 50), ([0, 0x110000], 50), (ENDS[0], 50), (spaces.ends, 110), (last, 1152), (ENDS[1], None))
         for ends, size in sizes:
             frozen, members = FrozenCodePointSet(ends), set(CodePointSet(ends))
             words = frozen.words
             self.assertEqual((words.format, words.itemsize, words.readonly), ("Q", 8, True))
-            offsets = memoryview(words.cast("B")).cast("H")
-            end = 4 * offsets[0] - 1
+            offsets = [it & 0xFFFFFFFF for it in words[: words[0] & 0xFFFFFFFF]]
+            end = len(offsets) - 1
             for c in [*range(0, 0x110000, 97), *range(0x300), *range(0x10FF00, 0x110000)]:
-                word = words[offsets[min(c >> 8, end)] + (c >> 6 & 3)]
+                word = words[offsets[min(c >> 10, end)] + (c >> 6 & 15)]
                 self.assertEqual(word >> (c & 63) & 1, c in members)
             self.assertEqual(array.array("Q", words).tobytes(), bytes(words))
             del frozen
-            self.assertEqual(len(words[offsets[0] :]) % 4, 0)
+            self.assertEqual(len(words[offsets[0] :]) % 16, 0)
             self.assertIn(size, (len(words), None))
         with self.assertRaises(TypeError):
             words[0] = 5

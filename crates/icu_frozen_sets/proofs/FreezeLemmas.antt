@@ -42,12 +42,12 @@ below_last xs k i last v e h l =
 
 -- The block of each boundary has an offset, and not many more blocks have.
 pub record AreEnough (set t : List ℕ) : Type 0 where
-  pub own : (i : ℕ) → i < length set → HasOffset t (get_or set i 0 / 256)
+  pub own : (i : ℕ) → i < length set → HasOffset t (get_or set i 0 / 1024)
   pub short : (p : ℕ) → IsAbove p set → offset_words t ≤ p / 1024 + 2
 
 pub enough_first : (set t : List ℕ) (last : ℕ)
     → ((i : ℕ) → i < length set → (get_or set i 0 ≤ last) ⊎ (get_or set i 0 ≡ code_point_limit))
-    → ((p : ℕ) → IsAbove p set → last ≤ p) → ((p : ℕ) → p ≤ last → HasOffset t (p / 256)) → offset_words t ≤ last / 1024 + 2
+    → ((p : ℕ) → IsAbove p set → last ≤ p) → ((p : ℕ) → p ≤ last → HasOffset t (p / 1024)) → offset_words t ≤ last / 1024 + 2
     → AreEnough set t
 enough_first set t last there least own short = record {
   own = λ i l. elim (there i l) [

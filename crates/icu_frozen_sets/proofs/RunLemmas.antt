@@ -51,18 +51,18 @@ module _ (word s : ℕ) (fits : word < 2 ^ 64) where
 
 -- ---- the run of a code point
 -- All words of its block are ones.
-pub ones_of_full : (t : List ℕ) (c k : ℕ) → ((j : ℕ) → j < 4 → get_or t (place_in t (c / 256) + j) 0 ≡ 2 ^ 64 - 1)
-    → k / 256 ≡ c / 256 → bit_in t k ≡ true
+pub ones_of_full : (t : List ℕ) (c k : ℕ) → ((j : ℕ) → j < 16 → get_or t (place_in t (c / 1024) + j) 0 ≡ 2 ^ 64 - 1)
+    → k / 1024 ≡ c / 1024 → bit_in t k ≡ true
 ones_of_full t c k all q =
-    bit_by_place t k (place_in t (c / 256)) (ap (λ (b : ℕ). place_in t b) q)
-    ∙ bit_of_uniform true _ (k % 64) (all (k / 64 % 4) (omega arith)) (omega arith)
+    bit_by_place t k (place_in t (c / 1024)) (ap (λ (b : ℕ). place_in t b) q)
+    ∙ bit_of_uniform true _ (k % 64) (all (k / 64 % 16) (omega arith)) (omega arith)
 
-module _ (t : List ℕ) (c word run : ℕ) (there : word ≡ get_or t (place_in t (c / 256) + c / 64 % 4) 0) where
+module _ (t : List ℕ) (c word run : ℕ) (there : word ≡ get_or t (place_in t (c / 1024) + c / 64 % 16) 0) where
   bit_here : (k i : ℕ) → k / 64 ≡ c / 64 → k % 64 ≡ i → bit_in t k ≡ nat_eq (bit_at word i) 1
   bit_here k i q r =
-      let b : k / 256 ≡ c / 256 = omega arith in
-      bit_by_place t k (place_in t (c / 256)) (ap (λ (n : ℕ). place_in t n) b)
-      ∙ (ap (λ (n : ℕ). nat_eq (bit_at (get_or t (place_in t (c / 256) + n % 4) 0) (k % 64)) 1) q
+      let b : k / 1024 ≡ c / 1024 = omega arith in
+      bit_by_place t k (place_in t (c / 1024)) (ap (λ (n : ℕ). place_in t n) b)
+      ∙ (ap (λ (n : ℕ). nat_eq (bit_at (get_or t (place_in t (c / 1024) + n % 16) 0) (k % 64)) 1) q
       ∙ (ap (λ (n : ℕ). nat_eq (bit_at n (k % 64)) 1) (sym there)
       ∙ ap (λ (n : ℕ). nat_eq (bit_at word n) 1) r))
 

@@ -85,20 +85,20 @@ pub has_ascii : (table : List ℕ) (held : Bool) (place w v t u : ℕ) → place
     → v ≡ get_or table (place + 1) 0 → ((i : ℕ) → i < 64 → (bit_at t i == 1) ≡ beq (bit_at w i == 1) held)
     → ((i : ℕ) → i < 64 → (bit_at u i == 1) ≡ beq (bit_at v i == 1) held) → HasAscii table held (t ∷ u ∷ [])
 has_ascii table held place w v t u p e f low high c l =
-    let block : c / 256 ≡ 0 = omega arith in
+    let block : c / 1024 ≡ 0 = omega arith in
     let inside : is_held table c ≡ bit_in table c =
     ap (λ (b : Bool). b && bit_in table c) (lt-ltb c code_point_limit (omega arith)) in
     elim (cases_lt c 64) [
       | inl h ↦
           let word : c / 64 ≡ 0 = omega arith in
-          let at : place_in table (c / 256) + c / 64 % 4 ≡ place = rw (block, word) (omega (arith, p)) in
+          let at : place_in table (c / 1024) + c / 64 % 16 ≡ place = rw (block, word) (omega (arith, p)) in
           let bit : bit_in table c ≡ (bit_at w (c % 64) == 1) =
           ap (λ (k : ℕ). bit_at (get_or table k 0) (c % 64) == 1) at ∙ ap (λ (k : ℕ). bit_at k (c % 64) == 1) (sym e) in
           ap (λ (k : ℕ). bit_at (get_or (t ∷ u ∷ []) k 0) (c % 64) == 1) word
           ∙ (low (c % 64) (omega arith) ∙ ap (λ (b : Bool). beq b held) (sym (inside ∙ bit)))
       | inr h ↦
           let word : c / 64 ≡ 1 = omega arith in
-          let at : place_in table (c / 256) + c / 64 % 4 ≡ place + 1 = rw (block, word) (omega (arith, p)) in
+          let at : place_in table (c / 1024) + c / 64 % 16 ≡ place + 1 = rw (block, word) (omega (arith, p)) in
           let bit : bit_in table c ≡ (bit_at v (c % 64) == 1) =
           ap (λ (k : ℕ). bit_at (get_or table k 0) (c % 64) == 1) at ∙ ap (λ (k : ℕ). bit_at k (c % 64) == 1) (sym f) in
           ap (λ (k : ℕ). bit_at (get_or (t ∷ u ∷ []) k 0) (c % 64) == 1) word

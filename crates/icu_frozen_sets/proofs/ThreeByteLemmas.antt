@@ -1,21 +1,21 @@
 -- Characters of three bytes by the upper bits of their code points, and what has passed them.
-use Rattle.std.proofs.Common.{◌≡◌, ◌∙◌, sym, ap, subst, refl, ℕ, zero, suc, ◌+◌, ◌-◌, ◌*◌, ◌/◌, ◌%◌, ◌^◌, ◌<◌, ◌≤◌, Bool, true, false, List, ◌++◌, length, take, drop, get_or, arith, inl, inr, Some}
+use Rattle.std.proofs.Common.{◌≡◌, ◌∙◌, sym, ap, subst, refl, ℕ, zero, suc, ◌+◌, ◌-◌, ◌*◌, ◌/◌, ◌%◌, ◌^◌, ◌<◌, ◌≤◌, Bool, true, false, List, ◌++◌, length, take, drop, get_or, set, arith, inl, inr, Some}
 use Rattle.std.specs.Prelude.{◌⊎◌, ◌==◌, ◌&&◌, ◌||◌}
 use Rattle.std.specs.Char.{encode_utf8}
 use Rattle.std.specs.Int.{bit_at}
 use mathlib.Core.Bool.{beq, not}
-use Rattle.std.proofs.lemmas.Bool.{cases_lt, cond-false, cond-true, eq-eqb, lt-ltb, or_from, or_left, or_parts, or_right, ne_eqb, true≢false}
-use Rattle.std.proofs.lemmas.List.{drop-drop, length-append, length-drop}
+use Rattle.std.proofs.lemmas.Bool.{cases_eq, cases_lt, cond-false, cond-true, eq-eqb, lt-ltb, or_from, or_left, or_parts, or_right, ne_eqb, true≢false}
+use Rattle.std.proofs.lemmas.Grind.{get_or-set_at}
+use Rattle.std.proofs.lemmas.List.{drop-drop, get_or-set_other, length-append, length-drop}
 use Rattle.std.proofs.lemmas.Str.{length-encode}
 use Rattle.icu_zerovec.specs.CodePoints.{code_point_limit}
 use Rattle.icu_utf.specs.Utf8.{IsFirstPart}
 use Rattle.icu_utf.proofs.CallerLemmas.{three_bytes_found}
-use Rattle.icu_frozen_sets.specs.FrozenWords.{bit_in, is_held, offset_at, offset_words, place_in}
+use Rattle.icu_frozen_sets.specs.FrozenWords.{bit_in, is_held, place_in}
 use Rattle.icu_frozen_sets.specs.LongestSpans.{AllHeld, IsSpan}
 use Rattle.icu_frozen_sets.specs.Inside.ThreeByte.{AreBitsOf, AreOfThree, IsPassed, IsThree, wide_place}
 use Rattle.icu_frozen_sets.specs.declared.three_byte.Passed.{Passed}
 use Rattle.icu_frozen_sets.proofs.LongestSpanLemmas.{is_alike, is_other, one_more, span_to_other}
-use Rattle.icu_frozen_sets.proofs.PlaceLemmas.{place_inside}
 
 -- ---- a character at the start of bytes
 -- It is within them.
@@ -108,30 +108,30 @@ module _ (sound : Type 0) (is_in : ℕ → Bool) (held : Bool) (bytes : List ℕ
 
 -- ---- the bits of 64 code points
 -- Those of a frozen set.
-pub table_bits : (table : List ℕ) (high place w : ℕ) → high < 1024 → place ≡ place_in table (high / 4) + high % 4
+pub table_bits : (table : List ℕ) (high place w : ℕ) → high < 1024 → place ≡ place_in table (high / 16) + high % 16
     → w ≡ get_or table place 0 → AreBitsOf (is_held table) high w
 table_bits table high place w most p e j l =
     let c : ℕ = 64 * high + j in
-    let block : c / 256 ≡ high / 4 = omega arith in
+    let block : c / 1024 ≡ high / 16 = omega arith in
     let word : c / 64 ≡ high = omega arith in
     let rest : c % 64 ≡ j = omega arith in
     let inside : is_held table c ≡ bit_in table c =
     ap (λ (b : Bool). b && bit_in table c) (lt-ltb c code_point_limit (omega arith)) in
-    let at : place_in table (c / 256) + c / 64 % 4 ≡ place = rw (block, word) (sym p) in
+    let at : place_in table (c / 1024) + c / 64 % 16 ≡ place = rw (block, word) (sym p) in
     let bit : bit_in table c ≡ (bit_at w j == 1) =
     ap (λ (k : ℕ). bit_at (get_or table k 0) (c % 64) == 1) at
     ∙ (ap (λ (k : ℕ). bit_at (get_or table place 0) k == 1) rest ∙ ap (λ (k : ℕ). bit_at k j == 1) (sym e)) in
     sym (inside ∙ bit)
 
 -- A block that has an offset has characters of three bytes.
-pub has_place : (table : List ℕ) (high place : ℕ) → high < 1024 → place ≡ wide_place table (high / 4) → (place ≡ 0xFFFF → ⊥)
-    → AreOfThree high × (place ≡ place_in table (high / 4))
-has_place table high place most e some = elim (told (high / 4 / 8 == 0 || high / 4 / 8 == 27)) [
-  | inl is ↦ absurd (some (e ∙ cond-true _ 0xFFFF (place_in table (high / 4)) is))
+pub has_place : (table : List ℕ) (high place : ℕ) → high < 1024 → place ≡ wide_place table (high / 16) → (place ≡ 0xFFFF_FFFF → ⊥)
+    → AreOfThree high × (place ≡ place_in table (high / 16))
+has_place table high place most e some = elim (told (high / 16 / 2 == 0 || high / 16 / 2 == 27)) [
+  | inl is ↦ absurd (some (e ∙ cond-true _ 0xFFFF_FFFF (place_in table (high / 16)) is))
   | inr not ↦
       let parts = or_parts _ _ not in
-      let first : high / 4 / 8 ≡ 0 → ⊥ = λ z. absurd_of _ (eq-eqb _ _ z) parts.0 in
-      let last : high / 4 / 8 ≡ 27 → ⊥ = λ z. absurd_of _ (eq-eqb _ _ z) parts.1 in
+      let first : high / 16 / 2 ≡ 0 → ⊥ = λ z. absurd_of _ (eq-eqb _ _ z) parts.0 in
+      let last : high / 16 / 2 ≡ 27 → ⊥ = λ z. absurd_of _ (eq-eqb _ _ z) parts.1 in
       let low : 0x20 ≤ high = elim (cases_lt high 0x20) [ inl l ↦ absurd (first (omega arith)) | inr l ↦ l ] in (
         (
           low,
@@ -140,7 +140,7 @@ has_place table high place most e some = elim (told (high / 4 / 8 == 0 || high /
             | inr l ↦ elim (cases_lt high 0x380) [ inl m ↦ absurd (last (omega arith)) | inr m ↦ inr m ]
           ],
         ),
-        e ∙ cond-false _ 0xFFFF (place_in table (high / 4)) not,
+        e ∙ cond-false _ 0xFFFF_FFFF (place_in table (high / 16)) not,
       )
 ] where
   told : (b : Bool) → (b ≡ true) ⊎ (b ≡ false)
@@ -169,55 +169,10 @@ pub bit_says : (table : List ℕ) (held : Bool) (high w z : ℕ) (b : Bool) → 
     → b ≡ (bit_at w (z % 64) == 1) → b ≡ is_held table (64 * high + z % 64)
 bit_says table held high w z b bits e = e ∙ bits (z % 64) (omega arith)
 
--- ---- the offsets of four blocks
-ones_at : (j : ℕ) → j < 4 → (2 ^ 64 - 1) / 2 ^ (16 * j) % 2 ^ 16 ≡ 0xFFFF
-ones_at zero l = refl
-ones_at (suc zero) l = refl
-ones_at (suc (suc zero)) l = refl
-ones_at (suc (suc (suc zero))) l = refl
-ones_at (suc (suc (suc (suc j)))) l = absurd (omega arith)
-
-pub wide_none : (table : List ℕ) (i j : ℕ) → j < 4 → (i / 2 ≡ 0) ⊎ (i / 2 ≡ 27)
-    → (2 ^ 64 - 1) / 2 ^ (16 * j) % 2 ^ 16 ≡ wide_place table (4 * i + j)
-wide_none table i j l which =
-    let b : ℕ = 4 * i + j in
-    let half : b / 8 ≡ i / 2 = omega arith in
-    let is : (b / 8 == 0 || b / 8 == 27) ≡ true = elim which [
-      | inl e ↦ or_left _ _ (eq-eqb (b / 8) 0 (half ∙ e))
-      | inr e ↦ or_right _ _ (eq-eqb (b / 8) 27 (half ∙ e))
-    ] in
-    ones_at j l ∙ sym (cond-true _ 0xFFFF (place_in table b) is)
-
-pub wide_some : (table : List ℕ) (i j w : ℕ) → j < 4 → (i / 2 ≡ 0 → ⊥) → (i / 2 ≡ 27 → ⊥)
-    → w / 2 ^ (16 * j) % 2 ^ 16 ≡ place_in table (4 * i + j) → w / 2 ^ (16 * j) % 2 ^ 16 ≡ wide_place table (4 * i + j)
-wide_some table i j w l first last place =
-    let b : ℕ = 4 * i + j in
-    let half : b / 8 ≡ i / 2 = omega arith in
-    let not : (b / 8 == 0 || b / 8 == 27) ≡ false =
-    or_from _ _ (ne_eqb (b / 8) 0 (λ z. first (sym half ∙ z))) (ne_eqb (b / 8) 27 (λ z. last (sym half ∙ z))) in
-    place ∙ sym (cond-false _ 0xFFFF (place_in table b) not)
-
--- A word of offsets has those of four blocks.
-pub four_places : (table : List ℕ) (i j w : ℕ) → j < 4 → i < offset_words table → w ≡ get_or table i 0
-    → w / 2 ^ (16 * j) % 2 ^ 16 ≡ place_in table (4 * i + j)
-four_places table i j w l h e =
-    let b : ℕ = 4 * i + j in
-    let four : b / 4 ≡ i = omega arith in
-    let rest : b % 4 ≡ j = omega arith in
-    let place : w / 2 ^ (16 * j) % 2 ^ 16 ≡ offset_at table b = rw (four, rest, e) refl in
-    place ∙ sym (place_inside table b (omega (arith, l, h)))
-
--- Four more offsets are written.
-pub wide_more : (table old new : List ℕ) (i four : ℕ) → ((j : ℕ) → j < 4 → four / 2 ^ (16 * j) % 2 ^ 16 ≡ wide_place table (4 * i + j))
-    → ((j : ℕ) → j < 4 → get_or new (4 * i + j) 0 ≡ four / 2 ^ (16 * j) % 2 ^ 16)
-    → ((k : ℕ) → k < 4 * i → get_or new k 0 ≡ get_or old k 0)
-    → ((b : ℕ) → b < 4 * i → get_or old b 0 ≡ wide_place table b) → (b : ℕ) → b < 4 * (i + 1) → get_or new b 0 ≡ wide_place table b
-wide_more table old new i four is written same before b m = elim (cases_lt b (4 * i)) [
-  | inl less ↦ same b less ∙ before b less
-  | inr past ↦
-      let j : ℕ = b - 4 * i in
-      let at : 4 * i + j ≡ b = omega (arith, past) in
-      let few : j < 4 = omega (arith, m, past) in
-      let P : ℕ → Type 0 = λ k. get_or new k 0 ≡ wide_place table k in
-      subst P at (written j few ∙ is j few)
+-- One more offset is written.
+pub wide_more : (table places : List ℕ) (k place : ℕ) → length places ≡ 64 → k < 64 → place ≡ wide_place table k
+    → ((b : ℕ) → b < k → get_or places b 0 ≡ wide_place table b) → (b : ℕ) → b < k + 1 → get_or (set places k place) b 0 ≡ wide_place table b
+wide_more table places k place n l is before b m = elim (cases_eq b k) [
+  | inl q ↦ get_or-set_at places k b place 0 q (omega (arith, n, l)) ∙ (is ∙ ap (λ (i : ℕ). wide_place table i) (sym q))
+  | inr q ↦ get_or-set_other places k b place 0 q ∙ before b (omega (arith, m, q))
 ]

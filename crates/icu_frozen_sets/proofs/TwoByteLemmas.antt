@@ -11,8 +11,9 @@ use Rattle.std.proofs.lemmas.Nat.Bits.{bit_at_mask_above, bit_at_mask_below}
 use Rattle.std.proofs.lemmas.Str.{length-encode}
 use Rattle.icu_zerovec.specs.CodePoints.{code_point_limit}
 use Rattle.icu_utf.proofs.CallerLemmas.{two_bytes_found}
-use Rattle.icu_frozen_sets.specs.FrozenWords.{bit_in, is_held, place_in}
+use Rattle.icu_frozen_sets.specs.FrozenWords.{bit_in, is_held}
 use Rattle.icu_frozen_sets.specs.LongestSpans.{AllHeld}
+use Rattle.icu_frozen_sets.specs.Inside.Filling.{bit_among}
 use Rattle.icu_frozen_sets.specs.Inside.TwoByte.{AreShortWords, OfEach, has_bit, is_paired, word_of}
 use Rattle.icu_frozen_sets.proofs.LongestSpanLemmas.{ascii_held, is_alike, one_more}
 
@@ -21,57 +22,21 @@ use Rattle.icu_frozen_sets.proofs.LongestSpanLemmas.{ascii_held, is_alike, one_m
 abbrev pub SaysOf : List ℕ → Bool → List ℕ → ℕ → Type 0
 SaysOf table held words c = (bit_at (get_or words (c / 64) 0) (c % 64) == 1) ≡ beq (is_held table c) held
 
-pub short_more : (table : List ℕ) (held : Bool) (words : List ℕ) (k place w t : ℕ) → length words ≡ 36 → k < 32
-    → place ≡ place_in table (k / 4) → w ≡ get_or table (place + k % 4) 0
-    → ((i : ℕ) → i < 64 → (bit_at t i == 1) ≡ beq (bit_at w i == 1) held)
+pub short_more : (table : List ℕ) (held : Bool) (words first : List ℕ) (k t : ℕ) → length words ≡ 36 → k < 32
+    → ((c : ℕ) → c < 2048 → bit_among first c ≡ bit_in table c)
+    → ((i : ℕ) → i < 64 → (bit_at t i == 1) ≡ beq (bit_at (get_or first k 0) i == 1) held)
     → ((c : ℕ) → c / 64 < k → SaysOf table held words c) → (c : ℕ) → c / 64 < k + 1 → SaysOf table held (set words k t) c
-short_more table held words k place w t n h p e bits before c m = elim (cases_eq (c / 64) k) [
+short_more table held words first k t n h is bits before c m = elim (cases_eq (c / 64) k) [
   | inl q ↦
-      let there : k < length words = omega arith in
+      let there : k < length words = omega (arith, n, h) in
       let inside : is_held table c ≡ bit_in table c =
-      ap (λ (b : Bool). b && bit_in table c) (lt-ltb c code_point_limit (omega arith)) in
-      let block : c / 256 ≡ k / 4 = omega arith in
-      let at : place_in table (c / 256) + c / 64 % 4 ≡ place + k % 4 = rw (block, q) (omega (arith, p)) in
-      let bit : bit_in table c ≡ (bit_at w (c % 64) == 1) =
-      ap (λ (j : ℕ). bit_at (get_or table j 0) (c % 64) == 1) at ∙ ap (λ (j : ℕ). bit_at j (c % 64) == 1) (sym e) in
+      ap (λ (b : Bool). b && bit_in table c) (lt-ltb c code_point_limit (omega (arith, q, h))) in
+      let bit : (bit_at (get_or first k 0) (c % 64) == 1) ≡ bit_in table c =
+      ap (λ (j : ℕ). bit_at (get_or first j 0) (c % 64) == 1) (sym q) ∙ is c (omega (arith, q, h)) in
       ap (λ (j : ℕ). bit_at j (c % 64) == 1) (get_or-set_at words k (c / 64) t 0 q there)
-      ∙ (bits (c % 64) (omega arith) ∙ ap (λ (b : Bool). beq b held) (sym (inside ∙ bit)))
-  | inr q ↦ ap (λ (j : ℕ). bit_at j (c % 64) == 1) (get_or-set_other words k (c / 64) t 0 q) ∙ before c (omega arith)
+      ∙ (bits (c % 64) (omega arith) ∙ ap (λ (b : Bool). beq b held) (bit ∙ sym inside))
+  | inr q ↦ ap (λ (j : ℕ). bit_at j (c % 64) == 1) (get_or-set_other words k (c / 64) t 0 q) ∙ before c (omega (arith, m, q))
 ]
-
--- The four words of a block.
-pub short_block : (table : List ℕ) (held : Bool) (words : List ℕ) (b p w0 w1 w2 w3 t0 t1 t2 t3 : ℕ) → length words ≡ 36 → b < 8
-    → p ≡ place_in table b → w0 ≡ get_or table p 0 → w1 ≡ get_or table (p + 1) 0
-    → w2 ≡ get_or table (p + 2) 0 → w3 ≡ get_or table (p + 3) 0
-    → ((i : ℕ) → i < 64 → (bit_at t0 i == 1) ≡ beq (bit_at w0 i == 1) held)
-    → ((i : ℕ) → i < 64 → (bit_at t1 i == 1) ≡ beq (bit_at w1 i == 1) held)
-    → ((i : ℕ) → i < 64 → (bit_at t2 i == 1) ≡ beq (bit_at w2 i == 1) held)
-    → ((i : ℕ) → i < 64 → (bit_at t3 i == 1) ≡ beq (bit_at w3 i == 1) held)
-    → ((c : ℕ) → c / 64 < 4 * b → SaysOf table held words c) → (c : ℕ) → c / 64 < 4 * (b + 1)
-    → SaysOf table held (set (set (set (set words (4 * b) t0) (4 * b + 1) t1) (4 * b + 2) t2) (4 * b + 3) t3) c
-short_block table held words b p w0 w1 w2 w3 t0 t1 t2 t3 n l is e0 e1 e2 e3 h0 h1 h2 h3 before c m =
-    let words1 : List ℕ = set words (4 * b) t0 in
-    let words2 : List ℕ = set words1 (4 * b + 1) t1 in
-    let words3 : List ℕ = set words2 (4 * b + 2) t2 in
-    let n1 : length words1 ≡ 36 = length-set words (4 * b) t0 ∙ n in
-    let n2 : length words2 ≡ 36 = length-set words1 (4 * b + 1) t1 ∙ n1 in
-    let n3 : length words3 ≡ 36 = length-set words2 (4 * b + 2) t2 ∙ n2 in
-    let q0 : 4 * b / 4 ≡ b = omega arith in
-    let q1 : (4 * b + 1) / 4 ≡ b = omega arith in
-    let q2 : (4 * b + 2) / 4 ≡ b = omega arith in
-    let q3 : (4 * b + 3) / 4 ≡ b = omega arith in
-    let same0 : p ≡ p + 4 * b % 4 = omega arith in
-    let same1 : p + 1 ≡ p + (4 * b + 1) % 4 = omega arith in
-    let same2 : p + 2 ≡ p + (4 * b + 2) % 4 = omega arith in
-    let same3 : p + 3 ≡ p + (4 * b + 3) % 4 = omega arith in
-    let one = short_more table held words (4 * b) p w0 t0 n (omega arith) (rw q0 is)
-    (e0 ∙ ap (λ (j : ℕ). get_or table j 0) same0) h0 before in
-    let two = short_more table held words1 (4 * b + 1) p w1 t1 n1 (omega arith) (rw q1 is)
-    (e1 ∙ ap (λ (j : ℕ). get_or table j 0) same1) h1 one in
-    let three = short_more table held words2 (4 * b + 2) p w2 t2 n2 (omega arith) (rw q2 is)
-    (e2 ∙ ap (λ (j : ℕ). get_or table j 0) same2) h2 (λ d k. two d (omega (arith, k))) in
-    short_more table held words3 (4 * b + 3) p w3 t3 n3 (omega arith) (rw q3 is)
-    (e3 ∙ ap (λ (j : ℕ). get_or table j 0) same3) h3 (λ d k. three d (omega (arith, k))) c (omega (arith, m))
 
 -- ---- a byte and the one before it
 lead_before : (before byte : ℕ) → is_paired before byte ≡ true → byte / 64 ≡ 2 → 0xC0 ≤ before

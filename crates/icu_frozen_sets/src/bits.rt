@@ -1,8 +1,8 @@
 //! Writing the words of a frozen set: the offset of each block, and the words of each.
-ghost use Rattle.std.specs.Prelude.{◌≡◌, ◌≢◌, ℕ, ◌+◌, ◌-◌, ◌*◌, ◌/◌, ◌%◌, ◌^◌, ◌<◌, ◌≤◌, ◌↔◌, ◌||◌, ◌++◌, Bool, true, false, length, take, slice_index, min, IfOk, OnOk, IsTrue, if◌then◌else◌};
+ghost use Rattle.std.specs.Prelude.{◌≡◌, ◌≢◌, ℕ, ◌+◌, ◌-◌, ◌/◌, ◌<◌, ◌≤◌, ◌↔◌, ◌||◌, Bool, true, length, slice_index, min, IfOk, OnOk, IsTrue, if◌then◌else◌};
 ghost use Rattle.icu_zerovec.specs.CodePoints.{code_point_limit};
 ghost use Rattle.icu_invlist.specs.InversionList.{between};
-ghost use Rattle.icu_frozen_sets.specs.FrozenWords.{bit_in, offset_at, offset_words, place_in};
+ghost use Rattle.icu_frozen_sets.specs.FrozenWords.{bit_in, offset_words, place_in};
 ghost use Rattle.icu_frozen_sets.specs.Inside.Filling.{AreTables, HasOffset, IsFilling, IsUniform, SetsBlock, bit_among, block_bit};
 
 use crate::view::{FULL_BLOCK, offset_count};
@@ -10,29 +10,25 @@ use icu_zerovec::{CODE_POINT_LIMIT, MemoryError};
 use std::alloc::Global;
 use std::marker::Model;
 
-/// The number of blocks of 256 code points.
-pub(crate) const BLOCKS: u32 = CODE_POINT_LIMIT / 256;
+/// The number of blocks of 1,024 code points.
+pub(crate) const BLOCKS: u32 = CODE_POINT_LIMIT / 1024;
+
+/// The number of words of a block.
+const BLOCK_WORDS: usize = 16;
 
 /// A word of the full block.
 const ONES: u64 = u64::MAX;
 
-/// The words of the block of U+0000, which are written later, of the empty block and of the full
-/// block.
-const THREE_BLOCKS: [u64; 12] = [0, 0, 0, 0, 0, 0, 0, 0, ONES, ONES, ONES, ONES];
-
 /// The empty block starts this number of words after the offsets.
-const EMPTY_BLOCK: usize = 4;
-
-/// How many words the offsets of all blocks take.
-const MOST_OFFSETS: u32 = BLOCKS / 4;
+const EMPTY_BLOCK: usize = 16;
 
 /// The greatest number of blocks for which capacity is reserved at first, besides that of U+0000 and
 /// the two shared ones. The sets of letters, marks and unassigned code points have fewer blocks that
 /// are neither empty nor full, and a set rarely has more such blocks than ranges.
-const ROOM: usize = 142;
+const ROOM: usize = 60;
 
 /// The words of a frozen set while it is filled. All empty blocks share their words, and so do all
-/// full blocks. The block of U+0000 and each other block have four words of their own.
+/// full blocks. The block of U+0000 and each other block have sixteen words of their own.
 #[derive(Debug, Drop)]
 pub(crate) struct FrozenWords {
     words: Vec<u64>,
@@ -47,88 +43,52 @@ impl Model for FrozenWords {
 }
 
 /// Returns true if all words of the block equal `word`.
-fn is_all(block: &[u64; 4], word: u64) -> bool
-    ensures { IsTrue result ↔ ((k : ℕ) → k < 4 → slice_index block.now k ≡ word) }
+fn is_all(block: &[u64; 16], word: u64) -> bool
+    ensures { IsTrue result ↔ ((k : ℕ) → k < 16 → slice_index block.now k ≡ word) }
 {
-    block[0] == word && block[1] == word && block[2] == word && block[3] == word
+    block.iter().all(|own| *own == word)
 }
 
-/// Returns the word with this offset four times.
-#[inline(always)]
-pub(crate) fn four_times(offset: u64) -> u64
-    requires { offset < 2 ^ 16 }
-    ensures { (j : ℕ) → j < 4 → result / 2 ^ (16 * j) % 2 ^ 16 ≡ offset }
-{
-    offset * 0x0001_0001_0001_0001
-}
-
-/// Returns the number of words of offsets of a set. `last` is its last boundary that is not the end
-/// of the code space. The last offset is that of a block after this boundary, unless all blocks have
-/// an offset.
+/// Returns the number of offsets of a set. `last` is its last boundary that is not the end of the code
+/// space. The last offset is that of a block after this boundary, unless all blocks have an offset.
 pub(crate) fn offsets_for(last: u32) -> usize
-    ensures some { 0 < result }
+    ensures some { 1 < result }
     ensures few { result ≤ 1088 }
-    ensures enough { (p : ℕ) → p ≤ last → min (p / 256 + 2) 4352 ≤ 4 * result }
+    ensures enough { (p : ℕ) → p ≤ last → min (p / 1024 + 2) 1088 ≤ result }
     ensures short { result ≤ last / 1024 + 2 }
 {
-    ((last / 256 + 5) / 4).min(MOST_OFFSETS) as usize
+    (last / 1024 + 2).min(BLOCKS) as usize
 }
 
-/// Adds `more` to the offset at position `at`.
-#[inline(always)]
-fn add_to_offset(words: &mut [u64], at: usize, more: u64)
-    requires there { at / 4 < length words.old }
-    requires fits { offset_at words.old at + more < 2 ^ 16 }
-    ensures len { length words.new ≡ length words.old }
-    ensures set { offset_at words.new at ≡ offset_at words.old at + more }
-    ensures others { (k : ℕ) → k ≢ at → offset_at words.new k ≡ offset_at words.old k }
-    ensures kept { (k : ℕ) → k ≢ at / 4 → slice_index words.new k ≡ slice_index words.old k }
-{
-    words[at / 4] += more << (16 * (at % 4));
-}
-
-/// Makes the offsets from position `from` to before `to` those of the full block. They are those of
-/// the empty block before.
-fn fill(words: &mut [u64], from: usize, to: usize, full: usize)
+/// Writes `word` from index `from` to before `to`.
+fn fill(words: &mut [u64], from: usize, to: usize, word: u64)
     requires order { from ≤ to }
-    requires there { to ≤ 4 * length words.old }
-    requires fits { full < 2 ^ 16 }
-    requires none { (k : ℕ) → from ≤ k → k < to → offset_at words.old k + 4 ≡ full }
+    requires there { to ≤ length words.old }
     ensures len { length words.new ≡ length words.old }
-    ensures full { (k : ℕ) → offset_at words.new k
-        ≡ (if between from to k then full else offset_at words.old k) }
-    ensures kept { (k : ℕ) → to ≤ 4 * k → slice_index words.new k ≡ slice_index words.old k }
+    ensures all { (k : ℕ) → slice_index words.new k
+        ≡ (if between from to k then word else slice_index words.old k) }
 {
-    let four = four_times(full as u64);
-    let mut next = from;
-    while next < to {
-        if next % 4 == 0 && to - next >= 4 {
-            words[next / 4] = four;
-            next += 4;
-        } else {
-            add_to_offset(words, next, (FULL_BLOCK - EMPTY_BLOCK) as u64);
-            next += 1;
-        }
+    for k in from..to {
+        words[k] = word;
     }
 }
 
 /// Writes the words of a block from index `at` on.
-fn put_block(words: &mut [u64], at: usize, block: &[u64; 4])
-    requires there { at + 4 ≤ length words.old }
+fn put_block(words: &mut [u64], at: usize, block: &[u64; 16])
+    requires there { at + 16 ≤ length words.old }
     ensures len { length words.new ≡ length words.old }
-    ensures set { (k : ℕ) → k < 4 → slice_index words.new (at + k) ≡ slice_index block.now k }
+    ensures set { (k : ℕ) → k < 16 → slice_index words.new (at + k) ≡ slice_index block.now k }
     ensures before { (k : ℕ) → k < at → slice_index words.new k ≡ slice_index words.old k }
-    ensures after { (k : ℕ) → at + 4 ≤ k → slice_index words.new k ≡ slice_index words.old k }
+    ensures after { (k : ℕ) → at + 16 ≤ k → slice_index words.new k ≡ slice_index words.old k }
 {
-    words[at] = block[0];
-    words[at + 1] = block[1];
-    words[at + 2] = block[2];
-    words[at + 3] = block[3];
+    for k in 0..16 {
+        words[at + k] = block[k];
+    }
 }
 
 impl FrozenWords {
-    /// Returns words in which all blocks are empty, with this number of words of offsets and capacity
-    /// for the blocks of a set of `ranges` ranges.
+    /// Returns words in which all blocks are empty, with so many offsets and capacity for the blocks of
+    /// a set of `ranges` ranges.
     ///
     /// # Errors
     /// Returns `MemoryError` if an allocation fails.
@@ -137,16 +97,18 @@ impl FrozenWords {
         offsets: usize,
         ranges: usize,
     ) -> Result<FrozenWords, MemoryError>
-        requires some { 0 < offsets }
+        requires some { 1 < offsets }
         requires few { offsets ≤ 1088 }
         ensures filling { IfOk result (λ table. IsFilling table 0) }
         ensures offsets { IfOk result (λ table. offset_words table ≡ offsets) }
     {
-        let room = offsets + THREE_BLOCKS.len() + 4 * ranges.min(ROOM);
+        let blocks = offsets + FULL_BLOCK + BLOCK_WORDS;
+        let room = blocks + BLOCK_WORDS * ranges.min(offsets).min(ROOM);
         let mut words = Vec::with_capacity(alloc, room)?;
-        words.resize(offsets, four_times((offsets + EMPTY_BLOCK) as u64))?;
-        words.extend_from_slice(&THREE_BLOCKS)?;
-        words[0] -= EMPTY_BLOCK as u64;
+        words.resize(offsets, (offsets + EMPTY_BLOCK) as u64)?;
+        words.resize(offsets + FULL_BLOCK, 0)?;
+        words.resize(blocks, ONES)?;
+        words[0] = offsets as u64;
         Ok(FrozenWords { words })
     }
 
@@ -167,26 +129,25 @@ impl FrozenWords {
         ensures sets { SetsBlock self.old self.new at (λ c. true) }
         ensures len { length self.new ≡ length self.old }
     {
-        add_to_offset(&mut self.words, at, (FULL_BLOCK - EMPTY_BLOCK) as u64);
+        self.words[at] = (offset_count(&self.words) + FULL_BLOCK) as u64;
     }
 
-    /// Gives block `at` four words of its own. It is empty before.
+    /// Gives block `at` sixteen words of its own. It is empty before.
     #[inline(always)]
-    fn set_own(&mut self, at: usize, block: &[u64; 4]) -> Result<(), MemoryError>
+    fn set_own(&mut self, at: usize, block: &[u64; 16]) -> Result<(), MemoryError>
         requires filling { IsFilling self.old at }
         requires some { 0 < at }
         requires there { at < BLOCKS }
         ensures { OnOk result (SetsBlock self.old self.new at (block_bit block.now)) }
     {
-        let empty = offset_count(&self.words) + EMPTY_BLOCK;
         let place = self.words.len();
         self.words.extend_from_slice(block)?;
-        add_to_offset(&mut self.words, at, (place - empty) as u64);
+        self.words[at] = place as u64;
         Ok(())
     }
 
     /// Sets the words of the block of U+0000.
-    fn set_first(&mut self, block: &[u64; 4])
+    fn set_first(&mut self, block: &[u64; 16])
         requires { IsFilling self.old 0 }
         ensures sets { SetsBlock self.old self.new 0 (block_bit block.now) }
         ensures len { length self.new ≡ length self.old }
@@ -201,7 +162,7 @@ impl FrozenWords {
     /// # Errors
     /// Returns `MemoryError` if an allocation fails. The words must not be used after that.
     #[inline(always)]
-    pub(crate) fn set_block(&mut self, at: usize, block: &[u64; 4]) -> Result<(), MemoryError>
+    pub(crate) fn set_block(&mut self, at: usize, block: &[u64; 16]) -> Result<(), MemoryError>
         requires filling { IsFilling self.old at }
         requires there { at < BLOCKS }
         ensures sets { OnOk result (SetsBlock self.old self.new at (block_bit block.now)) }
@@ -231,17 +192,17 @@ impl FrozenWords {
         requires there { to ≤ BLOCKS }
         requires before { HasOffset self.old (from - 1) }
         requires after { HasOffset self.old to }
-        requires none { (b : ℕ) → from ≤ b → b < 4352
-            → place_in self.old b ≡ offset_words self.old + 4 }
+        requires none { (b : ℕ) → from ≤ b → b < 1088
+            → place_in self.old b ≡ offset_words self.old + 16 }
         ensures tables { AreTables self.new }
         ensures len { length self.new ≡ length self.old }
         ensures offsets { offset_words self.new ≡ offset_words self.old }
-        ensures others { (b : ℕ) → to ≤ b → b < 4352 → place_in self.new b ≡ place_in self.old b }
+        ensures others { (b : ℕ) → to ≤ b → b < 1088 → place_in self.new b ≡ place_in self.old b }
         ensures bits { (c : ℕ) → c < code_point_limit
-            → bit_in self.new c ≡ (bit_in self.old c || between from to (c / 256)) }
+            → bit_in self.new c ≡ (bit_in self.old c || between from to (c / 1024)) }
     {
         let offsets = offset_count(&self.words);
-        let last = to.min(4 * offsets);
-        fill(&mut self.words, from, last, offsets + FULL_BLOCK);
+        let last = to.min(offsets);
+        fill(&mut self.words, from, last, (offsets + FULL_BLOCK) as u64);
     }
 }

@@ -13,7 +13,7 @@ use std::alloc::Global;
 /// The bits of the ranges that were added so far, in ascending order.
 ///
 /// The bits of the current block are computed when the block is complete. Until then only the
-/// starts and the ends of its ranges are marked. Read as numbers of 256 bits, the ends minus the
+/// starts and the ends of its ranges are marked. Read as numbers of 1,024 bits, the ends minus the
 /// starts are the bits, since `2^end - 2^start` has ones from bit `start` to before bit `end`. So a
 /// range takes no jump that depends on the words that it is in.
 #[derive(Debug, Drop)]
@@ -21,9 +21,9 @@ pub(crate) struct Filling {
     /// The blocks below `at`. All others are empty here.
     bits: FrozenWords,
     /// The starts of the ranges in block `at`.
-    starts: [u64; 4],
+    starts: [u64; 16],
     /// The ends of the ranges in block `at`. An end is the code point after the last one.
-    ends: [u64; 4],
+    ends: [u64; 16],
     /// Whether a range that starts in an earlier block reaches block `at`.
     carried: bool,
     /// The number of the current block.
@@ -32,11 +32,11 @@ pub(crate) struct Filling {
 
 /// Marks the code point `c`, which is above all marks in the words.
 #[inline(always)]
-fn mark(words: &mut [u64; 4], c: u32)
-    requires above { number words.old < 2 ^ (c % 256) }
-    ensures { number words.new ≡ number words.old + 2 ^ (c % 256) }
+fn mark(words: &mut [u64; 16], c: u32)
+    requires above { number words.old < 2 ^ (c % 1024) }
+    ensures { number words.new ≡ number words.old + 2 ^ (c % 1024) }
 {
-    words[(c / 64 % 4) as usize] += 1 << (c % 64);
+    words[(c / 64 % 16) as usize] += 1 << (c % 64);
 }
 
 /// Returns `end - start - carried`, and whether that borrows from the next word.
@@ -51,16 +51,19 @@ fn less(end: u64, start: u64, carried: bool) -> (u64, bool)
 
 /// Returns the ends minus the starts. `carried` counts as a start before all bits.
 #[inline(always)]
-fn difference(ends: &[u64; 4], starts: &[u64; 4], carried: bool) -> [u64; 4]
-    ensures { (n j : ℕ) → n < 2 ^ 256
-        → n + (number starts.now + from_bool carried) ≡ number ends.now + j * 2 ^ 256
-        → (c : ℕ) → block_bit result c ≡ (bit_at n (c % 256) == 1) }
+fn difference(ends: &[u64; 16], starts: &[u64; 16], carried: bool) -> [u64; 16]
+    ensures { (n j : ℕ) → n < 2 ^ 1024
+        → n + (number starts.now + from_bool carried) ≡ number ends.now + j * 2 ^ 1024
+        → (c : ℕ) → block_bit result c ≡ (bit_at n (c % 1024) == 1) }
 {
-    let (first, borrow) = less(ends[0], starts[0], carried);
-    let (second, borrow) = less(ends[1], starts[1], borrow);
-    let (third, borrow) = less(ends[2], starts[2], borrow);
-    let (fourth, _) = less(ends[3], starts[3], borrow);
-    [first, second, third, fourth]
+    let mut bits = [0; 16];
+    let mut borrow = carried;
+    for k in 0..16 {
+        let (word, next) = less(ends[k], starts[k], borrow);
+        bits[k] = word;
+        borrow = next;
+    }
+    bits
 }
 
 impl Filling {
@@ -70,7 +73,7 @@ impl Filling {
     /// # Errors
     /// Returns `MemoryError` if an allocation fails.
     pub(crate) fn new(alloc: Global, last: u32, ranges: usize) -> Result<Filling, MemoryError>
-        ensures own { IfOk result (λ f. (p : ℕ) → p ≤ last → HasOffset f.bits (p / 256)) }
+        ensures own { IfOk result (λ f. (p : ℕ) → p ≤ last → HasOffset f.bits (p / 1024)) }
         ensures short { IfOk result (λ f. offset_words f.bits ≤ last / 1024 + 2) }
         ensures filling { IfOk result (λ f. IsFilling f.bits f.at) }
         ensures closed { IfOk result (λ f. AreClosed f.starts f.ends f.carried) }
@@ -80,8 +83,8 @@ impl Filling {
     {
         Ok(Filling {
             bits: FrozenWords::new(alloc, offsets_for(last), ranges)?,
-            starts: [0; 4],
-            ends: [0; 4],
+            starts: [0; 16],
+            ends: [0; 16],
             carried: false,
             at: 0,
         })
@@ -96,8 +99,8 @@ impl Filling {
         ensures carried { self.new.carried ≡ carried }
         ensures at { self.new.at ≡ at }
     {
-        self.starts = [0; 4];
-        self.ends = [0; 4];
+        self.starts = [0; 16];
+        self.ends = [0; 16];
         self.carried = carried;
         self.at = at;
     }
@@ -115,7 +118,7 @@ impl Filling {
         ensures filling { OnOk result (IsFilling self.new.bits at) }
         ensures at { OnOk result (self.new.at ≡ at) }
         ensures closed { OnOk result (AreClosed self.new.starts self.new.ends self.new.carried) }
-        ensures below { OnOk result ((next : ℕ) → at * 256 ≤ next
+        ensures below { OnOk result ((next : ℕ) → at * 1024 ≤ next
             → AreBelow self.old.starts self.old.ends self.old.at next
             → AreBelow self.new.starts self.new.ends at next) }
         ensures same { OnOk result ((c : ℕ) → c < code_point_limit
@@ -140,10 +143,10 @@ impl Filling {
         requires filling { IsFilling self.old.bits self.old.at }
         requires closed { AreClosed self.old.starts self.old.ends self.old.carried }
         requires below { AreBelow self.old.starts self.old.ends self.old.at start }
-        requires here { self.old.at ≡ start / 256 }
-        requires later { start / 256 < end / 256 }
+        requires here { self.old.at ≡ start / 1024 }
+        requires later { start / 1024 < end / 1024 }
         requires within { end ≤ code_point_limit }
-        requires own { HasOffset self.old.bits (end / 256) }
+        requires own { HasOffset self.old.bits (end / 1024) }
         ensures offsets { OnOk result
             (offset_words self.new.bits ≡ offset_words self.old.bits) }
         ensures filling { OnOk result (IsFilling self.new.bits self.new.at) }
@@ -160,8 +163,8 @@ impl Filling {
         let block = difference(&self.ends, &self.starts, self.carried);
         self.bits.set_block(self.at as usize, &block)?;
         let next = self.at as usize + 1;
-        self.bits.fill_blocks(next, (end / 256) as usize);
-        self.begin(end / 256, true);
+        self.bits.fill_blocks(next, (end / 1024) as usize);
+        self.begin(end / 1024, true);
         mark(&mut self.ends, end);
         Ok(())
     }
@@ -177,8 +180,8 @@ impl Filling {
         requires below { AreBelow self.old.starts self.old.ends self.old.at start }
         requires some { start < end }
         requires within { end ≤ code_point_limit }
-        requires first { HasOffset self.old.bits (start / 256) }
-        requires last { HasOffset self.old.bits (end / 256) }
+        requires first { HasOffset self.old.bits (start / 1024) }
+        requires last { HasOffset self.old.bits (end / 1024) }
         ensures offsets { OnOk result
             (offset_words self.new.bits ≡ offset_words self.old.bits) }
         ensures filling { OnOk result (IsFilling self.new.bits self.new.at) }
@@ -191,8 +194,8 @@ impl Filling {
             ≡ (filled self.old.bits (bits_of self.old.starts self.old.ends self.old.carried)
             self.old.at c || between start end c)) }
     {
-        self.move_to(start / 256)?;
-        if end / 256 != self.at {
+        self.move_to(start / 1024)?;
+        if end / 1024 != self.at {
             return self.add_far(start, end);
         }
         mark(&mut self.starts, start);

@@ -9,12 +9,11 @@ ghost use mathlib.Core.List.{reverse};
 ghost use Rattle.icu_zerovec.specs.CodePoints.{code_point_limit};
 ghost use Rattle.icu_invlist.specs.InversionList.{IsValid, holds};
 ghost use Rattle.icu_frozen_sets.specs.FrozenView.{view_words};
-ghost use Rattle.icu_frozen_sets.specs.FrozenWords.{IsFrozenOf, bit_in};
+ghost use Rattle.icu_frozen_sets.specs.FrozenWords.{IsFrozenOf};
 ghost use Rattle.icu_frozen_sets.specs.Inside.Characters.{IsAsked};
-ghost use Rattle.icu_frozen_sets.specs.Inside.Filling.{bit_among};
 
 use crate::ascii::ascii_of;
-use crate::view::{FrozenView, bit_of_parts, contains, place_of, word};
+use crate::view::{FrozenView, bit_of_parts, contains, first_words};
 use crate::words::frozen_words;
 use icu_invlist::codepointinvlist::CodePointInversionList;
 use icu_utf::places::{number_of_four, place_of_three, place_of_two};
@@ -26,10 +25,10 @@ use std::marker::Model;
 /// A set of code points for many look-ups, each of which takes at most three loads and no search
 /// (ICU: a frozen UnicodeSet).
 ///
-/// It stores the set and, in 64-bit words, a bit for each code point, in blocks of 256. The words
-/// take 8 bytes for each 1,024 code points up to the last boundary below 0x110000, at most 112 bytes
-/// more, and 32 bytes for each range up to 142 ranges. If more blocks than that are neither empty nor
-/// full, they take at most 64 bytes for each such block.
+/// It stores the set and, in 64-bit words, a bit for each code point, in blocks of 1,024. The words
+/// take 8 bytes for each block up to that of the last boundary below 0x110000, at most 392 bytes more,
+/// and 128 bytes for each range, up to 60 ranges and not more than such blocks. If more blocks than that
+/// are neither empty nor full, they take at most 256 bytes for each such block.
 ///
 /// ```
 /// let letters = FrozenCodePointSet::freeze(alloc, &set)?;
@@ -47,7 +46,7 @@ pub struct FrozenCodePointSet {
     /// The bits of the code points below 0x800, which have at most two bytes in UTF-8: one word for
     /// each lead byte.
     two_bytes: [u64; 32],
-    /// The offsets of the blocks, four in a word, and then the words of the blocks.
+    /// The offsets of the blocks, and then the words of the blocks.
     words: Vec<u64>,
 }
 
@@ -60,32 +59,6 @@ impl Model for FrozenCodePointSet {
     ghost view = { λ a. a.set };
 
     ghost invariant = { λ a. IsFrozen a.set a.ascii a.two_bytes a.words.items };
-}
-
-/// Writes four words to `out` from index `at` on.
-#[inline(always)]
-fn put_four(out: &mut [u64; 32], at: usize, table: &[u64], first: usize)
-    requires there { at + 4 ≤ 32 }
-    requires fits { first + 4 < 2 ^ 64 }
-    ensures written { (k : ℕ) → k < 4
-        → slice_index out.new (at + k) ≡ slice_index table.now (first + k) }
-    ensures before { (i : ℕ) → i < at → slice_index out.new i ≡ slice_index out.old i }
-{
-    out[at] = word(table, first);
-    out[at + 1] = word(table, first + 1);
-    out[at + 2] = word(table, first + 2);
-    out[at + 3] = word(table, first + 3);
-}
-
-/// Returns the bits of the first 2,048 code points, 64 in each word.
-fn first_words(table: &[u64]) -> [u64; 32]
-    ensures { (c : ℕ) → c < 2048 → bit_among result c ≡ bit_in table.now c }
-{
-    let mut words = [0; 32];
-    for k in 0..8 {
-        put_four(&mut words, 4 * k, table, place_of(table, k as u32));
-    }
-    words
 }
 
 /// Constructors and copies.
@@ -139,9 +112,9 @@ impl FrozenCodePointSet {
     /// Returns the words of the frozen set, for example to write them to a file. [`FrozenView`] says
     /// what is in them.
     ///
-    /// A small set takes few words: one for each 1,024 code points up to the last boundary below
-    /// 0x110000, at most 14 more, and four for each block of 256 code points that is neither empty
-    /// nor full. White_Space takes 37 words.
+    /// A small set takes few words: one for each block of 1,024 code points up to that of the last
+    /// boundary below 0x110000, at most 49 more, and sixteen for each block but the first that is
+    /// neither empty nor full. White_Space takes 110 words.
     ///
     /// [`FrozenView::new`] makes them a frozen set again, without a copy.
     ///
@@ -170,9 +143,6 @@ impl FrozenCodePointSet {
         ensures held { result ≡ holds self.now c }
         ensures far { code_point_limit ≤ c → result ≡ false }
     {
-        if c < 0x800 {
-            return self.contains_short(c / 64, c % 64);
-        }
         contains(&self.words, c)
     }
 

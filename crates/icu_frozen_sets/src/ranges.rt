@@ -47,18 +47,19 @@ fn ones_from(word: u64, place: u32) -> u32
 /// have.
 #[inline(always)]
 fn is_full(table: &[u64], place: usize) -> bool
-    requires { place < 2 ^ 16 }
-    ensures { result ≡ true → (k : ℕ) → k < 4
+    requires { place < 2 ^ 32 }
+    ensures { result ≡ true → (k : ℕ) → k < 16
         → slice_index table.now (place + k) ≡ 2 ^ 64 - 1 }
 {
     if place != offset_count(table) + FULL_BLOCK {
         return false;
     }
-    let first = word(table, place);
-    let second = word(table, place + 1);
-    let third = word(table, place + 2);
-    let fourth = word(table, place + 3);
-    first == u64::MAX && second == u64::MAX && third == u64::MAX && fourth == u64::MAX
+    for k in 0..16 {
+        if word(table, place + k) != u64::MAX {
+            return false;
+        }
+    }
+    true
 }
 
 /// Returns the end of a run of ones that starts with the bit of the code point `c`, or `c` if that
@@ -70,11 +71,11 @@ fn past_ones(table: &[u64], c: u32) -> u32
     ensures ones { (k : ℕ) → c ≤ k → k < result → bit_in table.now k ≡ true }
     ensures stops { result ≡ c → bit_in table.now c ≡ false }
 {
-    let place = place_of(table, c / 256);
+    let place = place_of(table, c / 1024);
     if is_full(table, place) {
-        return (c / 256 + 1) * 256;
+        return (c / 1024 + 1) * 1024;
     }
-    let bits = word(table, place + (c / 64 % 4) as usize);
+    let bits = word(table, place + (c / 64 % 16) as usize);
     c + ones_from(bits, c % 64)
 }
 
@@ -99,7 +100,7 @@ impl<'a> FrozenView<'a> {
     /// Returns true if `range` is not empty and the set contains all code points in it, including
     /// any surrogates between its start and its end.
     ///
-    /// This tests 64 bits at a time, and 256 in a full block.
+    /// This tests 64 bits at a time, and 1,024 in a full block.
     pub fn contains_range<R: RangeOf<char>>(self, range: R) -> bool
         ensures exact { IsTrue result ↔ (R.start range < min (R.end range) code_point_limit)
             × ((c : ℕ) → R.start range ≤ c → c < min (R.end range) code_point_limit
@@ -122,7 +123,7 @@ impl FrozenCodePointSet {
     /// Returns true if `range` is not empty and the set contains all code points in it, including
     /// any surrogates between its start and its end.
     ///
-    /// This tests 64 bits at a time, and 256 in a full block. For a range of 4,096 code points or
+    /// This tests 64 bits at a time, and 1,024 in a full block. For a range of 4,096 code points or
     /// more it searches the boundaries of the set.
     pub fn contains_range<R: RangeOf<char>>(&self, range: R) -> bool
         ensures { IsTrue result

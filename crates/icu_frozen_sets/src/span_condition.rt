@@ -174,7 +174,7 @@ pub(crate) struct LongKind<'a> {
     /// The words of characters of one and two bytes.
     words: &'a [u64; 36],
     /// The offsets of blocks of characters of three bytes.
-    places: &'a [u16; 256],
+    places: &'a [u32; 64],
     /// 0 only for ASCII characters of this kind, and bytes that are not ASCII.
     others: &'a [u8; 256],
 }
@@ -198,11 +198,11 @@ impl<'a> LongKind<'a> {
         table: &'a [u64],
         held: bool,
         words: &'a [u64; 36],
-        places: &'a [u16; 256],
+        places: &'a [u32; 64],
         others: &'a [u8; 256],
     ) -> LongKind<'a>
         requires short { AreShortWords table.now held words.now }
-        requires wide { (b : ℕ) → b < 256 → slice_index places.now b ≡ wide_place table.now b }
+        requires wide { (b : ℕ) → b < 64 → slice_index places.now b ≡ wide_place table.now b }
         requires plain { (c : ℕ) → c < 128 → slice_index others.now c ≡ 0
             → (bit_at (slice_index words.now (c / 64)) (c % 64) == 1) ≡ true }
         ensures { result ≡ record { numbers = table.now; held = held } }

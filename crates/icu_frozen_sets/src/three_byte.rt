@@ -2,16 +2,15 @@
 //! them, as a space between words does.
 ghost use Rattle.std.specs.Prelude.{◌≡◌, ℕ, ◌+◌, ◌*◌, ◌/◌, ◌%◌, ◌^◌, ◌<◌, ◌≤◌, ◌==◌, Some, true, length, slice_index};
 ghost use Rattle.std.specs.Int.{bit_at};
-ghost use Rattle.icu_frozen_sets.specs.FrozenWords.{is_held, offset_words, place_in};
+ghost use Rattle.icu_frozen_sets.specs.FrozenWords.{is_held};
 ghost use Rattle.icu_frozen_sets.specs.Inside.TwoByte.{AreShortWords};
 ghost use Rattle.icu_frozen_sets.specs.Inside.ThreeByte.{AreBitsOf, AreOfThree, IsPassed, IsThree, wide_place};
 
-use crate::bits::four_times;
 use crate::two_byte::has_short;
-use crate::view::{offset_count, place_of, word};
+use crate::view::place_of;
 
 /// In the table of block offsets: the block has no character of three bytes.
-const NO_PLACE: u16 = 0xFFFF;
+const NO_PLACE: u32 = u32::MAX;
 
 /// How far a span has passed characters.
 #[derive(Clone, Copy)]
@@ -22,59 +21,26 @@ pub(crate) struct Passed {
     pub(crate) is_end: bool,
 }
 
-/// Writes the four block offsets of a word to the table.
+/// Returns the offset of a block, or [`NO_PLACE`] if it has shorter characters, or surrogates.
 #[inline(always)]
-fn write_four(places: &mut [u16; 256], start: usize, four: u64)
-    requires { start + 4 ≤ 256 }
-    ensures four { (j : ℕ) → j < 4
-        → slice_index places.new (start + j) ≡ four / 2 ^ (16 * j) % 2 ^ 16 }
-    ensures before { (i : ℕ) → i < start → slice_index places.new i ≡ slice_index places.old i }
+fn wide_place_of(table: &[u64], block: u32) -> u32
+    ensures { result ≡ wide_place table.now block }
 {
-    for j in 0..4 {
-        places[start + j] = ((four >> (16 * j)) % 0x1_0000) as u16;
+    if block / 2 == 0 || block / 2 == 27 {
+        return NO_PLACE;
     }
+    place_of(table, block) as u32
 }
 
-/// Returns the word with the offsets of four blocks, or four times [`NO_PLACE`] if they have
-/// shorter characters or surrogates. `far` is the word for blocks after the last offset.
+/// Returns the offsets of the first 64 blocks. Blocks of shorter characters, and of surrogates, have
+/// [`NO_PLACE`].
 #[inline(always)]
-fn wide_word(table: &[u64], i: usize, far: u64) -> u64
-    requires { (j : ℕ) → j < 4 → offset_words table.now ≤ i
-        → far / 2 ^ (16 * j) % 2 ^ 16 ≡ place_in table.now (4 * i + j) }
-    ensures { (j : ℕ) → j < 4 → result / 2 ^ (16 * j) % 2 ^ 16 ≡ wide_place table.now (4 * i + j) }
+pub(crate) fn wide_places(table: &[u64]) -> [u32; 64]
+    ensures { (b : ℕ) → b < 64 → slice_index result b ≡ wide_place table.now b }
 {
-    if i / 2 == 0 {
-        return u64::MAX;
-    }
-    if i / 2 == 27 {
-        return u64::MAX;
-    }
-    if i < offset_count(table) {
-        word(table, i)
-    } else {
-        far
-    }
-}
-
-/// Returns four times the last offset, which is that of all later blocks, too.
-#[inline(always)]
-fn far_word(table: &[u64]) -> u64
-    ensures { (b j : ℕ) → 4 * offset_words table.now ≤ b → j < 4
-        → result / 2 ^ (16 * j) % 2 ^ 16 ≡ place_in table.now b }
-{
-    four_times(place_of(table, u32::MAX) as u64)
-}
-
-/// Returns the offsets of the first 256 blocks. Blocks of shorter characters, and of surrogates,
-/// have [`NO_PLACE`].
-#[inline(always)]
-pub(crate) fn wide_places(table: &[u64]) -> [u16; 256]
-    ensures { (b : ℕ) → b < 256 → slice_index result b ≡ wide_place table.now b }
-{
-    let mut places = [0; 256];
-    let far = far_word(table);
-    for i in 0..64 {
-        write_four(&mut places, 4 * i, wide_word(table, i, far));
+    let mut places = [0; 64];
+    for block in 0..64 {
+        places[block] = wide_place_of(table, block as u32);
     }
     places
 }
@@ -116,14 +82,14 @@ fn high_of_three(bytes: &[u8]) -> Option<u32>
 /// Returns the bits of the 64 code points with these upper bits: whether they are in the set.
 /// `None` if they are not characters of three bytes, or if the word is missing.
 #[inline(always)]
-fn three_bits(table: &[u64], places: &[u16; 256], high: u32) -> Option<u64>
+fn three_bits(table: &[u64], places: &[u32; 64], high: u32) -> Option<u64>
     requires most { high < 1024 }
-    requires wide { (b : ℕ) → b < 256 → slice_index places.now b ≡ wide_place table.now b }
+    requires wide { (b : ℕ) → b < 64 → slice_index places.now b ≡ wide_place table.now b }
     ensures three { (bits : ℕ) → result ≡ Some bits → AreOfThree high }
     ensures bits { (bits : ℕ) → result ≡ Some bits → AreBitsOf (is_held table.now) high bits }
 {
-    let place = places[(high / 4) as usize];
-    let index = usize::from(place) + (high % 4) as usize;
+    let place = places[(high / 16) as usize];
+    let index = place as usize + (high % 16) as usize;
     if place == NO_PLACE || index >= table.len() {
         return None;
     }
@@ -137,13 +103,13 @@ pub(crate) fn skip_three_byte(
     table: &[u64],
     held: bool,
     words: &[u64; 36],
-    places: &[u16; 256],
+    places: &[u32; 64],
     bytes: &[u8],
     start: usize,
 ) -> Passed
     requires order { start ≤ length bytes.now }
     requires short { AreShortWords table.now held words.now }
-    requires wide { (b : ℕ) → b < 256 → slice_index places.now b ≡ wide_place table.now b }
+    requires wide { (b : ℕ) → b < 64 → slice_index places.now b ≡ wide_place table.now b }
     ensures { IsPassed (Unit {0}) (is_held table.now) held bytes.now start result }
 {
     let mut rest = &bytes[start..];

@@ -7,7 +7,7 @@ ghost use Rattle.icu_frozen_sets.specs.LongestSpans.{AllHeld};
 ghost use Rattle.icu_frozen_sets.specs.Inside.TwoByte.{AreShortWords, OfEach, has_bit, is_paired, word_of};
 
 use crate::span_condition::turned;
-use crate::view::{place_of, word};
+use crate::view::first_words;
 
 /// The bits of the bytes from 0xC0 on: whether they start a character of two bytes.
 const LEADS: u64 = 0xFFFF_FFFC;
@@ -18,14 +18,10 @@ const LEADS: u64 = 0xFFFF_FFFC;
 pub(crate) fn short_words(table: &[u64], held: bool) -> [u64; 36]
     ensures { AreShortWords table.now held result }
 {
+    let first = first_words(table);
     let mut words = [0; 36];
-    for block in 0..8_u32 {
-        let place = place_of(table, block);
-        let first = 4 * block as usize;
-        words[first] = turned(word(table, place), held);
-        words[first + 1] = turned(word(table, place + 1), held);
-        words[first + 2] = turned(word(table, place + 2), held);
-        words[first + 3] = turned(word(table, place + 3), held);
+    for k in 0..32 {
+        words[k] = turned(first[k], held);
     }
     words[32] = words[0];
     words[33] = words[1];

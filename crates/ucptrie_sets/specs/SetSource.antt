@@ -95,17 +95,17 @@ static_text name set = title set ++ static_head name ++ cells_from 0 set ++ stat
 
 -- ---- A frozen set in C
 
--- The last block with an offset in the words of a frozen set. Each word of offsets has four.
+-- The last block with an offset in the words of a frozen set.
 abbrev pub last_block : List ℕ → ℕ
-last_block words = 4 * offset_words words - 1
+last_block words = offset_words words - 1
 
 -- What precedes the array of so many words. A look-up reads the last block's offset for all later blocks.
 unfoldable pub frozen_c_head : List ℕ → ℕ → ℕ → List ℕ
 frozen_c_head name count last = filled name (Decimal count ∷ Decimal last ∷ [])
     (codes "// The words of the frozen set, for bks_frozen_contains and bks_frozen_has of "
-    ++ codes "bekstaudi.h. First come\n// offsets, one for each block of 256 code points, four in a "
-    ++ codes "word. A block's offset is the index of its\n// four words, which have a bit for each code "
-    ++ codes "point. The last offset is that of all later blocks.\n\n"
+    ++ codes "bekstaudi.h. First come\n// offsets, one for each block of 1,024 code points. A block's "
+    ++ codes "offset is the index of its sixteen words,\n// which have a bit for each code point. The last "
+    ++ codes "offset is that of all later blocks.\n\n"
     ++ codes "#include <stdbool.h>\n#include <stdint.h>\n\n"
     ++ codes "enum { @_length = %, @_last_block = % };\n\n"
     ++ codes "static const uint64_t @_words[@_length] = {\n")
@@ -114,11 +114,10 @@ frozen_c_head name count last = filled name (Decimal count ∷ Decimal last ∷ 
 unfoldable pub frozen_c_look_up : List ℕ → List ℕ
 frozen_c_look_up name = named name
     (codes "\n};\n\n// Whether c is in the set, by two reads and without a library.\n"
-    ++ codes "static inline bool @_contains(uint32_t c) {\n    uint32_t block = c >> 8, offset;\n"
+    ++ codes "static inline bool @_contains(uint32_t c) {\n    uint32_t block = c >> 10;\n"
     ++ codes "    if (c > 0x10ffff) return false;\n"
     ++ codes "    if (block > @_last_block) block = @_last_block;\n"
-    ++ codes "    offset = (uint32_t)(@_words[block >> 2] >> (block & 3) * 16) & 0xffff;\n"
-    ++ codes "    return @_words[offset + (c >> 6 & 3)] >> (c & 63) & 1;\n}\n")
+    ++ codes "    return @_words[@_words[block] + (c >> 6 & 15)] >> (c & 63) & 1;\n}\n")
 
 -- Words in C: an array with them, and the look-up.
 abbrev pub frozen_c : List ℕ → List ℕ → List ℕ
@@ -140,8 +139,8 @@ frozen_rust_head name count last = filled name (Decimal last ∷ Decimal count �
     ++ codes "    /// The last block with an offset, which is that of all later blocks too.\n"
     ++ codes "    const LAST_BLOCK: u32 = %;\n\n"
     ++ codes "    /// The words of the frozen set, for `FrozenView` of `bekstaudi`. First come offsets, "
-    ++ codes "one for each\n    /// block of 256 code points, four in a word. A block's offset is the "
-    ++ codes "index of its four words,\n    /// which have a bit for each code point.\n"
+    ++ codes "one for each\n    /// block of 1,024 code points. A block's offset is the index of its "
+    ++ codes "sixteen words, which have a\n    /// bit for each code point.\n"
     ++ codes "    #[rustfmt::skip]\n    pub static WORDS: [u64; %] = [\n")
 
 -- The look-up in the words.
@@ -150,9 +149,9 @@ frozen_rust_look_up =
     codes "\n    ];\n\n    /// Returns whether the set contains `c`, by two reads.\n"
     ++ codes "    pub fn contains(c: u32) -> bool {\n"
     ++ codes "        if c > 0x10FFFF {\n            return false;\n        }\n"
-    ++ codes "        let block = (c >> 8).min(LAST_BLOCK);\n"
-    ++ codes "        let offset = WORDS[(block >> 2) as usize] >> ((block & 3) * 16) & 0xFFFF;\n"
-    ++ codes "        let word = WORDS[offset as usize + (c >> 6 & 3) as usize];\n"
+    ++ codes "        let block = (c >> 10).min(LAST_BLOCK);\n"
+    ++ codes "        let offset = WORDS[block as usize];\n"
+    ++ codes "        let word = WORDS[offset as usize + (c >> 6 & 15) as usize];\n"
     ++ codes "        (word >> (c & 63)) & 1 == 1\n    }\n}\n"
 
 -- Words in Rust: a module with them, and the look-up.

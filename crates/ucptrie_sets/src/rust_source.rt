@@ -69,9 +69,9 @@ const LOOK_UP: &str = "
         if c > 0x10FFFF {
             return false;
         }
-        let block = (c >> 8).min(LAST_BLOCK);
-        let offset = WORDS[(block >> 2) as usize] >> ((block & 3) * 16) & 0xFFFF;
-        let word = WORDS[offset as usize + (c >> 6 & 3) as usize];
+        let block = (c >> 10).min(LAST_BLOCK);
+        let offset = WORDS[block as usize];
+        let word = WORDS[offset as usize + (c >> 6 & 15) as usize];
         (word >> (c & 63)) & 1 == 1
     }
 }
@@ -85,8 +85,8 @@ pub mod @ {
     const LAST_BLOCK: u32 = %;
 
     /// The words of the frozen set, for `FrozenView` of `bekstaudi`. First come offsets, one for each
-    /// block of 256 code points, four in a word. A block's offset is the index of its four words,
-    /// which have a bit for each code point.
+    /// block of 1,024 code points. A block's offset is the index of its sixteen words, which have a
+    /// bit for each code point.
     #[rustfmt::skip]
     pub static WORDS: [u64; %] = [
 ";

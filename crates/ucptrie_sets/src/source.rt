@@ -43,14 +43,14 @@ pub(crate) fn frozen_of(
 }
 
 /// Returns the last block that has an offset in the words of a frozen set. Their first word has the
-/// number of words of offsets.
+/// number of offsets.
 pub(crate) fn last_block_of(words: &[u64]) -> usize
     ensures { result ≡ last_block words.now }
 {
     let Some(first) = words.first() else {
         return 0;
     };
-    (4 * (*first % 0x1_0000) as usize).saturating_sub(1)
+    ((*first % 0x1_0000_0000) as usize).saturating_sub(1)
 }
 
 /// Appends what precedes the cell `i` of an array: nothing, a comma and a space, or a comma and a

@@ -25,15 +25,15 @@ AreOfThree high = (0x20 ≤ high) × ((high < 0x360) ⊎ (0x380 ≤ high))
 abbrev pub AreBitsOf : (ℕ → Bool) → ℕ → ℕ → Type 0
 AreBitsOf is_in high word = (j : ℕ) → j < 64 → (bit_at word j == 1) ≡ is_in (64 * high + j)
 
--- The offset of block b, or 0xFFFF if it has characters of one or two bytes, or surrogates.
+-- The offset of block b, or 0xFFFF_FFFF if it has characters of one or two bytes, or surrogates.
 abbrev pub wide_place : List ℕ → ℕ → ℕ
-wide_place table b = if b / 8 == 0 || b / 8 == 27 then 0xFFFF else place_in table b
+wide_place table b = if b / 2 == 0 || b / 2 == 27 then 0xFFFF_FFFF else place_in table b
 
 -- The words, the table of ASCII, and the offsets of blocks.
 pub record AreWideTables (table : List ℕ) (held : Bool) (words others places : List ℕ) : Type 0
   where
     pub long : AreLongTables table held words others
-    pub wide : (b : ℕ) → b < 256 → slice_index places b ≡ wide_place table b
+    pub wide : (b : ℕ) → b < 64 → slice_index places b ≡ wide_place table b
 
 -- How many bytes a character has that starts with this byte.
 abbrev pub size_by_lead : ℕ → ℕ

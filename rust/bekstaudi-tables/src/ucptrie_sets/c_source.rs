@@ -76,8 +76,8 @@ pub(crate) fn c_text(set: &CodePointInversionList<'_>, name: &str) -> Result<Str
 /// What precedes the words of a frozen set. `@` is replaced by the name, and `%` by a number.
 const WORDS: &str = "\
 // The words of the frozen set, for bks_frozen_contains and bks_frozen_has of bekstaudi.h. First come
-// offsets, one for each block of 256 code points, four in a word. A block's offset is the index of its
-// four words, which have a bit for each code point. The last offset is that of all later blocks.
+// offsets, one for each block of 1,024 code points. A block's offset is the index of its sixteen words,
+// which have a bit for each code point. The last offset is that of all later blocks.
 
 #include <stdbool.h>
 #include <stdint.h>
@@ -93,11 +93,10 @@ const LOOK_UP: &str = "
 
 // Whether c is in the set, by two reads and without a library.
 static inline bool @_contains(uint32_t c) {
-    uint32_t block = c >> 8, offset;
+    uint32_t block = c >> 10;
     if (c > 0x10ffff) return false;
     if (block > @_last_block) block = @_last_block;
-    offset = (uint32_t)(@_words[block >> 2] >> (block & 3) * 16) & 0xffff;
-    return @_words[offset + (c >> 6 & 3)] >> (c & 63) & 1;
+    return @_words[@_words[block] + (c >> 6 & 15)] >> (c & 63) & 1;
 }
 ";
 

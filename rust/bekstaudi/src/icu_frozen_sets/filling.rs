@@ -7,7 +7,7 @@ use crate::support::prelude::*;
 /// The bits of the ranges that were added so far, in ascending order.
 ///
 /// The bits of the current block are computed when the block is complete. Until then only the
-/// starts and the ends of its ranges are marked. Read as numbers of 256 bits, the ends minus the
+/// starts and the ends of its ranges are marked. Read as numbers of 1,024 bits, the ends minus the
 /// starts are the bits, since `2^end - 2^start` has ones from bit `start` to before bit `end`. So a
 /// range takes no jump that depends on the words that it is in.
 #[derive(Debug)]
@@ -15,9 +15,9 @@ pub(crate) struct Filling {
     /// The blocks below `at`. All others are empty here.
     bits: FrozenWords,
     /// The starts of the ranges in block `at`.
-    starts: [u64; 4],
+    starts: [u64; 16],
     /// The ends of the ranges in block `at`. An end is the code point after the last one.
-    ends: [u64; 4],
+    ends: [u64; 16],
     /// Whether a range that starts in an earlier block reaches block `at`.
     carried: bool,
     /// The number of the current block.
@@ -26,8 +26,8 @@ pub(crate) struct Filling {
 
 /// Marks the code point `c`, which is above all marks in the words.
 #[inline(always)]
-fn mark(words: &mut [u64; 4], c: u32) {
-    words[(c / 64 % 4) as usize] += 1 << (c % 64);
+fn mark(words: &mut [u64; 16], c: u32) {
+    words[(c / 64 % 16) as usize] += 1 << (c % 64);
 }
 
 /// Returns `end - start - carried`, and whether that borrows from the next word.
@@ -40,12 +40,15 @@ fn less(end: u64, start: u64, carried: bool) -> (u64, bool) {
 
 /// Returns the ends minus the starts. `carried` counts as a start before all bits.
 #[inline(always)]
-fn difference(ends: &[u64; 4], starts: &[u64; 4], carried: bool) -> [u64; 4] {
-    let (first, borrow) = less(ends[0], starts[0], carried);
-    let (second, borrow) = less(ends[1], starts[1], borrow);
-    let (third, borrow) = less(ends[2], starts[2], borrow);
-    let (fourth, _) = less(ends[3], starts[3], borrow);
-    [first, second, third, fourth]
+fn difference(ends: &[u64; 16], starts: &[u64; 16], carried: bool) -> [u64; 16] {
+    let mut bits = [0; 16];
+    let mut borrow = carried;
+    for k in 0..16 {
+        let (word, next) = less(ends[k], starts[k], borrow);
+        bits[k] = word;
+        borrow = next;
+    }
+    bits
 }
 
 impl Filling {
@@ -58,8 +61,8 @@ impl Filling {
     pub(crate) fn new(last: u32, ranges: usize) -> Result<Filling, MemoryError> {
         Ok(Filling {
             bits: FrozenWords::new(offsets_for(last), ranges)?,
-            starts: [0; 4],
-            ends: [0; 4],
+            starts: [0; 16],
+            ends: [0; 16],
             carried: false,
             at: 0,
         })
@@ -68,8 +71,8 @@ impl Filling {
     /// Makes `at` the current block, without marks. A range reaches it if `carried` is true.
     #[inline(always)]
     fn begin(&mut self, at: u32, carried: bool) {
-        self.starts = [0; 4];
-        self.ends = [0; 4];
+        self.starts = [0; 16];
+        self.ends = [0; 16];
         self.carried = carried;
         self.at = at;
     }
@@ -95,8 +98,8 @@ impl Filling {
         let block = difference(&self.ends, &self.starts, self.carried);
         self.bits.set_block(self.at as usize, &block)?;
         let next = self.at as usize + 1;
-        self.bits.fill_blocks(next, (end / 256) as usize);
-        self.begin(end / 256, true);
+        self.bits.fill_blocks(next, (end / 1024) as usize);
+        self.begin(end / 1024, true);
         mark(&mut self.ends, end);
         Ok(())
     }
@@ -107,8 +110,8 @@ impl Filling {
     /// Returns `MemoryError` if an allocation fails. The filling must not be used after that.
     #[inline(always)]
     pub(crate) fn add(&mut self, start: u32, end: u32) -> Result<(), MemoryError> {
-        self.move_to(start / 256)?;
-        if end / 256 != self.at {
+        self.move_to(start / 1024)?;
+        if end / 1024 != self.at {
             return self.add_far(start, end);
         }
         mark(&mut self.starts, start);

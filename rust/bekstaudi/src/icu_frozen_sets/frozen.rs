@@ -1,7 +1,7 @@
 //! Frozen sets of code points, for many look-ups: a bit for each code point.
 
 use crate::icu_frozen_sets::ascii::ascii_of;
-use crate::icu_frozen_sets::view::{FrozenView, bit_of_parts, contains, place_of, word};
+use crate::icu_frozen_sets::view::{FrozenView, bit_of_parts, contains, first_words};
 use crate::icu_frozen_sets::words::frozen_words;
 use crate::icu_invlist::codepointinvlist::CodePointInversionList;
 use crate::icu_utf::places::{number_of_four, place_of_three, place_of_two};
@@ -12,10 +12,10 @@ use crate::support::prelude::*;
 /// A set of code points for many look-ups, each of which takes at most three loads and no search
 /// (ICU: a frozen UnicodeSet).
 ///
-/// It stores the set and, in 64-bit words, a bit for each code point, in blocks of 256. The words
-/// take 8 bytes for each 1,024 code points up to the last boundary below 0x110000, at most 112 bytes
-/// more, and 32 bytes for each range up to 142 ranges. If more blocks than that are neither empty nor
-/// full, they take at most 64 bytes for each such block.
+/// It stores the set and, in 64-bit words, a bit for each code point, in blocks of 1,024. The words
+/// take 8 bytes for each block up to that of the last boundary below 0x110000, at most 392 bytes more,
+/// and 128 bytes for each range, up to 60 ranges and not more than such blocks. If more blocks than that
+/// are neither empty nor full, they take at most 256 bytes for each such block.
 ///
 /// ```
 /// use bekstaudi::codepointinvlist::{CodePointInversionList, FrozenCodePointSet};
@@ -36,27 +36,8 @@ pub struct FrozenCodePointSet {
     /// The bits of the code points below 0x800, which have at most two bytes in UTF-8: one word for
     /// each lead byte.
     two_bytes: [u64; 32],
-    /// The offsets of the blocks, four in a word, and then the words of the blocks.
+    /// The offsets of the blocks, and then the words of the blocks.
     words: Vec<u64>,
-}
-
-/// Writes four words to `out` from index `at` on.
-#[inline(always)]
-fn put_four(out: &mut [u64; 32], at: usize, table: &[u64], first: usize) {
-    out[at] = word(table, first);
-    out[at + 1] = word(table, first + 1);
-    out[at + 2] = word(table, first + 2);
-    out[at + 3] = word(table, first + 3);
-}
-
-/// Returns the bits of the first 2,048 code points, 64 in each word.
-#[inline]
-fn first_words(table: &[u64]) -> [u64; 32] {
-    let mut words = [0; 32];
-    for k in 0..8 {
-        put_four(&mut words, 4 * k, table, place_of(table, k as u32));
-    }
-    words
 }
 
 /// Constructors and copies.
@@ -104,9 +85,9 @@ impl FrozenCodePointSet {
     /// Returns the words of the frozen set, for example to write them to a file. [`FrozenView`] says
     /// what is in them.
     ///
-    /// A small set takes few words: one for each 1,024 code points up to the last boundary below
-    /// 0x110000, at most 14 more, and four for each block of 256 code points that is neither empty
-    /// nor full. White_Space takes 37 words.
+    /// A small set takes few words: one for each block of 1,024 code points up to that of the last
+    /// boundary below 0x110000, at most 49 more, and sixteen for each block but the first that is
+    /// neither empty nor full. White_Space takes 110 words.
     ///
     /// [`FrozenView::new`] makes them a frozen set again, without a copy.
     ///
@@ -136,9 +117,6 @@ impl FrozenCodePointSet {
     #[inline(always)]
     #[must_use]
     pub fn contains32(&self, c: u32) -> bool {
-        if c < 0x800 {
-            return self.contains_short(c / 64, c % 64);
-        }
         contains(&self.words, c)
     }
 

@@ -105,7 +105,7 @@ pub(crate) struct LongKind<'a> {
     /// The words of characters of one and two bytes.
     words: &'a [u64; 36],
     /// The offsets of blocks of characters of three bytes.
-    places: &'a [u16; 256],
+    places: &'a [u32; 64],
     /// 0 only for ASCII characters of this kind, and bytes that are not ASCII.
     others: &'a [u8; 256],
 }
@@ -117,7 +117,7 @@ impl<'a> LongKind<'a> {
         table: &'a [u64],
         held: bool,
         words: &'a [u64; 36],
-        places: &'a [u16; 256],
+        places: &'a [u32; 64],
         others: &'a [u8; 256],
     ) -> LongKind<'a> {
         LongKind {

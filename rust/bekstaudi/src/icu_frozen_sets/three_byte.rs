@@ -1,13 +1,12 @@
 //! Characters of three bytes that follow one another. One ASCII character may come before each of
 //! them, as a space between words does.
 
-use crate::icu_frozen_sets::bits::four_times;
 use crate::icu_frozen_sets::two_byte::has_short;
-use crate::icu_frozen_sets::view::{offset_count, place_of, word};
+use crate::icu_frozen_sets::view::place_of;
 use crate::support::prelude::*;
 
 /// In the table of block offsets: the block has no character of three bytes.
-const NO_PLACE: u16 = 0xFFFF;
+const NO_PLACE: u32 = u32::MAX;
 
 /// How far a span has passed characters.
 #[derive(Clone, Copy)]
@@ -18,45 +17,22 @@ pub(crate) struct Passed {
     pub(crate) is_end: bool,
 }
 
-/// Writes the four block offsets of a word to the table.
+/// Returns the offset of a block, or [`NO_PLACE`] if it has shorter characters, or surrogates.
 #[inline(always)]
-fn write_four(places: &mut [u16; 256], start: usize, four: u64) {
-    for j in 0..4 {
-        places[start + j] = ((four >> (16 * j)) % 0x1_0000) as u16;
+fn wide_place_of(table: &[u64], block: u32) -> u32 {
+    if block / 2 == 0 || block / 2 == 27 {
+        return NO_PLACE;
     }
+    place_of(table, block) as u32
 }
 
-/// Returns the word with the offsets of four blocks, or four times [`NO_PLACE`] if they have
-/// shorter characters or surrogates. `far` is the word for blocks after the last offset.
+/// Returns the offsets of the first 64 blocks. Blocks of shorter characters, and of surrogates, have
+/// [`NO_PLACE`].
 #[inline(always)]
-fn wide_word(table: &[u64], i: usize, far: u64) -> u64 {
-    if i / 2 == 0 {
-        return u64::MAX;
-    }
-    if i / 2 == 27 {
-        return u64::MAX;
-    }
-    if i < offset_count(table) {
-        word(table, i)
-    } else {
-        far
-    }
-}
-
-/// Returns four times the last offset, which is that of all later blocks, too.
-#[inline(always)]
-fn far_word(table: &[u64]) -> u64 {
-    four_times(place_of(table, u32::MAX) as u64)
-}
-
-/// Returns the offsets of the first 256 blocks. Blocks of shorter characters, and of surrogates,
-/// have [`NO_PLACE`].
-#[inline(always)]
-pub(crate) fn wide_places(table: &[u64]) -> [u16; 256] {
-    let mut places = [0; 256];
-    let far = far_word(table);
-    for i in 0..64 {
-        write_four(&mut places, 4 * i, wide_word(table, i, far));
+pub(crate) fn wide_places(table: &[u64]) -> [u32; 64] {
+    let mut places = [0; 64];
+    for block in 0..64 {
+        places[block] = wide_place_of(table, block as u32);
     }
     places
 }
@@ -90,9 +66,9 @@ fn high_of_three(bytes: &[u8]) -> Option<u32> {
 /// Returns the bits of the 64 code points with these upper bits: whether they are in the set.
 /// `None` if they are not characters of three bytes, or if the word is missing.
 #[inline(always)]
-fn three_bits(table: &[u64], places: &[u16; 256], high: u32) -> Option<u64> {
-    let place = places[(high / 4) as usize];
-    let index = usize::from(place) + (high % 4) as usize;
+fn three_bits(table: &[u64], places: &[u32; 64], high: u32) -> Option<u64> {
+    let place = places[(high / 16) as usize];
+    let index = place as usize + (high % 16) as usize;
     if place == NO_PLACE || index >= table.len() {
         return None;
     }
@@ -106,7 +82,7 @@ pub(crate) fn skip_three_byte(
     table: &[u64],
     held: bool,
     words: &[u64; 36],
-    places: &[u16; 256],
+    places: &[u32; 64],
     bytes: &[u8],
     start: usize,
 ) -> Passed {

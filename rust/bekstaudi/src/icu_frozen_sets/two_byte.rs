@@ -2,7 +2,7 @@
 //! that depends on which of them are ASCII.
 
 use crate::icu_frozen_sets::span_condition::turned;
-use crate::icu_frozen_sets::view::{place_of, word};
+use crate::icu_frozen_sets::view::first_words;
 use crate::support::prelude::*;
 
 /// The bits of the bytes from 0xC0 on: whether they start a character of two bytes.
@@ -12,14 +12,10 @@ const LEADS: u64 = 0xFFFF_FFFC;
 /// of the bytes that start a character.
 #[inline(always)]
 pub(crate) fn short_words(table: &[u64], held: bool) -> [u64; 36] {
+    let first = first_words(table);
     let mut words = [0; 36];
-    for block in 0..8_u32 {
-        let place = place_of(table, block);
-        let first = 4 * block as usize;
-        words[first] = turned(word(table, place), held);
-        words[first + 1] = turned(word(table, place + 1), held);
-        words[first + 2] = turned(word(table, place + 2), held);
-        words[first + 3] = turned(word(table, place + 3), held);
+    for k in 0..32 {
+        words[k] = turned(first[k], held);
     }
     words[32] = words[0];
     words[33] = words[1];

@@ -7,7 +7,7 @@ use crate::support::prelude::*;
 
 /// In the words that are made here, the full block starts this number of words after the offsets.
 /// The words of the block of U+0000 and of the empty block are between them.
-pub(crate) const FULL_BLOCK: usize = 8;
+pub(crate) const FULL_BLOCK: usize = 32;
 
 /// Returns the word at this index, or 0 if there is none.
 #[inline(always)]
@@ -18,35 +18,35 @@ pub(crate) fn word(table: &[u64], place: usize) -> u64 {
 /// Returns the number of words of offsets.
 #[inline(always)]
 pub(crate) fn offset_count(table: &[u64]) -> usize {
-    (word(table, 0) % 0x1_0000) as usize
+    (word(table, 0) % 0x1_0000_0000) as usize
 }
 
-/// Returns the last offset, which is that of all later blocks, too.
-#[inline(always)]
-fn last_place(table: &[u64]) -> usize {
-    let count = offset_count(table);
-    if count == 0 {
-        return 0;
-    }
-    (word(table, count - 1) >> 48) as usize
-}
-
-/// Returns the index of the first of the block's words. A branch takes less time than the minimum of
-/// two positions, since few look-ups are past the offsets, or nearly all.
+/// Returns the index of the first of the block's words. The last offset is that of all later blocks,
+/// too.
 #[inline(always)]
 pub(crate) fn place_of(table: &[u64], block: u32) -> usize {
-    let at = (block / 4) as usize;
-    if at >= offset_count(table) {
-        return last_place(table);
+    let last = offset_count(table).max(1) - 1;
+    (word(table, (block as usize).min(last)) % 0x1_0000_0000) as usize
+}
+
+/// Returns the bits of the first 2,048 code points, 64 in each word.
+#[inline(always)]
+pub(crate) fn first_words(table: &[u64]) -> [u64; 32] {
+    let first = place_of(table, 0);
+    let second = place_of(table, 1);
+    let mut words = [0; 32];
+    for k in 0..16 {
+        words[k] = word(table, first + k);
+        words[k + 16] = word(table, second + k);
     }
-    ((word(table, at) >> (16 * (block % 4))) % 0x1_0000) as usize
+    words
 }
 
 /// Returns the bit of the code point `64 * upper + lower`.
 #[inline(always)]
 pub(crate) fn bit_of_parts(table: &[u64], upper: u32, lower: u32) -> bool {
-    let place = place_of(table, upper / 4);
-    let bits = word(table, place + (upper % 4) as usize);
+    let place = place_of(table, upper / 16);
+    let bits = word(table, place + (upper % 16) as usize);
     (bits >> lower) & 1 == 1
 }
 
@@ -58,13 +58,13 @@ pub(crate) fn contains(table: &[u64], c: u32) -> bool {
 
 /// A frozen set in 64-bit words, borrowed, for example from a file. It is `Copy`, like `&[u64]`.
 ///
-/// First come offsets of 16 bits, one for each block of 256 code points, four in a word with the
-/// first one in the lowest bits. A block's offset is the index of the first of its four words, each
-/// of which has the bits of 64 code points, lowest first. The words of the block of U+0000 follow the
-/// offsets, so its offset is also the number of words of offsets. The last offset is that of all
-/// later blocks, too.
+/// First come offsets, one word for each block of 1,024 code points. A block's offset is the index of
+/// the first of its sixteen words, each of which has the bits of 64 code points, lowest first. The
+/// words of the block of U+0000 follow the offsets, so its offset is also the number of words of
+/// offsets. The last offset is that of all later blocks, too.
 ///
-/// Any words are accepted. Words that are missing count as 0, and words after the set are ignored.
+/// Any words are accepted. Of an offset only the low 32 bits count. Words that are missing count as 0,
+/// and words after the set are ignored.
 /// [`FrozenCodePointSet::as_words`](crate::icu_frozen_sets::frozen::FrozenCodePointSet::as_words) returns the words of
 /// a set.
 ///

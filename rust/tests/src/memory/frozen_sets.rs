@@ -306,30 +306,29 @@ fn try_clone_of_frozen_refused() {
     });
 }
 
-/// Sets by their boundaries, and how many words their frozen sets take: one word of offsets for each
-/// four blocks up to the one after the last boundary below 0x110000, four words for each of the
-/// first block, the empty one and the full one, and four for each other block with a boundary inside.
-/// The third set is White_Space.
+/// Sets by their boundaries, and how many words their frozen sets take: one for each block of 1,024
+/// code points up to the one after that of the last boundary below 0x110000; sixteen for each of the
+/// first block, the empty one and the full one; and sixteen for each other block with a boundary
+/// inside. The third set is White_Space.
 static WORD_COUNTS: [(&[u32], usize); 6] = [
-    (&[], 1 + 12),
-    (&[0, 0x11_0000], 1 + 12),
+    (&[], 2 + 48),
+    (&[0, 0x11_0000], 2 + 48),
     (
         &[
             0x09, 0x0E, 0x20, 0x21, 0x85, 0x86, 0xA0, 0xA1, 0x1680, 0x1681, 0x2000, 0x200B, 0x2028,
             0x202A, 0x202F, 0x2030, 0x205F, 0x2060, 0x3000, 0x3001,
         ],
-        13 + 12 + 3 * 4,
+        14 + 48 + 3 * 16,
     ),
-    (&[0x1FF, 0x200], 1 + 12 + 4),
-    (&[0x2FF, 0x300], 2 + 12 + 4),
-    (&[0x10_FFFF, 0x11_0000], 1088 + 12 + 4),
+    (&[0x3FF, 0x400], 3 + 48),
+    (&[0x7FF, 0x800], 4 + 48 + 16),
+    (&[0x10_FFFF, 0x11_0000], 1088 + 48 + 16),
 ];
 
-/// Returns the index of the four words of this block in the words of a frozen set.
+/// Returns the index of the sixteen words of this block in the words of a frozen set.
 fn offset_of(words: &[u64], block: usize) -> usize {
-    let last = 4 * (words[0] & 0xFFFF) as usize - 1;
-    let at = block.min(last);
-    (words[at / 4] >> (16 * (at % 4)) & 0xFFFF) as usize
+    let last = (words[0] & 0xFFFF_FFFF) as usize - 1;
+    (words[block.min(last)] & 0xFFFF_FFFF) as usize
 }
 
 /// The letters are bits 1 to 26 of both halves of the second word of the first block. All later
@@ -345,11 +344,11 @@ fn frozen_words_quiet() {
         say("call");
         let words = frozen.as_words();
         let letters = words.get(offset_of(words, 0) + 1).copied();
-        let empty = [words[offset_of(words, 1)], words[offset_of(words, 4351)]];
+        let empty = [words[offset_of(words, 1)], words[offset_of(words, 1087)]];
         let view = frozen.as_view();
         let held = [view.contains('A'), view.contains('1')];
         say("done");
-        expect_same(words.len(), 1 + 12, "words");
+        expect_same(words.len(), 2 + 48, "words");
         expect_same(letters, Some(0x07FF_FFFE_07FF_FFFE), "the word");
         expect_same(empty, [0, 0], "words of empty blocks");
         expect_same(held, [true, false], "A, and 1");

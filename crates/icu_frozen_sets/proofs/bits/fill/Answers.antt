@@ -1,20 +1,23 @@
-use Rattle.std.proofs.Common.{◌∙◌, arith}
-use Rattle.icu_frozen_sets.proofs.BlockLemmas.{one_more}
+use Rattle.std.proofs.Common.{◌∙◌, arith, rules}
+use Rattle.std.proofs.lemmas.List.{length-set}
+use Rattle.icu_frozen_sets.proofs.BlockLemmas.{none_more, one_more}
 use Rattle.icu_frozen_sets.proofs.bits.fill.Goals as goal
 
-pub loop-next-preserved : goal.loop-next-preserved
-loop-next-preserved c =
-    let l = c.loop-next in
+pub loop-k-init : goal.loop-k-init
+loop-k-init c = record {
+  order = omega arith;
+  len = search rules;
+  all = none_more c.args.from c.args.word c.args.words.now;
+}
+
+pub loop-k-preserved : goal.loop-k-preserved
+loop-k-preserved c =
+    let l = c.loop-k in
     let i = l.invariant in
-    let p = c.add_to_offset.ensures in
-    let more = c.loop-next-test.true in
     let order = i.order in
-    let within = i.within in
     record {
       order = omega (arith, order);
-      within = omega (arith, more);
-      len = p.len ∙ i.len;
-      full = one_more c.args.from l.next c.args.full 4 c.args.words.now l.words c.add_to_offset.new.words i.order i.full
-          (c.requires.none l.next i.order more) p.set p.others;
-      kept = λ k h. p.kept k (λ e. omega (arith, e, h, more)) ∙ i.kept k h;
+      len = length-set l.words l.k c.args.word ∙ i.len;
+      all = one_more c.args.from l.k c.args.word c.args.words.now l.words i.order
+          (omega (arith, i.len, c.loop-k-test.true, c.requires.there)) i.all;
     }

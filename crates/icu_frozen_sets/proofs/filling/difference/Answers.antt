@@ -1,12 +1,17 @@
-use Rattle.std.proofs.Common.{rules}
-use Rattle.std.specs.Int.{from_bool}
-use Rattle.icu_frozen_sets.proofs.MarkLemmas.{difference_bits}
+use Rattle.std.proofs.Common.{arith, rules}
+use Rattle.icu_frozen_sets.proofs.MarkLemmas.{less_all, less_more, less_none, no_marks, no_words}
 use Rattle.icu_frozen_sets.proofs.filling.difference.Goals as goal
 
+pub loop-k-init : goal.loop-k-init
+loop-k-init c = less_none c.args.ends.now c.args.starts.now c.args.carried _ (search rules) no_words no_marks
+
+pub loop-k-preserved : goal.loop-k-preserved
+loop-k-preserved c =
+    let l = c.loop-k in
+    let less = c.less-word in
+    less_more c.args.ends.now c.args.starts.now c.args.carried l.bits l.borrow less.result.1 l.k less.result.0
+    (search rules) (search rules) c.loop-k-test.true (search rules) l.invariant less.ensures
+
 pub returns : goal.returns
-returns c = difference_bits c.args.ends.now c.args.starts.now
-    c.less-first.result.0 c.less-second.result.0 c.less-third.result.0 c.less-fourth.result.0
-    (from_bool c.args.carried) (from_bool c.less-first.result.1) (from_bool c.less-second.result.1)
-    (from_bool c.less-third.result.1) (from_bool c.less-fourth.result.1)
-    (search rules) (search rules) (search rules) (search rules)
-    c.less-first.ensures c.less-second.ensures c.less-third.ensures c.less-fourth.ensures
+returns c = less_all c.args.ends.now c.args.starts.now c.args.carried c.loop-k.bits c.loop-k.borrow (search rules) (search rules)
+    c.loop-k.k (omega (arith, c.loop-k-test.false)) c.loop-k.invariant

@@ -4,8 +4,14 @@ use Rattle.std.proofs.lemmas.List.{take_rest}
 use mathlib.Core.Bool.{beq}
 use Rattle.icu_utf.proofs.CallerLemmas.{part_of_ascii}
 use Rattle.icu_frozen_sets.specs.FrozenWords.{is_held}
-use Rattle.icu_frozen_sets.proofs.ThreeByteLemmas.{bit_says, other_of, passed_end, same_of, three_starts, walks_more}
+use Rattle.icu_frozen_sets.proofs.ThreeByteLemmas.{bit_says, other_of, passed_end, same_of, three_starts, walks_more, walks_start}
 use Rattle.icu_frozen_sets.proofs.three_byte.skip_three_byte.Goals as goal
+
+pub loop-rest-init : goal.loop-rest-init
+loop-rest-init c =
+    let bytes : List ℕ = c.args.bytes.now in
+    rw (take_rest bytes c.args.start)
+    (walks_start (Unit {0}) (is_held c.args.table.now) c.args.held bytes c.args.start c.requires.order)
 
 pub three_bits-requires-clause-most : goal.three_bits-requires-clause-most
 three_bits-requires-clause-most c = let t = c.in-Some.ensures c.in-Some.high refl in t.most

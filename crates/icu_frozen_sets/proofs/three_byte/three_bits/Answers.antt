@@ -8,10 +8,10 @@ pub returns-clause-bits : goal.returns-clause-bits
 returns-clause-bits c = λ bits e.
     let table : List ℕ = c.args.table.now in
     let high : ℕ = c.args.high in
-    let place : ℕ = get_or c.args.places.now (high / 4) 0 in
-    let is : place ≡ wide_place table (high / 4) = c.requires.wide (high / 4) (omega (arith, c.requires.most)) in
+    let place : ℕ = get_or c.args.places.now (high / 16) 0 in
+    let is : place ≡ wide_place table (high / 16) = c.requires.wide (high / 16) (omega (arith, c.requires.most)) in
     let found = has_place table high place c.requires.most is c.if-place.false in
-    let index : ℕ = c.from.result + high % 4 in
-    let at : index ≡ place_in table (high / 4) + high % 4 = omega (arith, c.from.ensures, found.1) in
+    let index : ℕ = place + high % 16 in
+    let at : index ≡ place_in table (high / 16) + high % 16 = omega (arith, found.1) in
     let same : bits ≡ get_or table index 0 = cc in
     table_bits table high index bits c.requires.most at same

@@ -16,8 +16,8 @@ returns-then-is_all-2-clause-sets c =
 
 -- A block that is neither empty nor full is not uniform.
 mixed : (block : List ℕ) (value none all : Bool) → none ≡ false → all ≡ false
-    → (((k : ℕ) → k < 4 → slice_index block k ≡ 0) → none ≡ true)
-    → (((k : ℕ) → k < 4 → slice_index block k ≡ 2 ^ 64 - 1) → all ≡ true) → IsUniform block value → ⊥
+    → (((k : ℕ) → k < 16 → slice_index block k ≡ 0) → none ≡ true)
+    → (((k : ℕ) → k < 16 → slice_index block k ≡ 2 ^ 64 - 1) → all ≡ true) → IsUniform block value → ⊥
 mixed block true none all n a f g u = let e = g u in cc
 mixed block false none all n a f g u = let e = f u in cc
 

@@ -12,7 +12,7 @@ mark-requires-2 c =
     let e = c.in_ok-move_to.ensures in
     let below = e.below c.args.start (omega arith) c.requires.below in
     record {
-      above = ends_below_end m.starts m.ends m.carried (c.args.start / 256) c.args.start e.closed below refl c.args.end
+      above = ends_below_end m.starts m.ends m.carried (c.args.start / 1024) c.args.start e.closed below refl c.args.end
           (sym e.at ∙ sym c.if-end-self.false) c.requires.some;
     }
 
@@ -21,7 +21,7 @@ returns-clause-closed c =
     let m = c.move_to.new.self in
     let e = c.in_ok-move_to.ensures in
     let below = e.below c.args.start (omega arith) c.requires.below in
-    marked_closed m.starts m.ends m.carried (c.args.start / 256) c.args.start e.closed below refl c.args.end
+    marked_closed m.starts m.ends m.carried (c.args.start / 1024) c.args.start e.closed below refl c.args.end
     (sym e.at ∙ sym c.if-end-self.false) c.requires.some c.mark.new.words c.mark-2.new.words c.mark.ensures c.mark-2.ensures
 
 pub returns-clause-below : goal.returns-clause-below
@@ -29,7 +29,7 @@ returns-clause-below c =
     let m = c.move_to.new.self in
     let e = c.in_ok-move_to.ensures in
     let below = e.below c.args.start (omega arith) c.requires.below in
-    rw (e.at) (marked_below m.starts m.ends m.carried (c.args.start / 256) c.args.start e.closed below refl c.args.end
+    rw (e.at) (marked_below m.starts m.ends m.carried (c.args.start / 1024) c.args.start e.closed below refl c.args.end
     (sym e.at ∙ sym c.if-end-self.false) c.requires.some c.mark.new.words c.mark-2.new.words c.mark.ensures c.mark-2.ensures)
 
 pub returns-clause-bits : goal.returns-clause-bits
@@ -39,7 +39,7 @@ returns-clause-bits c = λ k h.
     let below = e.below c.args.start (omega arith) c.requires.below in
     added_here m.bits (bits_of m.starts m.ends m.carried) (bits_of c.mark.new.words c.mark-2.new.words m.carried) m.at
     c.args.start c.args.end e.at (sym c.if-end-self.false) c.requires.some
-    (bits_below m.starts m.ends m.carried (c.args.start / 256) c.args.start e.closed below refl)
-    (marked_bits m.starts m.ends m.carried (c.args.start / 256) c.args.start e.closed below refl c.args.end
+    (bits_below m.starts m.ends m.carried (c.args.start / 1024) c.args.start e.closed below refl)
+    (marked_bits m.starts m.ends m.carried (c.args.start / 1024) c.args.start e.closed below refl c.args.end
     (sym e.at ∙ sym c.if-end-self.false) c.requires.some c.mark.new.words c.mark-2.new.words c.mark.ensures c.mark-2.ensures) k
     ∙ ap (λ (b : Bool). b || between c.args.start c.args.end k) (rw (e.at) (e.same k h))

@@ -20,7 +20,7 @@ returns-clause-bits c = λ k h.
     let m = c.begin.new.self in
     let b = c.begin.ensures in
     let r = c.requires in
-    let last : ℕ = 2 ^ (c.args.end % 256) - 1 in
+    let last : ℕ = 2 ^ (c.args.end % 1024) - 1 in
     let same : bits_of m.starts c.mark-2.new.words m.carried ≡ last =
     rw (b.carried) (carried_bits m.starts c.mark-2.new.words c.args.end b.starts (omega (arith, c.mark-2.ensures, b.ends))) in
     let block = bits_of s.starts s.ends s.carried in
@@ -29,7 +29,7 @@ returns-clause-bits c = λ k h.
     ∙ added_far s.bits c.set_block.new.self c.fill_blocks.new.self block s.at c.args.start c.args.end c.difference-block.result
     r.filling r.here r.later (bits_below s.starts s.ends s.carried s.at c.args.start r.closed r.below r.here)
     c.in_ok-set_block.ensures.sets
-    (c.difference-block.ensures (block + (2 ^ 256 - 2 ^ (c.args.start % 256))) 1
+    (c.difference-block.ensures (block + (2 ^ 1024 - 2 ^ (c.args.start % 1024))) 1
     (far_fits s.starts s.ends s.carried s.at c.args.start r.closed r.below r.here c.mark.new.words c.mark.ensures)
     (far_number s.starts s.ends s.carried s.at c.args.start r.closed r.below r.here c.mark.new.words c.mark.ensures))
     c.fill_blocks.ensures.bits k h))

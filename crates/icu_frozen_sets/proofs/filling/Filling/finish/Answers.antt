@@ -6,5 +6,5 @@ use Rattle.icu_frozen_sets.proofs.filling.Filling.finish.Goals as goal
 pub returns-clause-bits : goal.returns-clause-bits
 returns-clause-bits c = rw (c.into_words.ensures) (λ k h.
     let m = c.move_to.new.self in
-    sym (filled_else m.bits (bits_of m.starts m.ends m.carried) 4352 k (λ q. omega (arith, q, h)))
+    sym (filled_else m.bits (bits_of m.starts m.ends m.carried) 1088 k (λ q. omega (arith, q, h)))
     ∙ c.in_ok-move_to.ensures.same k h)
