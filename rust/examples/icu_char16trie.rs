@@ -123,7 +123,7 @@ builder.add_str("ab", 2)?;
 let trie = builder.try_build()?;
 assert_eq!(trie.get(&[0x61, 0x62]), Some(2));
 assert_eq!(trie.get(&[0x62]), None);
-//# lookup get_str
+//# text_units get_str
 use bekstaudi::char16trie::Char16TrieBuilder;
 
 let mut builder = Char16TrieBuilder::new();

@@ -23,6 +23,7 @@ pub mod RunLemmas
 pub mod StandsLemmas
 pub mod LongestLemmas
 pub mod CharFronts
+pub mod TextLemmas
 pub mod MatchLemmas
 pub mod JsonLemmas
 pub mod Examples

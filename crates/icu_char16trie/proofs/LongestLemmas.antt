@@ -47,7 +47,7 @@ plain_leads units p lead place g few at u to step =
     let low : lead % 64 ≡ lead = omega (arith, few) in
     at_plain p lead to g few (rw (here, low) at step)
 
-match_leads : (units : List ℕ) (p lead place : ℕ) → slice_get units p ≡ Some lead → lead < 0x8000 → place ≡ node_end (p + 1) lead
+pub match_leads : (units : List ℕ) (p lead place : ℕ) → slice_get units p ≡ Some lead → lead < 0x8000 → place ≡ node_end (p + 1) lead
     → LeadsByMatch units (Node p) place (lead % 64)
 match_leads units p lead place g small at = by (within_or_above lead 0x3f)
   where

@@ -38,7 +38,7 @@ begins_next units p left u text b = record {
 first_same : (units : List ℕ) (p left u : ℕ) (text : List ℕ) → BeginsRun units p (suc left) (u ∷ text) → slice_get units p ≡ Some u
 first_same units p left u text b = rw add-zero at (b.same 0 (omega arith))
 
-begins_more : (units : List ℕ) (p left u : ℕ) (text : List ℕ) → slice_get units p ≡ Some u → BeginsRun units (p + 1) left text
+pub begins_more : (units : List ℕ) (p left u : ℕ) (text : List ℕ) → slice_get units p ≡ Some u → BeginsRun units (p + 1) left text
     → BeginsRun units p (suc left) (u ∷ text)
 begins_more units p left u text g b = record {
   within = omega (arith, b.within);

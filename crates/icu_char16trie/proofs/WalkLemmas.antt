@@ -255,11 +255,6 @@ pub none_gives : (old new : Walk) → slice_values new.pending.units ≡ slice_v
     → ((m : UnitMap) → WalkGives old m → m ≡ []) → IsWalked new → Gives old None new
 none_gives old new u none w = record { entries = none; done = λ d. refl; ended = w; value = tt; units = u }
 
-pub err_gives : (old new : Walk) (e : MemoryError) → slice_values new.pending.units ≡ slice_values old.pending.units → IsWalked new
-    → (IsWalked old → ⊥) → Gives old (Some (Err e)) new
-err_gives old new e u w more =
-    record { entries = λ m g. tt; done = λ d. absurd (more d); ended = λ _. w; value = tt; units = u }
-
 parts_some : (len : ℕ) (parts : List BranchPart) → (parts ≡ [] → ⊥) → 0 < parts_work len parts
 unfolding parts_work
 parts_some len [] more = absurd (more refl)

@@ -5,6 +5,7 @@ pub mod Fronts
 pub mod Going
 pub mod Opening
 pub mod Soundness
+pub mod Texts
 pub mod Counts
 pub mod Values
 pub mod Walking

@@ -1,7 +1,7 @@
 //! The value of a key.
 ghost use Rattle.std.specs.Prelude.{◌≡◌};
 ghost use Rattle.icu_char16trie.specs.Grammar.{IsTrieOf};
-ghost use Rattle.icu_char16trie.specs.Matches.{HasValueAlong, text_units};
+ghost use Rattle.icu_char16trie.specs.Matches.{HasValueAlong};
 ghost use Rattle.icu_char16trie.specs.UnitMap.{UnitMap, value_of};
 
 use crate::dictionary::pass_match;
@@ -9,7 +9,6 @@ use crate::encoded::{node_end, unit_at};
 use crate::impl_const::{MIN_VALUE_LEAD, VALUE_IS_FINAL};
 use crate::step::value_by;
 use crate::trie::Char16Trie;
-use std::fmt::Write;
 
 impl<'data> Char16Trie<'data> {
     /// Returns the value of the key with these units, or `None` if the trie does not have it.
@@ -41,26 +40,5 @@ impl<'data> Char16Trie<'data> {
         }
         let last = unit_at(units, node)?;
         value_by(units, node + 1, last)
-    }
-
-    /// Returns the value of the key that is the UTF-16 form of `key`, or `None` if the trie does
-    /// not have it.
-    ///
-    /// ICU: `UCharsTrie::reset`, `nextForCodePoint` for each character, and `getValue`.
-    ///
-    /// ```
-    /// // of the map of "a" to 1 and "ab" to 2
-    /// // trie.get_str("ab") is Some(2), and trie.get_str("b") is None
-    /// ```
-    pub fn get_str(&self, key: &str) -> Option<i32>
-        ensures value { (m : UnitMap) → IsTrieOf self.now m
-            → result ≡ value_of m (text_units key.now) }
-        ensures exact { HasValueAlong self.now (text_units key.now) result }
-    {
-        let mut cursor = self.cursor();
-        let Ok(()) = cursor.write_str(key) else {
-            unreachable!();
-        };
-        cursor.value()
     }
 }

@@ -6,7 +6,6 @@ use crate::icu_char16trie::impl_const::{MIN_VALUE_LEAD, VALUE_IS_FINAL};
 use crate::icu_char16trie::step::value_by;
 use crate::icu_char16trie::trie::Char16Trie;
 use crate::support::prelude::*;
-use core::fmt::Write;
 
 impl<'data> Char16Trie<'data> {
     /// Returns the value of the key with these units, or `None` if the trie does not have it.
@@ -41,31 +40,5 @@ impl<'data> Char16Trie<'data> {
         }
         let last = unit_at(units, node)?;
         value_by(units, node + 1, last)
-    }
-
-    /// Returns the value of the key that is the UTF-16 form of `key`, or `None` if the trie does
-    /// not have it.
-    ///
-    /// ICU: `UCharsTrie::reset`, `nextForCodePoint` for each character, and `getValue`.
-    ///
-    /// ```
-    /// use bekstaudi::char16trie::Char16TrieBuilder;
-    ///
-    /// let mut builder = Char16TrieBuilder::new();
-    /// builder.add_str("a", 1)?;
-    /// builder.add_str("ab", 2)?;
-    /// let trie = builder.try_build()?;
-    /// assert_eq!(trie.get_str("ab"), Some(2));
-    /// assert_eq!(trie.get_str("b"), None);
-    /// # Ok::<(), Box<dyn std::error::Error>>(())
-    /// ```
-    #[must_use]
-    #[inline]
-    pub fn get_str(&self, key: &str) -> Option<i32> {
-        let mut cursor = self.cursor();
-        let Ok(()) = cursor.write_str(key) else {
-            unreachable!();
-        };
-        cursor.value()
     }
 }

@@ -14,7 +14,7 @@
 //!   `write`: look-up of text that is written to it
 //! - `iterator`: [`Char16TrieIterator`](char16trie::Char16TrieIterator), a cursor with a result for
 //!   each step
-//! - `lookup`: the value of a key
+//! - `lookup`: the value of a key; `text_units`: of one that is a text, by its UTF-16 units
 //! - `dictionary`: the longest key that a text starts with; `matches`:
 //!   [`Matches`](char16trie::Matches), all such keys
 //! - `soundness`: whether units are a trie; `counted`: the number of its entries
@@ -51,6 +51,7 @@ mod place;
 mod soundness;
 mod spelling;
 mod step;
+mod text_units;
 mod trie;
 mod unique;
 mod walk;
