@@ -1,51 +1,47 @@
--- A buffer that is filled from its start.
-use Rattle.std.proofs.Common.{◌≡◌, refl, ap, ℕ, zero, suc, ◌+◌, ◌<◌, ◌≤◌, ◌∙◌, min, List, [], ◌∷◌, ◌++◌, length, take, drop, get_or, add-one, arith, inl, inr}
-use Rattle.std.specs.Prelude.{map}
+-- Items that are written to the start of a buffer, as many as fit.
+use Rattle.std.proofs.Common.{◌≡◌, ◌∙◌, refl, ap, ℕ, zero, suc, ◌<◌, ◌≤◌, ◌⊎◌, List, [], ◌∷◌, ◌++◌, length, take, arith, inl, inr}
 use Rattle.std.proofs.Math.ListN.{set}
+use Rattle.std.proofs.Math.Seq.{drop-nil, take-nil}
 use Rattle.std.proofs.lemmas.Bool.{cases_lt}
-use Rattle.std.proofs.lemmas.List.{drop_all, length-map, take_all, take-map}
 use Rattle.icu_zerovec.specs.Buffers.{written}
 
-module _ {A B : Type 0} (f : A → B) where
-  fill_suc : (xs : List A) (ys : List B) (i : ℕ) (d : A) → i < length xs → i < length ys
-      → set (map f (take i xs) ++ drop i ys) i (f (get_or xs i d)) ≡ map f (take (suc i) xs) ++ drop (suc i) ys
-  fill_suc [] ys i d l m = absurd (omega arith)
-  fill_suc (x ∷ xs) [] i d l m = absurd (omega arith)
-  fill_suc (x ∷ xs) (y ∷ ys) zero d l m = refl
-  fill_suc (x ∷ xs) (y ∷ ys) (suc i) d l m = ap (λ zs. f x ∷ zs) (fill_suc xs ys i d (omega arith) (omega arith))
+module _ {A : Type 0} where
+  length-written : (xs old : List A) → length (written xs old) ≡ length old
+  length-written xs [] = rw (drop-nil (length xs)) refl
+  length-written [] (o ∷ old) = refl
+  length-written (x ∷ xs) (o ∷ old) = ap suc (length-written xs old)
+
+  -- Nothing is written yet.
+  pub written-none : (old : List A) → old ≡ written [] old
+  written-none [] = refl
+  written-none (o ∷ old) = refl
 
   -- One more item is written.
-  pub filled_more : (xs : List A) (ys : List B) (i : ℕ) (d : A) → i < length xs → i < length ys
-      → set (map f (take i xs) ++ drop i ys) i (f (get_or xs i d)) ≡ map f (take (i + 1) xs) ++ drop (i + 1) ys
-  filled_more xs ys i d l m = rw add-one (fill_suc xs ys i d l m)
+  pub written-more : (xs old : List A) (y : A) → length xs < length old → set (written xs old) (length xs) y ≡ written (xs ++ y ∷ []) old
+  written-more xs [] y l = absurd (omega (arith, l))
+  written-more [] (o ∷ old) y l = rw (take-nil (length old)) refl
+  written-more (x ∷ xs) (o ∷ old) y l = ap (λ zs. x ∷ zs) (written-more xs old y (omega (arith, l)))
 
-  -- All items that fit are written.
-  pub filled_all : (xs : List A) (ys : List B) (n : ℕ) → n ≡ min (length xs) (length ys)
-      → map f (take n xs) ++ drop n ys ≡ written (map f xs) ys
-  filled_all xs ys n e = elim (cases_lt (length ys) (length xs)) [
-    | inl h ↦
-        let many : n ≡ length ys = omega arith in
-        rw (many, take-map f (length ys) xs, drop_all (length ys) ys (omega arith), length-map xs f, drop_all (length xs) ys (omega arith))
-        refl
-    | inr h ↦
-        let many : n ≡ length xs = omega arith in
-        rw (many, take_all (length xs) xs (omega arith), length-map xs f, take_all (length ys) (map f xs) (rw (length-map xs f) h)) refl
-  ]
+  written-full : (xs old : List A) (y : A) → length old ≤ length xs → written xs old ≡ written (xs ++ y ∷ []) old
+  written-full xs [] y l = rw (drop-nil (length xs), drop-nil (length (xs ++ y ∷ []))) refl
+  written-full [] (o ∷ old) y l = absurd (omega (arith, l))
+  written-full (x ∷ xs) (o ∷ old) y l = ap (λ zs. x ∷ zs) (written-full xs old y (omega (arith, l)))
 
   -- One more item is written if it fits.
-  pub filled_next : (xs : List A) (ys vs new : List B) (n : ℕ) (d : A) → n < length xs → length vs ≡ length ys
-      → vs ≡ map f (take (min n (length ys)) xs) ++ drop (min n (length ys)) ys
-      → (n < length vs → new ≡ set vs n (f (get_or xs n d))) → (length vs ≤ n → new ≡ vs)
-      → new ≡ map f (take (min (n + 1) (length ys)) xs) ++ drop (min (n + 1) (length ys)) ys
-  filled_next xs ys vs new n d l same before within past = elim (cases_lt n (length ys)) [
-    | inl h ↦
-        let now : min n (length ys) ≡ n = omega arith in
-        let next : min (n + 1) (length ys) ≡ n + 1 = omega arith in
-        let is : vs ≡ map f (take n xs) ++ drop n ys = rw now at before in
-        rw next (within (omega arith) ∙ rw is (filled_more xs ys n d l h))
-    | inr h ↦
-        let now : min n (length ys) ≡ length ys = omega arith in
-        let next : min (n + 1) (length ys) ≡ length ys = omega arith in
-        let is : vs ≡ map f (take (length ys) xs) ++ drop (length ys) ys = rw now at before in
-        rw next (past (omega arith) ∙ is)
-  ]
+  pub written-next : (xs old buffer new : List A) (y : A) (n : ℕ) → n ≡ length xs → buffer ≡ written xs old
+      → (n < length buffer → new ≡ set buffer n y) → (length buffer ≤ n → new ≡ buffer) → new ≡ written (xs ++ y ∷ []) old
+  written-next xs old buffer new y n many is within past =
+      let long : length buffer ≡ length old = ap length is ∙ length-written xs old in
+      elim (cases_lt n (length buffer)) [
+        | inl h ↦ within h ∙ rw (is, many) (written-more xs old y (omega (arith, h, long, many)))
+        | inr h ↦ past h ∙ is ∙ written-full xs old y (omega (arith, h, long, many))
+      ]
+
+  -- The first n items are enough if there are no more, or if no more fit.
+  pub written-take : (xs old : List A) (n : ℕ) → (length xs ≤ n) ⊎ (length old ≤ n) → written (take n xs) old ≡ written xs old
+  written-take xs [] n h = rw (drop-nil (length (take n xs)), drop-nil (length xs)) refl
+  written-take [] (o ∷ old) n h = rw (take-nil n) refl
+  written-take (x ∷ xs) (o ∷ old) zero (inl h) = absurd (omega (arith, h))
+  written-take (x ∷ xs) (o ∷ old) zero (inr h) = absurd (omega (arith, h))
+  written-take (x ∷ xs) (o ∷ old) (suc n) (inl h) = ap (λ zs. x ∷ zs) (written-take xs old n (inl (omega (arith, h))))
+  written-take (x ∷ xs) (o ∷ old) (suc n) (inr h) = ap (λ zs. x ∷ zs) (written-take xs old n (inr (omega (arith, h))))

@@ -1,11 +1,9 @@
-mod AnswerLemmas
 mod BoundLemmas
 mod BufferLemmas
 mod BuildingLemmas
 mod CellLemmas
 mod CoherenceLemmas
 mod CopiedTextLemmas
-mod DropLemmas
 mod FrozenLemmas
 mod ListingLemmas
 mod OpeningLemmas

@@ -1,5 +1,5 @@
 -- Ranges of a trie that are written into a buffer, one after another.
-use Rattle.std.proofs.Common.{◌≡◌, ◌∙◌, refl, sym, ap, subst, ℕ, zero, suc, ◌+◌, ◌<◌, ◌≤◌, List, [], ◌∷◌, ◌++◌, length, drop, Option, Some, add-one, arith}
+use Rattle.std.proofs.Common.{◌≡◌, ◌∙◌, refl, sym, ap, subst, ℕ, ◌+◌, ◌<◌, ◌≤◌, List, [], ◌∷◌, ◌++◌, length, Option, Some, arith}
 use Rattle.std.specs.Prelude.{map, All}
 use Rattle.std.proofs.Math.ListN.{set}
 use Rattle.std.proofs.lemmas.List.{length-append, length-map, map-append}
@@ -10,7 +10,9 @@ use Rattle.icu_trie_core.specs.Range.{GivesWalk, first_of, last_of}
 use Rattle.icu_trie_core.specs.Runs.{LongestRun}
 use Rattle.icu_trie.specs.Parts.{Parts}
 use Rattle.icu_trie.specs.Ranges.{IsCoherentTrie, answers}
+use Rattle.icu_zerovec.specs.Buffers.{written}
 use Rattle.icu_collections_c.specs.Ranges.{AreRangesTo, range_of}
+use Rattle.icu_collections_c.proofs.BufferLemmas.{written-more, written-none}
 use Rattle.icu_collections_c.specs.declared.ranges.Range.{Range}
 
 -- A range as it is written, and what it is in a coherent trie.
@@ -28,20 +30,7 @@ pub record HasWritten {A : Type 0} (of_number : ℕ → Option A) (number : A �
   pub longest : IsCoherentTrie of_number t → All (IsLongest t) ranges
   pub count_is : count ≡ length ranges
   pub fits : count ≤ length before
-  pub buffer_is : buffer ≡ map (shown number) ranges ++ drop count before
-
--- An item is put after those that are written.
-put_suc : {B : Type 0} (xs ys : List B) (v : B) (n : ℕ) → n ≡ length xs → n < length ys
-    → set (xs ++ drop n ys) n v ≡ (xs ++ v ∷ []) ++ drop (suc n) ys
-put_suc [] [] v n e l = absurd (omega arith)
-put_suc [] (y ∷ ys) v n e l = rw e refl
-put_suc (x ∷ xs) [] v n e l = absurd (omega arith)
-put_suc (x ∷ xs) (y ∷ ys) v zero e l = absurd (omega arith)
-put_suc (x ∷ xs) (y ∷ ys) v (suc n) e l = ap (λ zs. x ∷ zs) (put_suc xs ys v n (omega arith) (omega arith))
-
-put : {B : Type 0} (xs ys : List B) (v : B) (n : ℕ) → n ≡ length xs → n < length ys
-    → set (xs ++ drop n ys) n v ≡ (xs ++ v ∷ []) ++ drop (n + 1) ys
-put xs ys v n e l = rw add-one (put_suc xs ys v n e l)
+  pub buffer_is : buffer ≡ written (map (shown number) ranges) before
 
 module _ {A : Type 0} (of_number : ℕ → Option A) (number : A → ℕ) (t : Parts A) where
   given_more : (c : ℕ) (rs : List (CodePointMapRange A)) (next : ℕ) (r : CodePointMapRange A)
@@ -58,7 +47,7 @@ module _ {A : Type 0} (of_number : ℕ → Option A) (number : A → ℕ) (t : P
     longest = λ _. All-nil (IsLongest t);
     count_is = refl;
     fits = omega arith;
-    buffer_is = refl;
+    buffer_is = written-none before;
   }
 
   module _ (c : ℕ) (before buffer : List Range) (next count : ℕ) where
@@ -76,7 +65,10 @@ module _ {A : Type 0} (of_number : ℕ → Option A) (number : A → ℕ) (t : P
       count_is = let long = length-append w.ranges (r ∷ []) in let was = w.count_is in omega arith;
       fits = omega arith;
       buffer_is =
+          let shown_so_far = map (shown number) w.ranges in
+          let many : count ≡ length shown_so_far = w.count_is ∙ sym (length-map w.ranges (shown number)) in
           is ∙ ap (λ b. set b count (shown number r)) w.buffer_is
-          ∙ put (map (shown number) w.ranges) before (shown number r) count (w.count_is ∙ sym (length-map w.ranges (shown number))) room
-          ∙ ap (λ xs. xs ++ drop (count + 1) before) (sym (map-append (shown number) w.ranges (r ∷ [])));
+          ∙ ap (λ n. set (written shown_so_far before) n (shown number r)) many
+          ∙ written-more shown_so_far before (shown number r) (omega (arith, many, room))
+          ∙ ap (λ xs. written xs before) (sym (map-append (shown number) w.ranges (r ∷ [])));
     }

@@ -1,249 +1,215 @@
 -- Ranges that are joined in order, and complements.
-use Rattle.std.proofs.Common.{◌≡◌, ◌∙◌, refl, sym, ap, ℕ, zero, suc, ◌+◌, ◌-◌, ◌*◌, ◌%◌, ◌<◌, ◌≤◌, min, max, Bool, true, false, ◌||◌, not, ◌⊎◌, List, [], ◌∷◌, ◌++◌, length, take, drop, get_or, arith, inl, inr, Bor}
-use Rattle.std.specs.Prelude.{◌==◌, if◌then◌else◌, nat_le}
+use Rattle.std.proofs.Common.{◌≡◌, ◌∙◌, refl, sym, ap, ℕ, zero, suc, ◌+◌, ◌-◌, ◌*◌, ◌<◌, ◌≤◌, min, max, Bool, true, false, cond, ◌||◌, not, ◌⊎◌, List, [], ◌∷◌, ◌++◌, length, take, drop, get_or, arith, inl, inr, Bor}
+use Rattle.std.specs.Prelude.{◌==◌, if◌then◌else◌, nat_le, All}
 use denote.Param.Members.{Mut}
 use Rattle.std.specs.Fn.{Called, ComputesOnPairs}
 use Rattle.std.specs.List.{IsAllAdjacentAnswer, list_any}
 use Rattle.std.specs.List.Sorted.{IsNonDecreasingBy, IsPermutation, IsStrictlyIncreasing}
 use Rattle.std.proofs.lemmas.Bool.{cases_lt, cases_eq, eq-eqb, le-leb, leb-true, lt-leb, ne_eqb}
 use Rattle.std.proofs.lemmas.Bool.Decides.{nat_tests}
-use Rattle.std.proofs.lemmas.Grind.{get_or_default_zero}
-use Rattle.std.proofs.lemmas.List.{get_or-set_other, get_or-set_same, get_or_append_left, get_or_default, length-append, length-set}
+use Rattle.std.proofs.lemmas.List.{get_or_append_left, get_or_default, length-append, length-set, take_more, take_more_set}
+use Rattle.std.proofs.lemmas.List.Elements.{All-append, All-cons, All-nil}
 use Rattle.std.proofs.lemmas.List.Folds.{list_any_more}
+use Rattle.std.proofs.lemmas.List.Sums.{sum_by-cons, sum_by_push}
 use Rattle.std.proofs.Math.ListN.{set}
 use Rattle.std.proofs.Math.Seq.{drop-nil, get_or-append_seam, take-length, take-nil}
 use Rattle.std.proofs.lemmas.Fn.{always_returns_same}
 use Rattle.std.proofs.lemmas.List.Sorted.{IsNonDecreasingBy-from_all_adjacent, length_permutation, list_any-IsPermutation}
 use Rattle.icu_zerovec.specs.CodePoints.{code_point_limit}
-use Rattle.icu_invlist.specs.InversionList.{Acts, IsValid, complement_of, either, holds, toggle_back, toggle_front}
-use Rattle.icu_invlist.proofs.CallerLemmas.{complement-holds, complement_valid}
+use Rattle.icu_invlist.specs.InversionList.{Acts, IsValid, complement_of, either, ends_up_to, holds, is_odd, toggle_back, toggle_front}
+use Rattle.icu_invlist.proofs.CallerLemmas.{complement-holds, complement_valid, holds-nil}
+use Rattle.icu_frozen_sets.proofs.CallerLemmas.{IsNonDecreasingBy-strictly}
 use Rattle.icu_zerovec.specs.Buffers.{written}
 use Rattle.icu_collections_c.specs.Inside.Joined.{IsJoined, StartsUpTo}
 use Rattle.icu_collections_c.specs.SetBuilding.{HoldsExactly, in_range, in_some, is_one_of}
 use Rattle.icu_collections_c.specs.declared.set_building.Interval.{Interval}
-use Rattle.icu_collections_c.proofs.SetPlaceLemmas.{even, holds_at, odd, place_of}
+use Rattle.icu_collections_c.proofs.SetPlaceLemmas.{even, odd}
 
--- ---- a range is joined to a set
--- A list is valid if each boundary is below the next, and none is above the code space.
-valid_from : (xs : List ℕ) → length xs % 2 ≡ 0 → IsStrictlyIncreasing xs
-    → ((k : ℕ) → k < length xs → get_or xs k 0 ≤ code_point_limit) → IsValid xs
-valid_from xs e up small = record {
-  even = e;
-  ascending = up;
-  within = λ k d l. rw (get_or_default_zero xs k d l) (small k l);
-}
+-- ---- one more boundary
+module _ (xs : List ℕ) (e : ℕ) where
+  up_to-push : (c : ℕ) → ends_up_to (xs ++ e ∷ []) c ≡ ends_up_to xs c + cond (nat_le e c) 1 0
+  unfolding ends_up_to
+  up_to-push c = sum_by_push (λ x. cond (nat_le x c) 1 0) xs e
 
-module _ (old new : List ℕ) (first last end : ℕ) (starts : StartsUpTo first old) (bound : end ≡ min last 0x10FFFF + 1)
-    (some : first < end) where
-  in_new : (c : ℕ) → c < code_point_limit → first ≤ c → (in_range (record { first = first; last = last }) c ≡ true) ⊎ (end ≤ c)
-  in_new c small from = elim (cases_lt c end) [
-    | inl h ↦ inl (rw (le-leb first c from, le-leb c last (omega arith)) refl)
-    | inr h ↦ inr h
-  ]
+  up_to-below : (c : ℕ) → c < e → ends_up_to (xs ++ e ∷ []) c ≡ ends_up_to xs c
+  up_to-below c h = up_to-push c ∙ rw (lt-leb e c h) (omega arith)
 
+  up_to-above : (c : ℕ) → e ≤ c → ends_up_to (xs ++ e ∷ []) c ≡ ends_up_to xs c + 1
+  up_to-above c h = up_to-push c ∙ rw (le-leb e c h) (omega arith)
+
+  rises-push : IsStrictlyIncreasing xs → (0 < length xs → get_or xs (length xs - 1) 0 < e) → IsStrictlyIncreasing (xs ++ e ∷ [])
+  rises-push up past k l =
+      let long = length-append xs (e ∷ []) in
+      elim (cases_lt (k + 1) (length xs)) [
+        | inl h ↦ rw (get_or_append_left xs (e ∷ []) 0 k (omega (arith, h)), get_or_append_left xs (e ∷ []) 0 (k + 1) h) (up k h)
+        | inr h ↦
+            (let last : k + 1 ≡ length xs = omega (arith, h, l, long) in
+            let own : length xs - 1 ≡ k = omega (arith, last) in
+            rw (get_or_append_left xs (e ∷ []) 0 k (omega (arith, last)), last, get_or-append_seam xs e [] 0)
+            (rw own at (past (omega (arith, last)))))
+      ]
+
+up_to-all : (xs : List ℕ) (c : ℕ) → ((k : ℕ) → k < length xs → get_or xs k 0 ≤ c) → ends_up_to xs c ≡ length xs
+unfolding ends_up_to
+up_to-all [] c all = refl
+up_to-all (x ∷ xs) c all =
+    sum_by-cons (λ e. cond (nat_le e c) 1 0) x xs
+    ∙ rw (le-leb x c (all 0 (omega arith)), up_to-all xs c (λ k h. all (suc k) (omega (arith, h)))) (omega arith)
+
+-- All boundaries are at most c if the last one is.
+up_to-last : (xs : List ℕ) (c : ℕ) → IsStrictlyIncreasing xs → (0 < length xs → get_or xs (length xs - 1) 0 ≤ c) → ends_up_to xs c ≡ length xs
+up_to-last xs c up last =
+    let below : (k : ℕ) → k < length xs → get_or xs k 0 ≤ c = λ k h.
+    (let r = IsNonDecreasingBy-strictly xs up k (length xs - 1) 0 (omega (arith, h)) (omega (arith, h)) in
+    let l = last (omega (arith, h)) in omega (arith, r, l)) in
+    up_to-all xs c below
+
+module _ (old new : List ℕ) (first last end : ℕ) (starts : StartsUpTo first old) (bound : end ≡ min last 0x10FFFF + 1) (some : first < end) where
   before_new : (c : ℕ) → c < first → in_range (record { first = first; last = last }) c ≡ false
   before_new c h = rw (lt-leb first c h) refl
 
+  in_new : (c : ℕ) → first ≤ c → c < end → in_range (record { first = first; last = last }) c ≡ true
+  in_new c from h = rw (le-leb first c from, le-leb c last (omega (arith, h, bound))) refl
+
   past_new : (c : ℕ) → c < code_point_limit → end ≤ c → in_range (record { first = first; last = last }) c ≡ false
-  past_new c small h = rw (le-leb first c (omega arith), lt-leb c last (omega arith)) refl
+  past_new c small h = rw (le-leb first c (omega (arith, h, some)), lt-leb c last (omega (arith, small, h, bound))) refl
 
-  -- The last range of the set is extended.
-  module _ (some_old : 0 < length old) (near : first ≤ get_or old (length old - 1) 0) (same_length : length new ≡ length old)
-      (same : (k : ℕ) → k + 1 < length old → get_or new k 0 ≡ get_or old k 0)
-      (replaced : get_or new (length old - 1) 0 ≡ max (get_or old (length old - 1) 0) end) where
-    two : 1 < length old
-    two = let e = starts.valid.even in omega arith
+  or-false : (b : Bool) → b ≡ (b || false)
+  or-false true = refl
+  or-false false = refl
 
-    within_old : get_or old (length old - 1) 0 ≤ code_point_limit
-    within_old = starts.valid.within (length old - 1) 0 (omega arith)
+  -- The last range of the set, up to e, is extended to m.
+  module _ (xs : List ℕ) (e m : ℕ) (was : old ≡ xs ++ e ∷ []) (is : new ≡ xs ++ m ∷ []) (near : first ≤ e) (most : m ≡ max e end) where
+    one : length old ≡ length xs + 1
+    one = ap length was ∙ length-append xs (e ∷ [])
 
-    start_old : get_or old (length old - 2) 0 ≤ first
-    start_old = starts.last two
+    same_length : length new ≡ length old
+    same_length = ap length is ∙ length-append xs (m ∷ []) ∙ sym one
 
-    rises_new : IsStrictlyIncreasing new
-    rises_new k l =
-        let up = starts.valid.ascending k (omega arith) in
-        let here = same k (omega arith) in
-        elim (cases_lt (k + 2) (length old)) [
-          | inl h ↦ (let next = same (k + 1) (omega arith) in omega arith)
-          | inr h ↦ (let e : k + 1 ≡ length old - 1 = omega arith in rw e (let u = rw e at up in omega arith))
-        ]
+    same : (k : ℕ) → k < length xs → get_or old k 0 ≡ get_or xs k 0
+    same k h = rw was (get_or_append_left xs (e ∷ []) 0 k h)
 
-    small_new : (k : ℕ) → k < length new → get_or new k 0 ≤ code_point_limit
-    small_new k l = elim (cases_lt (k + 1) (length old)) [
-      | inl h ↦ (let w = starts.valid.within k 0 (omega arith) in let e = same k h in omega arith)
-      | inr h ↦ (let e : k ≡ length old - 1 = omega arith in let w = within_old in rw e (omega arith))
-    ]
+    many : 0 < length xs
+    many = let v = starts.valid.even in omega (arith, one, v)
 
-    valid_new : IsValid new
-    valid_new = valid_from new (let e = starts.valid.even in omega arith) rises_new small_new
+    start : get_or xs (length xs - 1) 0 ≤ first
+    start =
+        let l = starts.last (omega (arith, one, many)) in
+        let at : length old - 2 ≡ length xs - 1 = omega (arith, one) in
+        (rw (← same (length xs - 1) (omega (arith, many))) (rw at at l))
 
-    -- From the start of the last range on, the set has one range, up to its end.
-    held_old : (c : ℕ) → first ≤ c → c < get_or old (length old - 1) 0 → holds old c ≡ true
-    held_old c from to =
-        let e = starts.valid.even in
-        let b : length old - 1 - 1 ≡ length old - 2 = omega arith in
-        holds_at old (length old - 1) c starts.valid (omega arith) (λ h. rw b (let s = start_old in omega arith)) (λ h. to)
-        ∙ odd (length old - 1) (omega arith)
+    rises : IsStrictlyIncreasing xs
+    rises k h = rw (← same k (omega (arith, h)), ← same (k + 1) h) (starts.valid.ascending k (omega (arith, h, one)))
 
-    past_old : (c : ℕ) → get_or old (length old - 1) 0 ≤ c → holds old c ≡ false
-    past_old c from =
-        holds_at old (length old) c starts.valid (omega arith) (λ h. from) (λ h. absurd (omega arith))
-        ∙ even (length old) starts.valid.even
+    all_of : (c : ℕ) → first ≤ c → ends_up_to xs c ≡ length xs
+    all_of c h = up_to-last xs c rises (λ q. omega (arith, start, h))
 
-    held_new : (c : ℕ) → first ≤ c → c < get_or new (length old - 1) 0 → holds new c ≡ true
-    held_new c from to =
-        let e = starts.valid.even in
-        let b : length old - 1 - 1 ≡ length old - 2 = omega arith in
-        let p = same (length old - 2) (omega arith) in
-        holds_at new (length old - 1) c valid_new (omega arith) (λ h. rw b (let s = start_old in omega arith)) (λ h. to)
-        ∙ odd (length old - 1) (omega arith)
-
-    past_both : (c : ℕ) → get_or new (length old - 1) 0 ≤ c → holds new c ≡ false
-    past_both c from =
-        holds_at new (length old) c valid_new (omega arith) (λ h. from) (λ h. absurd (omega arith)) ∙ even (length old) starts.valid.even
-
-    before_both : (c : ℕ) → c < first → holds new c ≡ holds old c
-    before_both c h =
-        let n = length old - 1 in
-        let p = place_of old (length old) c in
-        let q = p.within in
-        let l : p.place ≤ n = elim (cases_lt p.place (length old)) [
-          | inl k ↦ omega arith
-          | inr k ↦ absurd (let e : p.place ≡ length old = omega arith in let b = rw e at (p.before (omega arith)) in omega arith)
-        ] in
-        holds_at new p.place c valid_new (omega arith) (λ k. rw (same (p.place - 1) (omega arith)) (p.before k))
-        (λ k. elim (cases_lt p.place n) [
-          | inl m ↦ rw (same p.place (omega arith)) (p.next (omega arith))
-          | inr m ↦ (let e : p.place ≡ n = omega arith in rw e (omega arith))
-        ])
-        ∙ sym (holds_at old p.place c starts.valid p.within p.before p.next)
-
-    extended_set : Acts either old (in_range (record { first = first; last = last })) new
-    extended_set c small = elim (cases_lt c first) [
-      | inl h ↦ rw (before_both c h, before_new c h) (or-false (holds old c))
-      | inr h ↦ elim (cases_lt c (get_or old (length old - 1) 0)) [
-        | inl k ↦ rw (held_old c h k) (held_new c h (omega arith))
-        | inr k ↦ rw (past_old c k) (elim (cases_lt c end) [
-          | inl m ↦ held_new c h (omega arith) ∙ sym (rw (le-leb first c h, le-leb c last (omega arith)) refl)
-          | inr m ↦ past_both c (omega arith) ∙ sym (past_new c small m)
+    set_is : Acts either old (in_range (record { first = first; last = last })) new
+    set_is c small = rw (was, is) (elim (cases_lt c first) [
+      | inl h ↦
+          rw (before_new c h)
+          (ap is_odd (up_to-below xs m c (omega (arith, h, near, most)) ∙ sym (up_to-below xs e c (omega (arith, h, near)))) ∙ or-false _)
+      | inr h ↦ elim (cases_lt c e) [
+        | inl k ↦
+            rw (odd_of c e h k, odd_of c m h (omega (arith, k, most))) refl
+        | inr k ↦ rw (even_of c e h k) (elim (cases_lt c end) [
+          | inl q ↦ odd_of c m h (omega (arith, q, most)) ∙ sym (in_new c h q)
+          | inr q ↦ even_of c m h (omega (arith, k, q, most)) ∙ sym (past_new c small q)
         ])
       ]
-    ]
+    ])
       where
-        or-false : (b : Bool) → b ≡ (b || false)
-        or-false true = refl
-        or-false false = refl
+        odd_of : (c b : ℕ) → first ≤ c → c < b → holds (xs ++ b ∷ []) c ≡ true
+        odd_of c b h k = let v = starts.valid.even in odd _ (omega (arith, up_to-below xs b c k, all_of c h, v, one))
 
-    pub extended : IsJoined (record { first = first; last = last }) old new
+        even_of : (c b : ℕ) → first ≤ c → b ≤ c → holds (xs ++ b ∷ []) c ≡ false
+        even_of c b h k = let v = starts.valid.even in even _ (omega (arith, up_to-above xs b c k, all_of c h, v, one))
+
+    extended : IsJoined (record { first = first; last = last }) old new
     extended = record {
       starts = record {
-        valid = valid_new;
-        last = λ h. rw same_length (let e = same (length old - 2) (let t = two in omega arith) in let s = start_old in omega arith);
+        valid = record {
+          even = let v = starts.valid.even in omega (arith, same_length, v);
+          ascending = rw is (rises-push xs m rises (λ q. (let u = starts.valid.within (length xs) 0 (omega (arith, one)) in omega (arith, start, near, most, q, some))));
+          within = rw is (All-append (λ b. b ≤ code_point_limit) xs (m ∷ [])
+              (λ k d h. rw (← get_or_append_left xs (e ∷ []) d k h, ← was) (starts.valid.within k d (omega (arith, h, one))))
+              (All-cons (λ b. b ≤ code_point_limit) m [] (let u = limit_e in omega (arith, u, most, bound)) (All-nil (λ b. b ≤ code_point_limit))));
+        };
+        last = λ h. (let at : length new - 2 ≡ length xs - 1 = omega (arith, same_length, one) in
+            rw (at, is, get_or_append_left xs (m ∷ []) 0 (length xs - 1) (omega (arith, many))) start);
       };
-      set = extended_set;
-      few = omega arith;
+      set = set_is;
+      few = omega (arith, same_length);
     }
-
-  -- The range comes after the last range of the set.
-  module _ (far : 0 < length old → get_or old (length old - 1) 0 < first) (same_length : length new ≡ length old + 2)
-      (same : (k : ℕ) → k < length old → get_or new k 0 ≡ get_or old k 0)
-      (start : get_or new (length old) 0 ≡ first) (stop : get_or new (length old + 1) 0 ≡ end) where
-    rises_pushed : IsStrictlyIncreasing new
-    rises_pushed k l = elim (cases_lt (k + 1) (length old)) [
-      | inl h ↦
-          (let up = starts.valid.ascending k h in let a = same k (omega arith) in let b = same (k + 1) h in omega arith)
-      | inr h ↦ elim (cases_lt k (length old)) [
-        | inl m ↦
-            (let e : k ≡ length old - 1 = omega arith in
-            let n : length old - 1 + 1 ≡ length old = omega arith in
-            let a = same (length old - 1) (omega arith) in
-            let f = far (omega arith) in
-            rw (e, n) (omega arith))
-        | inr m ↦ (let e : k ≡ length old = omega arith in rw e (omega arith))
-      ]
-    ]
-
-    small_pushed : (k : ℕ) → k < length new → get_or new k 0 ≤ code_point_limit
-    small_pushed k l = elim (cases_lt k (length old)) [
-      | inl h ↦ (let w = starts.valid.within k 0 h in let a = same k h in omega arith)
-      | inr h ↦ elim (cases_eq k (length old)) [
-        | inl e ↦ rw e (omega arith)
-        | inr n ↦ (let e : k ≡ length old + 1 = omega arith in rw e (omega arith))
-      ]
-    ]
-
-    valid_pushed : IsValid new
-    valid_pushed = valid_from new (let e = starts.valid.even in omega arith) rises_pushed small_pushed
-
-    none_old : (c : ℕ) → first ≤ c → holds old c ≡ false
-    none_old c h =
-        holds_at old (length old) c starts.valid (omega arith) (λ k. (let f = far k in omega arith)) (λ k. absurd (omega arith))
-        ∙ even (length old) starts.valid.even
-
-    before_pushed : (c : ℕ) → c < first → holds new c ≡ holds old c
-    before_pushed c h =
-        let p = place_of old (length old) c in
-        let q = p.within in
-        holds_at new p.place c valid_pushed (omega arith) (λ k. rw (same (p.place - 1) (omega arith)) (p.before k))
-        (λ k. elim (cases_lt p.place (length old)) [
-          | inl m ↦ rw (same p.place m) (p.next m)
-          | inr m ↦ (let e : p.place ≡ length old = omega arith in rw e (omega arith))
-        ])
-        ∙ sym (holds_at old p.place c starts.valid p.within p.before p.next)
-
-    in_pushed : (c : ℕ) → first ≤ c → c < end → holds new c ≡ true
-    in_pushed c from to =
-        let e = starts.valid.even in
-        let b : length old + 1 - 1 ≡ length old = omega arith in
-        holds_at new (length old + 1) c valid_pushed (omega arith) (λ h. rw b (omega arith)) (λ h. omega arith)
-        ∙ odd (length old + 1) (omega arith)
-
-    past_pushed : (c : ℕ) → end ≤ c → holds new c ≡ false
-    past_pushed c from =
-        let e = starts.valid.even in
-        let b : length old + 2 - 1 ≡ length old + 1 = omega arith in
-        holds_at new (length old + 2) c valid_pushed (omega arith) (λ h. rw b (omega arith)) (λ h. absurd (omega arith))
-        ∙ even (length old + 2) (omega arith)
-
-    pushed_set : Acts either old (in_range (record { first = first; last = last })) new
-    pushed_set c small = elim (cases_lt c first) [
-      | inl h ↦ rw (before_pushed c h, before_new c h) (or-false (holds old c))
-      | inr h ↦ rw (none_old c h) (elim (cases_lt c end) [
-        | inl m ↦ in_pushed c h m ∙ sym (rw (le-leb first c h, le-leb c last (omega arith)) refl)
-        | inr m ↦ past_pushed c m ∙ sym (past_new c small m)
-      ])
-    ]
       where
-        or-false : (b : Bool) → b ≡ (b || false)
-        or-false true = refl
-        or-false false = refl
-
-    pub pushed : IsJoined (record { first = first; last = last }) old new
-    pushed = record {
-      starts = record {
-        valid = valid_pushed;
-        last = λ h. (let e : length new - 2 ≡ length old = omega arith in rw e (omega arith));
-      };
-      set = pushed_set;
-      few = omega arith;
-    }
+        limit_e : e ≤ code_point_limit
+        limit_e = rw (was, get_or-append_seam xs e [] 0) at (starts.valid.within (length xs) 0 (omega (arith, one)))
 
   pub extended_at : (i m : ℕ) → i ≡ length old → 0 < i → first ≤ get_or old (i - 1) 0 → m ≡ max (get_or old (i - 1) 0) end
       → new ≡ set old (i - 1) m → IsJoined (record { first = first; last = last }) old new
-  extended_at i m e some_old near is made =
-      extended (omega arith) (rw (← e) near) (rw made (length-set old (i - 1) m))
-      (λ k h. rw made (get_or-set_other old (i - 1) k m 0 (λ q. omega arith)))
-      (rw (made, ← e) (get_or-set_same old (i - 1) m 0 (omega arith) ∙ is))
+  extended_at i m all some_old near most made =
+      let next : i - 1 + 1 ≡ length old = omega (arith, all, some_old) in
+      let l : i - 1 < length old = omega (arith, all, some_old) in
+      extended (take (i - 1) old) (get_or old (i - 1) 0) m
+      (sym (take-length old) ∙ ap (λ n. take n old) (sym next) ∙ take_more old (i - 1) 0 l)
+      (made ∙ sym (take-length (set old (i - 1) m)) ∙ ap (λ n. take n (set old (i - 1) m)) (length-set old (i - 1) m ∙ sym next)
+      ∙ take_more_set old (i - 1) m l)
+      near most
 
-  pub pushed_at : (0 < length old → get_or old (length old - 1) 0 < first) → new ≡ (old ++ first ∷ []) ++ end ∷ []
-      → IsJoined (record { first = first; last = last }) old new
-  pushed_at far made =
-      let one : length (old ++ first ∷ []) ≡ length old + 1 = length-append old (first ∷ []) in
-      pushed far (rw (made, length-append (old ++ first ∷ []) (end ∷ []), one) (omega arith))
-      (λ k h. rw (made, get_or_append_left (old ++ first ∷ []) (end ∷ []) 0 k (omega arith)) (get_or_append_left old (first ∷ []) 0 k h))
-      (rw (made, get_or_append_left (old ++ first ∷ []) (end ∷ []) 0 (length old) (omega arith)) (get_or-append_seam old first [] 0))
-      (rw (made, ← one) (get_or-append_seam (old ++ first ∷ []) end [] 0))
+  -- The range comes after the last range of the set.
+  module _ (far : 0 < length old → get_or old (length old - 1) 0 < first) (made : new ≡ (old ++ first ∷ []) ++ end ∷ []) where
+    one_more : length (old ++ first ∷ []) ≡ length old + 1
+    one_more = length-append old (first ∷ [])
+
+    two_more : length new ≡ length old + 2
+    two_more = ap length made ∙ length-append (old ++ first ∷ []) (end ∷ []) ∙ rw one_more (omega arith)
+
+    all_old : (c : ℕ) → first ≤ c → ends_up_to old c ≡ length old
+    all_old c h = up_to-last old c starts.valid.ascending (λ q. (let f = far q in omega (arith, f, h)))
+
+    pushed_set : Acts either old (in_range (record { first = first; last = last })) new
+    pushed_set c small = let v = starts.valid.even in rw made (elim (cases_lt c first) [
+      | inl h ↦
+          rw (before_new c h)
+          (ap is_odd (up_to-below (old ++ first ∷ []) end c (omega (arith, h, some)) ∙ up_to-below old first c h) ∙ or-false _)
+      | inr h ↦ rw (even (ends_up_to old c) (omega (arith, all_old c h, v))) (elim (cases_lt c end) [
+        | inl q ↦
+            odd _ (omega (arith, up_to-below (old ++ first ∷ []) end c q, up_to-above old first c h, all_old c h, v)) ∙ sym (in_new c h q)
+        | inr q ↦
+            even _ (omega (arith, up_to-above (old ++ first ∷ []) end c q, up_to-above old first c h, all_old c h, v))
+            ∙ sym (past_new c small q)
+      ])
+    ])
+
+    pub pushed_at : IsJoined (record { first = first; last = last }) old new
+    pushed_at = record {
+      starts = record {
+        valid = record {
+          even = let v = starts.valid.even in omega (arith, two_more, v);
+          ascending = rw made (rises-push (old ++ first ∷ []) end (rises-push old first starts.valid.ascending far)
+              (λ q. rw (one_more, less, get_or-append_seam old first [] 0) some));
+          within = rw made (All-append (λ b. b ≤ code_point_limit) (old ++ first ∷ []) (end ∷ [])
+              (All-append (λ b. b ≤ code_point_limit) old (first ∷ []) starts.valid.within (one first (omega (arith, some, bound))))
+              (one end (omega (arith, bound))));
+        };
+        last = λ h.
+            (let at : length new - 2 ≡ length old = omega (arith, two_more) in
+            rw (
+              at,
+              made,
+              get_or_append_left (old ++ first ∷ []) (end ∷ []) 0 (length old) (omega (arith, one_more)),
+              get_or-append_seam old first [] 0,
+            ) (omega arith));
+      };
+      set = pushed_set;
+      few = omega (arith, two_more);
+    }
+      where
+        less : length old + 1 - 1 ≡ length old
+        less = omega arith
+
+        one : (b : ℕ) → b ≤ code_point_limit → All (λ x. x ≤ code_point_limit) (b ∷ [])
+        one b h = All-cons (λ x. x ≤ code_point_limit) b [] h (All-nil (λ x. x ≤ code_point_limit))
 
 -- ---- ranges in the order of their first numbers
 -- The first i items, as ranges, are joined into a set.
@@ -257,10 +223,9 @@ pub record AreJoined {X : Type 0} (range : X → Interval) (items : List X) (i :
 module _ {X : Type 0} (range : X → Interval) (items : List X) where
   pub none_joined : AreJoined range items 0 []
   none_joined = record {
-    valid = valid_from [] refl (λ k h. absurd (omega arith)) (λ k h. absurd (omega arith));
+    valid = record { even = refl; ascending = λ k h. absurd (omega arith); within = All-nil (λ e. e ≤ code_point_limit) };
     starts = λ k d h l m. absurd (omega arith);
-    set = λ c h. holds_at [] 0 c (valid_from [] refl (λ k h. absurd (omega arith)) (λ k h. absurd (omega arith))) (omega arith)
-        (λ k. absurd (omega arith)) (λ k. absurd (omega arith));
+    set = λ c h. holds-nil c;
     few = omega arith;
   }
 

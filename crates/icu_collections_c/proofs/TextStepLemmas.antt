@@ -11,7 +11,7 @@ use Rattle.std.proofs.lemmas.Str.{IsCharBoundary-from_take, IsUtf8-append, IsUtf
 use Rattle.icu_frozen_sets.specs.TextFronts.{IsTextUpTo}
 use Rattle.icu_frozen_sets.proofs.CallerLemmas.{text_front}
 use Rattle.icu_char16trie.specs.Grammar.{IsTrieOf}
-use Rattle.icu_char16trie.specs.Matches.{HasCharsStepped, HasCharsValue, LongestWithin, front_units, in_bytes, match_at}
+use Rattle.icu_char16trie.specs.Matches.{LongestWithin, front_units, in_bytes, match_at}
 use Rattle.icu_char16trie.specs.Steps.{StepsAlong}
 use Rattle.icu_char16trie.specs.UnitMap.{UnitMap, value_of}
 use Rattle.icu_char16trie.specs.UnitPlaces.{At, HasPassed, value_at}
@@ -21,7 +21,7 @@ use Rattle.icu_collections_c.specs.Inside.TextSteps.{PassesCharacter, Stops, las
 use Rattle.icu_collections_c.specs.UnitPrefixes.{AreValued, bytes_before}
 use Rattle.icu_collections_c.specs.UnitTries.{EndsAtBoundary}
 use Rattle.icu_utf.proofs.CallerLemmas.{size_of}
-use Rattle.icu_collections_c.proofs.UnitPrefixLemmas.{AllValued, HasLooked, few-looked, looked_all_exact, looked_all_keys, looked_ends_exact, looked_ends_keys, looked_first, looked_next}
+use Rattle.icu_collections_c.proofs.UnitPrefixLemmas.{AllValued, HasAll, HasLooked, few-looked, looked_all, looked_ends, looked_first, looked_next}
 
 -- The characters of the longest prefix that is UTF-8.
 abbrev pub chars_of : List ℕ → List ℕ
@@ -131,9 +131,6 @@ module _ (units bytes : List ℕ) where
   abbrev all : List ℕ
   all = chars_of bytes
 
-  abbrev found_by : (ℕ → Option ℤ → Type 0) → (List (ℕ × ℤ) → Type 0) → Type 0
-  found_by HasValue Found = AllValued HasValue (bytes_before all) (length all) Found
-
   -- Before the first character.
   pub walked_first : (cursor : At) (Found : List (ℕ × ℤ) → Type 0) (v : Option ℤ) → cursor.units ≡ units → cursor.place ≡ Node 0
       → ((m : UnitMap) → IsTrieOf units m → HasPassed cursor m []) → v ≡ value_at cursor.units cursor.place
@@ -193,20 +190,12 @@ module _ (units bytes : List ℕ) where
           no_char bytes (text_front bytes).0 (text_front bytes).1 was.k was.within
           (subst (λ i. StartsWithNoChar (drop i bytes)) was.end_is none)
 
-      pub walked_exact : found_by (HasCharsStepped units all) Found
-      walked_exact = elim stops [
-        | inl ends ↦ looked_ends_exact units (front_units all) (bytes_before all) was.k cursor Found was.looked (length all) was.within
+      pub walked_all : HasAll units (front_units all) (bytes_before all) (length all) Found
+      walked_all = elim stops [
+        | inl ends ↦ looked_ends units (front_units all) (bytes_before all) was.k cursor Found was.looked (length all) was.within
             ends.exact ends.keys (units_more all was.k)
-        | inr none ↦ subst (λ j. AllValued (HasCharsStepped units all) (bytes_before all) j Found) (all_passed none)
-            (looked_all_exact units (front_units all) (bytes_before all) was.k cursor Found was.looked)
-      ]
-
-      pub walked_keys : (m : UnitMap) → IsTrieOf units m → found_by (HasCharsValue m all) Found
-      walked_keys m h = elim stops [
-        | inl ends ↦ looked_ends_keys units (front_units all) (bytes_before all) was.k cursor Found was.looked (length all) was.within
-            ends.exact ends.keys (units_more all was.k) m h
-        | inr none ↦ subst (λ j. AllValued (HasCharsValue m all) (bytes_before all) j Found) (all_passed none)
-            (looked_all_keys units (front_units all) (bytes_before all) was.k cursor Found was.looked m h)
+        | inr none ↦ subst (λ j. HasAll units (front_units all) (bytes_before all) j Found) (all_passed none)
+            (looked_all units (front_units all) (bytes_before all) was.k cursor Found was.looked)
       ]
 
 -- ---- the longest match

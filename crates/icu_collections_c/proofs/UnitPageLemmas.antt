@@ -1,8 +1,9 @@
 -- Pages of a listing, as they are gathered.
-use Rattle.std.proofs.Common.{◌≡◌, ◌↔◌, ◌∙◌, refl, sym, ap, subst, ℕ, ℤ, zero, suc, ◌+◌, ◌-◌, ◌<◌, ◌≤◌, min, ◌⊎◌, inl, inr, Bool, true, false, cond, ◌&&◌, nat_le, List, [], ◌∷◌, ◌++◌, length, take, drop, map, append-nil, append_assoc, length-append, arith}
+use Rattle.std.proofs.Common.{◌≡◌, ◌↔◌, ◌∙◌, refl, sym, ap, subst, ℕ, ℤ, suc, ◌+◌, ◌-◌, ◌<◌, ◌≤◌, min, ◌⊎◌, inl, inr, Bool, true, false, cond, ◌&&◌, nat_le, List, [], ◌∷◌, ◌++◌, length, take, drop, map, append-nil, append_assoc, length-append, arith}
 use Rattle.std.specs.Prelude.{nat_lt}
 use Rattle.std.proofs.lemmas.Bool.Decides.{nat_tests}
-use Rattle.std.proofs.lemmas.List.{take_all}
+use Rattle.std.proofs.Math.Seq.{drop-nil, take-append_seam}
+use Rattle.std.proofs.lemmas.List.{drop-drop, take_all}
 use Rattle.icu_char16trie.specs.LossyText.{key_text}
 use Rattle.icu_char16trie.specs.UnitMap.{UnitMap}
 use Rattle.icu_zerovec.specs.Buffers.{written}
@@ -18,22 +19,13 @@ Item = List ℕ × ℤ
 
 -- ---- what is left of a list
 
-drop-suc : {A : Type 0} (n : ℕ) (ys : List A) → drop 1 (drop n ys) ≡ drop (suc n) ys
-drop-suc zero ys = refl
-drop-suc (suc n) [] = refl
-drop-suc (suc n) (y ∷ ys) = drop-suc n ys
-
 -- The next one is passed.
 pub drop-next : {A : Type 0} (n next : ℕ) (xs rest : List A) (x : A) → next ≡ suc n → drop n xs ≡ x ∷ rest → drop next xs ≡ rest
-drop-next n next xs rest x is e = ap (λ k. drop k xs) is ∙ sym (drop-suc n xs) ∙ ap (drop 1) e
+drop-next n next xs rest x is e = sym (drop-drop 1 n xs ∙ ap (λ k. drop k xs) (omega (arith, is))) ∙ ap (drop 1) e
 
 -- If nothing is left, nothing is left further on.
 pub drop-past : {A : Type 0} (xs : List A) (i n : ℕ) → drop i xs ≡ [] → i ≤ n → drop n xs ≡ []
-drop-past [] i zero e l = refl
-drop-past [] i (suc n) e l = refl
-drop-past (x ∷ xs) zero n e l = absurd (cc)
-drop-past (x ∷ xs) (suc i) zero e l = absurd (omega (arith, l))
-drop-past (x ∷ xs) (suc i) (suc n) e l = drop-past xs i n e (omega (arith, l))
+drop-past xs i n e l = sym (drop-drop (n - i) i xs ∙ ap (λ k. drop k xs) (omega (arith, l))) ∙ ap (drop (n - i)) e ∙ drop-nil (n - i)
 
 -- ---- one more item
 
@@ -81,10 +73,6 @@ fitting-front words bytes (x ∷ items) e es l m h =
     less (inl w) long = inl (omega (arith, w))
     less (inr b) long = inr (omega (arith, b, long, m))
 
-take-front : {A : Type 0} (xs ys : List A) → take (length xs) (xs ++ ys) ≡ xs
-take-front [] ys = refl
-take-front (x ∷ xs) ys = ap (λ zs. x ∷ zs) (take-front xs ys)
-
 module _ (words bytes : ℕ) (items : List Item) (p : Page) (held : Holds items p) (few : length items ≤ words)
     (short : length (texts_of items) ≤ bytes) where
   page_of : (all : List Item) → fitting words bytes all ≡ items → p.size ≡ length (texts_of (take (min (length items + 1) words) all))
@@ -105,7 +93,7 @@ module _ (words bytes : ℕ) (items : List Item) (p : Page) (held : Holds items 
   page_full [] many size = subst (λ es. IsPage es words bytes p) (sym (append-nil items)) (page_ended size)
   page_full (e ∷ es) many size =
       page_of (items ++ e ∷ es) (fitting-front words bytes items e es few short (inl many))
-      (size ∙ ap (λ zs. length (texts_of zs)) (sym (ap (λ n. take n (items ++ e ∷ es)) all ∙ take-front items (e ∷ es))))
+      (size ∙ ap (λ zs. length (texts_of zs)) (sym (ap (λ n. take n (items ++ e ∷ es)) all ∙ take-append_seam items (e ∷ es))))
     where
       all : min (length items + 1) words ≡ length items
       all = omega (arith, many)
@@ -117,7 +105,7 @@ module _ (words bytes : ℕ) (items : List Item) (p : Page) (held : Holds items 
       page_of (items ++ e ∷ es) (fitting-front words bytes items e es few short (inr large))
       (size ∙ sym (ap (λ n. length (texts_of (take n (items ++ e ∷ es)))) one
       ∙ ap (λ zs. length (texts_of zs)) (ap (take (length (items ++ e ∷ []))) (sym (append_assoc items (e ∷ []) es))
-      ∙ take-front (items ++ e ∷ []) es)
+      ∙ take-append_seam (items ++ e ∷ []) es)
       ∙ ap length (texts-push items e) ∙ length-append (texts_of items) e.0))
     where
       one : min (length items + 1) words ≡ length (items ++ e ∷ [])
@@ -136,11 +124,6 @@ next_shown prefix text key v m left others items e is same =
 -- It is visited.
 pub next_visited : (items : List Item) (e : Item) (all others : List Item) → all ≡ items ++ (e ∷ others) → all ≡ (items ++ e ∷ []) ++ others
 next_visited items e all others is = is ∙ sym (append_assoc items (e ∷ []) others)
-
-pub drop-map : {A B : Type 0} (f : A → B) (n : ℕ) (xs : List A) → drop n (map f xs) ≡ map f (drop n xs)
-drop-map f zero xs = refl
-drop-map f (suc n) [] = refl
-drop-map f (suc n) (x ∷ xs) = drop-map f n xs
 
 pub length-words : (start : ℕ) (items : List Item) → length (words_from start items) ≡ length items
 length-words start [] = refl

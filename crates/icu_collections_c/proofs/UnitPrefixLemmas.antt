@@ -1,9 +1,7 @@
 -- The prefixes of a text that have a value, as a cursor passes the text.
-use Rattle.std.proofs.Common.{◌≡◌, ◌∙◌, refl, sym, ap, subst, ℕ, ℤ, zero, suc, ◌+◌, ◌-◌, ◌<◌, ◌≤◌, Bool, true, false, not, List, [], ◌∷◌, ◌++◌, Option, Some, None, length, take, drop, append-nil, length-append, arith, inl, inr}
+use Rattle.std.proofs.Common.{◌≡◌, ◌∙◌, refl, sym, ap, subst, ℕ, ℤ, zero, suc, ◌+◌, ◌-◌, ◌<◌, ◌≤◌, Bool, true, false, not, List, [], ◌∷◌, ◌++◌, Option, Some, None, length, append-nil, length-append, arith}
 use Rattle.std.specs.Prelude.{map}
-use Rattle.std.proofs.Math.ListN.{set}
-use Rattle.std.proofs.lemmas.Bool.{cases_lt}
-use Rattle.std.proofs.lemmas.List.{drop_all, length-drop, length-map, length-take-le, map-append, take_all}
+use Rattle.std.proofs.lemmas.List.{map-append}
 use Rattle.icu_char16trie.specs.Grammar.{IsTrieOf}
 use Rattle.icu_char16trie.specs.Matches.{HasValueAlong, match_at}
 use Rattle.icu_char16trie.specs.Steps.{StepsAlong}
@@ -12,93 +10,23 @@ use Rattle.icu_char16trie.specs.UnitPlaces.{At, HasPassed, is_empty_at, value_at
 use Rattle.icu_char16trie.specs.declared.place.Place.TheVariants.{Node}
 use Rattle.icu_char16trie.proofs.CallerLemmas.{none_along, none_beyond}
 use Rattle.icu_zerovec.specs.Buffers.{written}
+use Rattle.icu_collections_c.proofs.BufferLemmas.{written-none}
 use Rattle.icu_collections_c.specs.UnitPrefixes.{AreValued, HasFound, prefix_of}
 use Rattle.icu_collections_c.specs.declared.unit_prefixes.Prefix.{Prefix}
 
--- ---- one more item in a buffer
+-- ---- prefixes in a buffer
 
-set-front : {A : Type 0} (xs ys : List A) (y : A) → 0 < length ys → set (xs ++ ys) (length xs) y ≡ (xs ++ y ∷ []) ++ drop 1 ys
-set-front [] [] y l = absurd (omega (arith, l))
-set-front [] (z ∷ ys) y l = refl
-set-front (x ∷ xs) ys y l = ap (λ zs. x ∷ zs) (set-front xs ys y l)
-
-drop-suc : {A : Type 0} (n : ℕ) (ys : List A) → drop 1 (drop n ys) ≡ drop (suc n) ys
-drop-suc zero ys = refl
-drop-suc (suc n) [] = refl
-drop-suc (suc n) (y ∷ ys) = drop-suc n ys
-
--- A further item is written if it fits.
-pub written-more : {A : Type 0} (xs old : List A) (y : A) → length xs < length old
-    → set (written xs old) (length xs) y ≡ written (xs ++ y ∷ []) old
-written-more xs old y l =
-    let fits : take (length old) xs ≡ xs = take_all (length old) xs (omega (arith, l)) in
-    let long = length-append xs (y ∷ []) in
-    let more : take (length old) (xs ++ y ∷ []) ≡ xs ++ y ∷ [] = take_all (length old) (xs ++ y ∷ []) (omega (arith, l, long)) in
-    let some : 0 < length (drop (length xs) old) = omega (arith, l, length-drop (length xs) old) in
-    let count : suc (length xs) ≡ length (xs ++ y ∷ []) = omega (arith, long) in
-    ap (λ z. set (z ++ drop (length xs) old) (length xs) y) fits
-    ∙ set-front xs (drop (length xs) old) y some
-    ∙ ap (λ z. (xs ++ y ∷ []) ++ z) (drop-suc (length xs) old ∙ ap (λ k. drop k old) count)
-    ∙ ap (λ z. z ++ drop (length (xs ++ y ∷ [])) old) (sym more)
-
-take-front : {A : Type 0} (n : ℕ) (xs ys : List A) → n ≤ length xs → take n (xs ++ ys) ≡ take n xs
-take-front zero xs ys l = refl
-take-front (suc n) [] ys l = absurd (omega (arith, l))
-take-front (suc n) (x ∷ xs) ys l = ap (λ zs. x ∷ zs) (take-front n xs ys (omega (arith, l)))
-
--- If the buffer is full, nothing more is written.
-pub written-full : {A : Type 0} (xs old : List A) (y : A) → length old ≤ length xs → written (xs ++ y ∷ []) old ≡ written xs old
-written-full xs old y l =
-    let long = length-append xs (y ∷ []) in
-    let none : drop (length xs) old ≡ [] = drop_all (length xs) old l in
-    let none' : drop (length (xs ++ y ∷ [])) old ≡ [] = drop_all (length (xs ++ y ∷ [])) old (omega (arith, l, long)) in
-    ap (λ z. z ++ drop (length (xs ++ y ∷ [])) old) (take-front (length old) xs (y ∷ []) l)
-    ∙ ap (λ z. take (length old) xs ++ z) (none' ∙ sym none)
-
-length-written : {A : Type 0} (xs old : List A) → length (written xs old) ≡ length old
-length-written xs old = elim (cases_lt (length xs) (length old)) [
-  | inl h ↦
-      ap (λ z. length (z ++ drop (length xs) old)) (take_all (length old) xs (omega (arith, h)))
-      ∙ length-append xs (drop (length xs) old) ∙ omega (arith, h, length-drop (length xs) old)
-  | inr h ↦
-      ap (λ z. length (take (length old) xs ++ z)) (drop_all (length xs) old (omega (arith, h)))
-      ∙ ap length (append-nil (take (length old) xs)) ∙ length-take-le (length old) xs (omega (arith, h))
-]
-
-module _ (xs : List (ℕ × ℤ)) (all old new : List Prefix) (n : ℕ) (x : ℕ × ℤ) (was : HasFound xs all old n) where
-  as_many : length (map prefix_of xs) ≡ n
-  as_many = length-map xs prefix_of ∙ sym was.count
-
-  room : length old ≡ length all
-  room = ap length was.buffer ∙ length-written (map prefix_of xs) all
-
-  pushed : map prefix_of (xs ++ x ∷ []) ≡ map prefix_of xs ++ prefix_of x ∷ []
-  pushed = map-append prefix_of xs (x ∷ [])
-
-  -- One more prefix was found.
-  pub HasFound-more : (n < length old → new ≡ set old n (prefix_of x)) → (length old ≤ n → new ≡ old)
-      → HasFound (xs ++ x ∷ []) all new (n + 1)
-  HasFound-more within past = record {
-    count = let long = length-append xs (x ∷ []) in omega (arith, long, was.count);
-    buffer = elim (cases_lt n (length old)) [
-      | inl h ↦
-          within h ∙ ap (λ z. set z n (prefix_of x)) was.buffer
-          ∙ ap (λ k. set (written (map prefix_of xs) all) k (prefix_of x)) (sym as_many)
-          ∙ written-more (map prefix_of xs) all (prefix_of x) (omega (arith, h, as_many, room))
-          ∙ ap (λ z. written z all) (sym pushed)
-      | inr h ↦
-          past h ∙ was.buffer ∙ sym (written-full (map prefix_of xs) all (prefix_of x) (omega (arith, h, as_many, room)))
-          ∙ ap (λ z. written z all) (sym pushed)
-    ];
-  }
+-- One more prefix was found.
+pub HasFound-more : (xs : List (ℕ × ℤ)) (all old new : List Prefix) (n : ℕ) (x : ℕ × ℤ) → HasFound xs all old n
+    → new ≡ written (map prefix_of xs ++ prefix_of x ∷ []) all → HasFound (xs ++ x ∷ []) all new (n + 1)
+HasFound-more xs all old new n x was is = record {
+  count = omega (arith, length-append xs (x ∷ []), was.count);
+  buffer = is ∙ ap (λ z. written z all) (sym (map-append prefix_of xs (x ∷ [])));
+}
 
 -- Before anything is found.
 pub HasFound-none : (all : List Prefix) → HasFound [] all all 0
-HasFound-none all = record { count = refl; buffer = sym (none all) }
-  where
-    none : (old : List Prefix) → written [] old ≡ old
-    none [] = refl
-    none (x ∷ xs) = refl
+HasFound-none all = record { count = refl; buffer = written-none all }
 
 -- ---- prefixes, one after another
 
@@ -147,6 +75,11 @@ pub record HasLooked (units : List ℕ) (front : ℕ → List ℕ) (size : ℕ �
   pub exact : AreValued (λ j v. HasValueAlong units (front j) v) size (suc k) xs
   pub keys : (m : UnitMap) → IsTrieOf units m → AreValued (λ j v. value_of m (front j) ≡ v) size (suc k) xs
   pub are : Found xs
+
+-- Found holds for all prefixes with a value of a text of `most` items: by the steps, and by each map.
+pub record HasAll (units : List ℕ) (front : ℕ → List ℕ) (size : ℕ → ℕ) (most : ℕ) (Found : List (ℕ × ℤ) → Type 0) : Type 0 where
+  pub exact : AllValued (λ j v. HasValueAlong units (front j) v) size most Found
+  pub keys : (m : UnitMap) → IsTrieOf units m → AllValued (λ j v. value_of m (front j) ≡ v) size most Found
 
 -- There are no more of them than prefixes.
 pub few-looked : {units : List ℕ} {front : ℕ → List ℕ} {size : ℕ → ℕ} {k : ℕ} {cursor : At} {Found : List (ℕ × ℤ) → Type 0}
@@ -206,42 +139,30 @@ module _ (units : List ℕ) (front : ℕ → List ℕ) (size : ℕ → ℕ) wher
 
   -- All items are passed.
   module _ (k : ℕ) (cursor : At) (Found : List (ℕ × ℤ) → Type 0) (was : HasLooked units front size k cursor Found) where
-    pub looked_all_exact : AllValued (λ j v. HasValueAlong units (front j) v) size k Found
-    looked_all_exact = (was.xs, was.exact, was.are)
-
-    pub looked_all_keys : (m : UnitMap) → IsTrieOf units m → AllValued (λ j v. value_of m (front j) ≡ v) size k Found
-    looked_all_keys m h = (was.xs, was.keys m h, was.are)
+    pub looked_all : HasAll units front size k Found
+    looked_all = record { exact = (was.xs, was.exact, was.are); keys = λ m h. (was.xs, was.keys m h, was.are) }
 
     -- No key continues after the items so far.
     module _ (most : ℕ) (within : k ≤ most) (ends : is_empty_at cursor.units cursor.place ≡ true)
         (none : (m : UnitMap) (w : List ℕ) → HasPassed cursor m w → goes_on m w ≡ false)
         (longer : (j : ℕ) → k < j → j ≤ most → (u : ℕ) × (more : List ℕ) × (front j ≡ front k ++ u ∷ more)) where
-      all_of : suc k + (most - k) ≡ suc most
-      all_of = omega (arith, within)
+      no_longer : (P : ℕ → Option ℤ → Type 0) → AreValued P size (suc k) was.xs
+          → ((j : ℕ) → (u : ℕ) × (more : List ℕ) × (front j ≡ front k ++ u ∷ more) → P j None) → AllValued P size most Found
+      no_longer P valued step =
+          let all : suc k + (most - k) ≡ suc most = omega (arith, within) in (
+            was.xs,
+            subst (λ i. AreValued P size i was.xs) all (AreValued-none P size (suc k) (most - k) was.xs valued
+                (λ j a b. step j (longer j (omega (arith, a)) (omega (arith, b, within))))),
+            was.are,
+          )
 
-      pub looked_ends_exact : AllValued (λ j v. HasValueAlong units (front j) v) size most Found
-      looked_ends_exact = (
-        was.xs,
-        subst (λ i. AreValued (λ j v. HasValueAlong units (front j) v) size i was.xs) all_of
-            (AreValued-none (λ j v. HasValueAlong units (front j) v) size (suc k) (most - k) was.xs was.exact
-            (λ j a b. step j (longer j (omega (arith, a)) (omega (arith, b, within))))),
-        was.are,
-      )
-        where
-          step : (j : ℕ) → (u : ℕ) × (more : List ℕ) × (front j ≡ front k ++ u ∷ more) → HasValueAlong units (front j) None
-          step j more = rw more.2 (none_along units (front k) cursor.place more.0 more.1 was.steps (rw was.units_are at ends))
-
-      pub looked_ends_keys : (m : UnitMap) → IsTrieOf units m → AllValued (λ j v. value_of m (front j) ≡ v) size most Found
-      looked_ends_keys m h = (
-        was.xs,
-        subst (λ i. AreValued (λ j v. value_of m (front j) ≡ v) size i was.xs) all_of
-            (AreValued-none (λ j v. value_of m (front j) ≡ v) size (suc k) (most - k) was.xs (was.keys m h)
-            (λ j a b. step j (longer j (omega (arith, a)) (omega (arith, b, within))))),
-        was.are,
-      )
-        where
-          step : (j : ℕ) → (u : ℕ) × (more : List ℕ) × (front j ≡ front k ++ u ∷ more) → value_of m (front j) ≡ None
-          step j more = ap (value_of m) more.2 ∙ none_beyond m (front k) more.0 more.1 (none m (front k) (was.after m h))
+      pub looked_ends : HasAll units front size most Found
+      looked_ends = record {
+        exact = no_longer (λ j v. HasValueAlong units (front j) v) was.exact
+            (λ j more. rw more.2 (none_along units (front k) cursor.place more.0 more.1 was.steps (rw was.units_are at ends)));
+        keys = λ m h. no_longer (λ j v. value_of m (front j) ≡ v) (was.keys m h)
+            (λ j more. ap (value_of m) more.2 ∙ none_beyond m (front k) more.0 more.1 (none m (front k) (was.after m h)));
+      }
 
 pub no_more : (b : Bool) → not b ≡ true → b ≡ false
 no_more true e = cc

@@ -1,16 +1,12 @@
 //! The ranges of a trie over bytes, and whether the trie is coherent.
-ghost use Rattle.std.specs.Prelude.{◌≡◌, ◌<◌, ◌↔◌, IsTrue, Some};
+ghost use Rattle.std.specs.Prelude.{◌≡◌, ◌↔◌, IsTrue, Some};
 ghost use Rattle.icu_trie.specs.Ranges.{IsCoherentTrie};
 ghost use Rattle.icu_collections_c.specs.BytesTrie.{parts_in, parts_of, value_width, fitting_in};
 ghost use Rattle.icu_collections_c.specs.Ranges.{GivesRange, GivesRanges, range_of};
 
-use crate::cells::{ByteCells, UnsignedValue, is_coherent_in, walk_in};
+use crate::cells::{UnsignedValue, is_coherent_in, walk_in};
 use crate::tries::{Trie, header_of};
-use icu_trie_core::cells::Steps;
 use icu_trie_core::range::CodePointMapRange;
-use icu_trie_core::walk::walk;
-use std::marker::{Brand, PhantomData};
-use std::sync::ledger::{Blank, Ledger};
 
 /// The code points from `first` to `last`, both included, and their value.
 #[repr(C)]
@@ -55,41 +51,6 @@ fn range_in<T: UnsignedValue>(trie: &Trie<'_>, c: u32) -> Range
     }
 }
 
-/// `write_ranges`. Header and cells are made once for all ranges.
-///
-/// # Contract
-/// It counts its reads in the ledger of `blank`.
-#[inline(always)]
-fn write_ranges_counted<T: UnsignedValue, L: Ledger>(
-    trie: &Trie<'_>,
-    c: u32,
-    ranges: &mut [Range],
-    blank: Blank,
-) -> usize
-    requires name { blank.name ≡ L.name }
-    requires parts { blank.parts ≡ L.parts }
-    requires some { 0 < blank.parts }
-    ensures { GivesRanges T.of_number T.number (parts_in T.unpack T.WIDTH trie.now) c ranges.old
-        ranges.new result }
-{
-    let header = header_of(trie);
-    let mut cells = ByteCells::<T, L> {
-        index: trie.index,
-        values: trie.values,
-        of: PhantomData,
-        reads: Steps::new(blank),
-    };
-    let mut next = c;
-    for i in 0..ranges.len() {
-        let Some(range) = walk(&header, &mut cells, next) else {
-            return i;
-        };
-        ranges[i] = told(&range);
-        next = *range.range.end() + 1;
-    }
-    ranges.len()
-}
-
 /// Writes the ranges from `c` on in a trie with values of type `T` to the start of a buffer, as
 /// many as there are and as fit. Returns how many it wrote.
 #[inline(always)]
@@ -97,7 +58,17 @@ fn write_ranges<T: UnsignedValue>(trie: &Trie<'_>, c: u32, ranges: &mut [Range])
     ensures { GivesRanges T.of_number T.number (parts_in T.unpack T.WIDTH trie.now) c ranges.old
         ranges.new result }
 {
-    write_ranges_counted::<T, Brand>(trie, c, ranges, Blank::new(1))
+    let header = header_of(trie);
+    let (index, values) = (trie.index, trie.values);
+    let mut next = c;
+    for i in 0..ranges.len() {
+        let Some(range) = walk_in::<T>(&header, index, values, next) else {
+            return i;
+        };
+        ranges[i] = told(&range);
+        next = *range.range.end() + 1;
+    }
+    ranges.len()
 }
 
 /// Returns the range of one value that starts at the code point `c`. In a coherent trie it is the

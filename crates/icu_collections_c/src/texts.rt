@@ -1,5 +1,5 @@
 //! The values of the characters of a UTF-8 text, and of the code points of 16-bit units.
-ghost use Rattle.std.specs.Prelude.{◌≡◌, ℕ, pos, ◌<◌, ◌≤◌, length, map, slice_get, slice_set, Some, unwrap_or, ⊤};
+ghost use Rattle.std.specs.Prelude.{◌≡◌, ℕ, pos, ◌<◌, ◌≤◌, length, map, slice_get, Some, unwrap_or, ⊤};
 ghost use Rattle.std.specs.Str.{IsUtf8, chars};
 ghost use Rattle.icu_zerovec.specs.Cells.{values_of};
 ghost use Rattle.icu_trie_core.specs.FastIndex.{fast_index_len};
@@ -12,6 +12,7 @@ ghost use Rattle.icu_collections_c.specs.BytesTrie.{cells_of, header_of, parts_i
 ghost use Rattle.icu_collections_c.specs.CopiedText.{IsCopiedText, number_of_part};
 ghost use Rattle.icu_collections_c.specs.Inside.TextCells.{parts_from};
 
+use crate::buffers::put;
 use crate::cells::{UnsignedValue, count_of, last_value, value_at, value_there};
 use crate::error::Error;
 use crate::tries::{Trie, header_of, value_of};
@@ -22,17 +23,6 @@ use icu_trie_text::part_values::PartValues;
 use icu_utf::first_utf16::first_code_point;
 use icu_zerovec::CODE_POINT_LIMIT;
 use std::alloc::AllocError;
-
-/// Writes the value at index `i` if the slice has that index.
-#[inline(always)]
-fn put<T: UnsignedValue>(values: &mut [T], i: usize, value: T)
-    ensures within { i < length values.old → values.new ≡ slice_set values.old i value }
-    ensures past { length values.old ≤ i → values.new ≡ values.old }
-{
-    if i < values.len() {
-        values[i] = value;
-    }
-}
 
 /// The values of a trie in bytes, for the parts of a text.
 struct TextValues<'a, T: UnsignedValue> {

@@ -1,5 +1,5 @@
 //! All keys of a unit trie that are prefixes of a text.
-ghost use Rattle.std.specs.Prelude.{◌≡◌, ℕ, ℤ, ◌+◌, ◌<◌, ◌≤◌, ◌^◌, ◌++◌, List, length, slice_set, take};
+ghost use Rattle.std.specs.Prelude.{◌≡◌, ℕ, ℤ, ◌+◌, ◌<◌, ◌^◌, ◌++◌, List, length, take};
 ghost use Rattle.icu_char16trie.specs.Grammar.{IsTrieOf};
 ghost use Rattle.icu_char16trie.specs.Matches.{HasCharsStepped, HasCharsValue, HasFrontStepped, HasFrontValue, match_at};
 ghost use Rattle.icu_char16trie.specs.UnitMap.{UnitMap};
@@ -8,6 +8,7 @@ ghost use Rattle.icu_collections_c.specs.UnitTries.{units_of};
 ghost use Rattle.icu_collections_c.specs.declared.unit_prefixes.Prefix.{Prefix};
 ghost use Rattle.icu_frozen_sets.specs.TextFronts.{IsTextUpTo};
 
+use crate::buffers;
 use crate::error::Error;
 use crate::text_steps::{pass_character, starts_ill_formed};
 use crate::units::trie_in;
@@ -24,17 +25,6 @@ pub struct Prefix {
     pub value: i32,
 }
 
-/// Writes a prefix at index `i` if the slice has that index.
-#[inline(always)]
-fn write_at(found: &mut [Prefix], i: usize, prefix: Prefix)
-    ensures within { i < length found.old → found.new ≡ slice_set found.old i prefix }
-    ensures past { length found.old ≤ i → found.new ≡ found.old }
-{
-    if i < found.len() {
-        found[i] = prefix;
-    }
-}
-
 /// Writes a prefix to index `count` if it has a value and fits. Returns how many prefixes with a
 /// value there are then.
 #[inline(always)]
@@ -46,7 +36,7 @@ fn put(found: &mut [Prefix], count: usize, length: usize, value: Option<i32>) ->
     let Some(value) = value else {
         return count;
     };
-    write_at(found, count, Prefix { length, value });
+    buffers::put(found, count, Prefix { length, value });
     count + 1
 }
 

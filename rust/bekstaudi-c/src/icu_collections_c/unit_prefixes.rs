@@ -1,5 +1,6 @@
 //! All keys of a unit trie that are prefixes of a text.
 
+use crate::icu_collections_c::buffers;
 use crate::icu_collections_c::error::Error;
 use crate::icu_collections_c::text_steps::{pass_character, starts_ill_formed};
 use crate::icu_collections_c::units::trie_in;
@@ -17,14 +18,6 @@ pub struct Prefix {
     pub value: i32,
 }
 
-/// Writes a prefix at index `i` if the slice has that index.
-#[inline(always)]
-fn write_at(found: &mut [Prefix], i: usize, prefix: Prefix) {
-    if i < found.len() {
-        found[i] = prefix;
-    }
-}
-
 /// Writes a prefix to index `count` if it has a value and fits. Returns how many prefixes with a
 /// value there are then.
 #[inline(always)]
@@ -32,7 +25,7 @@ fn put(found: &mut [Prefix], count: usize, length: usize, value: Option<i32>) ->
     let Some(value) = value else {
         return count;
     };
-    write_at(found, count, Prefix { length, value });
+    buffers::put(found, count, Prefix { length, value });
     count + 1
 }
 

@@ -10,7 +10,8 @@ use Rattle.icu_char16trie.specs.UnitMap.{UnitMap, after_all}
 use Rattle.icu_collections_c.specs.Inside.Pages.{IsPage}
 use Rattle.icu_collections_c.specs.UnitPages.{below, shown_below}
 use Rattle.icu_collections_c.specs.UnitTries.{units_of}
-use Rattle.icu_collections_c.proofs.UnitPageLemmas.{drop-map, page_ended}
+use Rattle.std.proofs.lemmas.List.{drop-map}
+use Rattle.icu_collections_c.proofs.UnitPageLemmas.{page_ended}
 use Rattle.icu_collections_c.proofs.unit_pages.page_below.Goals as goal
 
 weaker : {A E : Type 0} (P Q : A → Type 0) (r : Result A E) → ((x : A) → P x → Q x) → IfOk r P → IfOk r Q

@@ -1,15 +1,14 @@
-use Rattle.std.proofs.Common.{◌≡◌, ◌∙◌, ◌+◌, [], ℕ, List, refl, sym, subst, true, false, length, take, get_or, arith}
+use Rattle.std.proofs.Common.{◌≡◌, ◌∙◌, ◌+◌, [], ℕ, ℤ, List, refl, sym, subst, true, false, length, take, get_or, arith}
 use Rattle.std.proofs.lemmas.List.{take_more}
-use Rattle.icu_char16trie.specs.Matches.{HasFrontStepped, HasFrontValue}
 use Rattle.icu_char16trie.specs.Steps.{StepsTo}
 use Rattle.icu_char16trie.specs.UnitMap.{UnitMap, goes_on}
 use Rattle.icu_char16trie.specs.UnitPlaces.{HasPassed, is_empty_at}
 use Rattle.icu_char16trie.specs.declared.place.Place.TheVariants.{Node}
 use Rattle.icu_char16trie.proofs.CallerLemmas.{front_more}
-use Rattle.icu_collections_c.specs.UnitPrefixes.{GivesPrefixes, HasFound}
+use Rattle.icu_collections_c.specs.UnitPrefixes.{HasFound}
 use Rattle.icu_collections_c.specs.UnitTries.{units_of}
 use Rattle.icu_collections_c.proofs.UnitLemmas.{along_push}
-use Rattle.icu_collections_c.proofs.UnitPrefixLemmas.{HasFound-none, few-looked, looked_all_exact, looked_all_keys, looked_ends_exact, looked_ends_keys, looked_first, looked_next, no_more}
+use Rattle.icu_collections_c.proofs.UnitPrefixLemmas.{HasAll, HasFound-none, few-looked, looked_all, looked_ends, looked_first, looked_next, no_more}
 use Rattle.icu_collections_c.proofs.unit_prefixes.bks_units_prefixes.Goals as goal
 
 pub loop-i-init : goal.loop-i-init
@@ -57,27 +56,17 @@ returns-then-is_empty c =
     let ends : is_empty_at c.loop-i.cursor.units c.loop-i.cursor.place ≡ true = sym c.is_empty.ensures.exact ∙ c.if-is_empty.true in
     let none : (m : UnitMap) (w : List ℕ) → HasPassed c.loop-i.cursor m w → goes_on m w ≡ false =
     λ m w h. no_more _ (sym (c.is_empty.ensures.empty m w h) ∙ c.if-is_empty.true) in
-    record {
-      keys = looked_ends_keys (units_of c.args.units.now) (λ k. take k text) (λ k. k) i c.loop-i.cursor
-          (λ xs. HasFound xs c.args.found.now c.loop-i.found c.loop-i.count) was (length text) c.loop-i.invariant.within ends none
-          (front_more text i);
-      exact = looked_ends_exact (units_of c.args.units.now) (λ k. take k text) (λ k. k) i c.loop-i.cursor
-          (λ xs. HasFound xs c.args.found.now c.loop-i.found c.loop-i.count) was (length text) c.loop-i.invariant.within ends none
-          (front_more text i);
-    }
+    let all = looked_ends (units_of c.args.units.now) (λ k. take k text) (λ k. k) i c.loop-i.cursor
+    (λ xs. HasFound xs c.args.found.now c.loop-i.found c.loop-i.count) was (length text) c.loop-i.invariant.within ends none
+    (front_more text i) in
+    record { keys = all.keys; exact = all.exact }
 
 pub returns : goal.returns
 returns c =
     let was = c.loop-i.invariant.looked in
     let text = c.args.text.now in
     let over : c.loop-i.i ≡ length text = omega (arith, c.loop-i-test.false, c.loop-i.invariant.within) in
-    record {
-      keys = λ m h. subst (λ k. GivesPrefixes (HasFrontValue m text) (λ j. j) k c.args.found.now c.loop-i.found c.loop-i.count) over
-          (looked_all_keys (units_of c.args.units.now) (λ k. take k text) (λ k. k) c.loop-i.i c.loop-i.cursor
-          (λ xs. HasFound xs c.args.found.now c.loop-i.found c.loop-i.count) was m h);
-      exact = subst
-          (λ k. GivesPrefixes (HasFrontStepped (units_of c.args.units.now) text)
-          (λ j. j) k c.args.found.now c.loop-i.found c.loop-i.count) over
-          (looked_all_exact (units_of c.args.units.now) (λ k. take k text) (λ k. k) c.loop-i.i c.loop-i.cursor
-          (λ xs. HasFound xs c.args.found.now c.loop-i.found c.loop-i.count) was);
-    }
+    let Found : List (ℕ × ℤ) → Type 0 = λ xs. HasFound xs c.args.found.now c.loop-i.found c.loop-i.count in
+    let all = subst (λ k. HasAll (units_of c.args.units.now) (λ j. take j text) (λ j. j) k Found) over
+    (looked_all (units_of c.args.units.now) (λ k. take k text) (λ k. k) c.loop-i.i c.loop-i.cursor Found was) in
+    record { keys = all.keys; exact = all.exact }

@@ -2,7 +2,7 @@ use Rattle.std.proofs.Common.{◌∙◌, ◌<◌, ◌^◌, List, [], arith, leng
 use Rattle.std.proofs.lemmas.Str.{len_utf8_bounds}
 use Rattle.icu_collections_c.specs.UnitPrefixes.{HasFound}
 use Rattle.icu_collections_c.specs.UnitTries.{units_of}
-use Rattle.icu_collections_c.proofs.TextStepLemmas.{few_found, walked_exact, walked_first, walked_keys, walked_next}
+use Rattle.icu_collections_c.proofs.TextStepLemmas.{few_found, walked_all, walked_first, walked_next}
 use Rattle.icu_frozen_sets.proofs.CallerLemmas.{text_front}
 use Rattle.icu_collections_c.proofs.UnitPrefixLemmas.{HasFound-none}
 use Rattle.icu_collections_c.proofs.unit_prefixes.prefixes_in.Goals as goal
@@ -48,18 +48,6 @@ returns c =
     let units : List ℕ = units_of c.args.units.now in
     let bytes : List ℕ = c.args.bytes.now in
     let text = text_front bytes in
-    let was = c.loop-next.invariant.walked in
-    record {
-      keys = λ m h. (
-        text.0,
-        text.1,
-        walked_keys units bytes c.loop-next.end c.loop-next.cursor
-            (λ xs. HasFound xs c.args.found.now c.loop-next.found c.loop-next.count) was c.in_default.ensures m h,
-      );
-      exact = (
-        text.0,
-        text.1,
-        walked_exact units bytes c.loop-next.end c.loop-next.cursor
-            (λ xs. HasFound xs c.args.found.now c.loop-next.found c.loop-next.count) was c.in_default.ensures,
-      );
-    }
+    let all = walked_all units bytes c.loop-next.end c.loop-next.cursor
+    (λ xs. HasFound xs c.args.found.now c.loop-next.found c.loop-next.count) c.loop-next.invariant.walked c.in_default.ensures in
+    record { keys = λ m h. (text.0, text.1, all.keys m h); exact = (text.0, text.1, all.exact) }

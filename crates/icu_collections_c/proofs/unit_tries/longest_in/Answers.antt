@@ -4,7 +4,7 @@ use Rattle.std.proofs.lemmas.Str.{len_utf8_bounds}
 use Rattle.icu_char16trie.specs.Matches.{HasCharsStepped, HasCharsValue, match_at}
 use Rattle.icu_collections_c.specs.Inside.TextSteps.{last_of}
 use Rattle.icu_collections_c.specs.UnitTries.{EndsAtBoundary, units_of}
-use Rattle.icu_collections_c.proofs.TextStepLemmas.{chars_of, last_then, longest_ends, longest_of, walked_exact, walked_first, walked_keys, walked_next}
+use Rattle.icu_collections_c.proofs.TextStepLemmas.{chars_of, last_then, longest_ends, longest_of, walked_all, walked_first, walked_next}
 use Rattle.icu_frozen_sets.proofs.CallerLemmas.{text_front}
 use Rattle.icu_collections_c.proofs.unit_tries.longest_in.Goals as goal
 
@@ -42,17 +42,11 @@ returns c =
     let bytes : List ℕ = c.args.bytes.now in
     let text = text_front bytes in
     let last = c.loop-next.found in
-    let stepped = longest_of (HasCharsStepped units (chars_of bytes)) (chars_of bytes) last
-    (walked_exact units bytes c.loop-next.end c.loop-next.cursor (λ xs. last ≡ last_of None xs) c.loop-next.invariant.walked
-    c.in_default.ensures) in
+    let all = walked_all units bytes c.loop-next.end c.loop-next.cursor (λ xs. last ≡ last_of None xs) c.loop-next.invariant.walked
+    c.in_default.ensures in
+    let stepped = longest_of (HasCharsStepped units (chars_of bytes)) (chars_of bytes) last all.exact in
     record {
-      keys = λ m h. (
-        text.0,
-        text.1,
-        longest_of (HasCharsValue m (chars_of bytes)) (chars_of bytes) last
-            (walked_keys units bytes c.loop-next.end c.loop-next.cursor (λ xs. last ≡ last_of None xs)
-            c.loop-next.invariant.walked c.in_default.ensures m h),
-      );
+      keys = λ m h. (text.0, text.1, longest_of (HasCharsValue m (chars_of bytes)) (chars_of bytes) last (all.keys m h));
       exact = (text.0, text.1, stepped);
       boundary = subst (λ (o : Option (ℕ × ℤ)). IfSome o (λ f. EndsAtBoundary bytes f.0)) (sym stepped.2)
           (longest_ends bytes stepped.0);

@@ -1,1 +1,0 @@
--- The return value for a set, from the return value for its boundaries.
