@@ -31,7 +31,7 @@ OTHER_NAMES = {
         "CodePointInversionListAndStringList::string_slice",
 }
 # Methods that the edition lacks: those that only proofs use, and one for Rattle's inclusive ranges.
-ONLY_PROVED = r"::shown$|^RangePoint::is_used_up$|^TrieView::value_in_(fast_)?block$"
+ONLY_PROVED = r"::shown$|^RangePoint::is_used_up$|^TrieView::value_in_(fast_)?block$|^ZeroSlice::copy_to$"
 # Functions whose allocations do not fail in turn: an internal one, and those that write JSON.
 NOT_SWEPT = r"::from_valid_slice$|::to_json$"
 # Forms that rust/make does not know.

@@ -1,10 +1,7 @@
 //! The command `build`: a table of rows, or of a file of the Unicode Character Database.
-use crate::compressed::expect_lines;
-use crate::error::{Error, about, said};
-use crate::file_forms::is_made;
 use crate::names::expect_names;
-use crate::tables::{form, number, trie_type, width};
-use crate::unicode_files::{build_file, column_option, named_kind, not_of_rows, with_names};
+use crate::tables::{form, trie_type, width};
+use crate::unicode_tables::{build_file, with_names};
 use crate::wide::{row_with, too_wide};
 use clap::ArgMatches;
 use icu_trie_core::header::TrieType;
@@ -14,9 +11,14 @@ use ucptab_table::error::{RowError, TableError};
 use ucptab_table::input::line_at;
 use ucptab_table::message::row_message;
 use ucptab_table::rows::{after, before, code_points_of, content_of, trimmed};
-use ucptrie_tables::built;
+use ucptrie_forms::built;
+use ucptrie_forms::stated::stated_values;
+use ucptrie_inputs::compressed::expect_lines;
+use ucptrie_inputs::error::{Error, about, said};
+use ucptrie_inputs::file_forms::is_made;
+use ucptrie_inputs::number;
+use ucptrie_inputs::unicode_files::{column_option, named_kind, not_of_rows};
 use ucptrie_tables::error::TableBuildError;
-use ucptrie_tables::stated::stated_values;
 use ucptrie_tables::table::TableOptions;
 use ucptrie_tables::width::ValueWidth;
 

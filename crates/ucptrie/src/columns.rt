@@ -1,21 +1,20 @@
 //! The columns of a joined table: the properties of files, each read as `build` reads it.
 use crate::arguments::program_words;
 use crate::build::{options_of_rows, unbuilt};
-use crate::compressed::expect_lines;
-use crate::error::Error;
-use crate::fractions::{say_fractions, say_reading};
 use crate::functions::function_name;
-use crate::numbering::UnicodeFile;
-use crate::unicode_files::{
-    choice_of_file, column_option, not_of_rows, tested, unicode_file, unread,
-};
+use crate::unicode_tables::{tested, unread};
 use clap::ArgMatches;
 use std::alloc::{AllocError, Global};
 use ucd_files::choice::{Choice, ValueKind, own_choice};
 use ucd_files::kind::{FileKind, kind_of};
 use ucd_files::names::{Name, Numbering, is_same_name};
+use ucptrie_inputs::compressed::expect_lines;
+use ucptrie_inputs::error::Error;
+use ucptrie_inputs::fractions::{say_fractions, say_reading};
+use ucptrie_inputs::numbering::UnicodeFile;
+use ucptrie_inputs::unicode_files::{choice_of_file, column_option, not_of_rows, unicode_file};
+use ucptrie_readers::unicode_file::table_of_file;
 use ucptrie_tables::table::{Table, table_of_rows};
-use ucptrie_tables::unicode_file::table_of_file;
 
 /// A file whose properties are joined.
 #[derive(Drop)]

@@ -1,21 +1,23 @@
 //! The command `convert`: a table in another form, or of another type, width or error value.
 use crate::build::unbuilt;
-use crate::error::{Error, about};
 use crate::names::{expect_names, is_list, say_many};
-use crate::offsets::start_of;
-use crate::tables::{file_in, form, number, table_of_property, trie_type, width};
-use crate::unicode_files::with_names;
+use crate::tables::{file_in, form, table_of_property, trie_type, width};
+use crate::unicode_tables::with_names;
 use crate::wide::too_wide_in;
 use clap::ArgMatches;
 use std::alloc::Global;
+use ucptrie_forms::written::written;
+use ucptrie_inputs::error::{Error, about};
+use ucptrie_inputs::number;
+use ucptrie_inputs::offsets::start_of;
+use ucptrie_readers::parsed::ParsedFile;
+use ucptrie_readers::properties::property_names;
+use ucptrie_readers::toml_names::NamesError;
 use ucptrie_tables::error::TableBuildError;
-use ucptrie_tables::parsed::ParsedFile;
-use ucptrie_tables::properties::property_names;
+use ucptrie_tables::form::Form;
 use ucptrie_tables::rebuild::rebuilt;
 use ucptrie_tables::table::Table;
-use ucptrie_tables::toml_names::NamesError;
 use ucptrie_tables::width::ValueWidth;
-use ucptrie_tables::written::{Form, written};
 
 /// Returns the table as the arguments want it: as it is, or built again of its values. `name` is
 /// what it was read from.

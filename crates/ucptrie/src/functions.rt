@@ -1,10 +1,10 @@
 //! The names of the functions of a joined table's properties.
 use crate::columns::Column;
-use crate::error::{Error, said};
 use crate::names::{is_reserved, name_in};
 use clap::ArgMatches;
 use std::alloc::{AllocError, Global};
-use ucptrie_tables::value_names::enum_name;
+use ucptrie_inputs::error::{Error, said};
+use ucptrie_names::value_names::enum_name;
 
 /// What source defines itself, beside the functions of the properties.
 static DEFINED_BY_SOURCE: [&str; 9] = [

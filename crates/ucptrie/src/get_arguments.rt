@@ -1,10 +1,10 @@
 //! The numbers that the arguments of `get` ask for.
-use crate::error::{Error, about, about_arguments, said};
-use crate::streams::{input_name, text_at, without_mark};
 use clap::ArgMatches;
 use std::alloc::Global;
 use ucptab_table::input::line_at;
 use ucptab_table::message::line_message;
+use ucptrie_inputs::error::{Error, about, about_arguments, said};
+use ucptrie_inputs::streams::{input_name, text_at, without_mark};
 use ucptrie_tables::asked::{AskedError, push_asked, push_asked_lines};
 
 /// What a word or a line has to be.

@@ -2,29 +2,31 @@
 use crate::build::unbuilt;
 use crate::columns::{ColumnValues, Columns, Input, ValueName, columns_of};
 use crate::combinations::{combination_list, combination_names};
-use crate::error::{Error, about, said};
 use crate::functions::test_functions;
 use crate::heading::with_headings;
 use crate::names::{is_list, test_name};
 use crate::output::{deliver, target_of};
-use crate::progress::{report, started};
 use crate::static_trie::is_static;
-use crate::streams::{bytes_at, input_name, read_twice, without_mark};
-use crate::tables::{form, number, trie_type, width};
-use crate::unicode_files::with_names;
+use crate::tables::{form, trie_type, width};
+use crate::unicode_tables::with_names;
 use crate::wide::too_wide;
 use clap::ArgMatches;
 use icu_trie_builder::writes::Write;
 use icu_trie_core::header::TrieType;
 use std::alloc::{AllocError, Global};
 use ucd_files::names::Name;
+use ucptrie_forms::written::written;
+use ucptrie_inputs::error::{Error, about, said};
+use ucptrie_inputs::number;
+use ucptrie_inputs::progress::{report, started};
+use ucptrie_inputs::streams::{bytes_at, input_name, read_twice, without_mark};
+use ucptrie_names::join_source::{JoinedProperty, PropertyValues, properties_source};
+use ucptrie_names::value_names::MOST;
 use ucptrie_tables::error::TableBuildError;
+use ucptrie_tables::form::Form;
 use ucptrie_tables::join::{Join, joined};
-use ucptrie_tables::join_source::{JoinedProperty, PropertyValues, properties_source};
 use ucptrie_tables::table::{Table, TableOptions, table_of_writes};
-use ucptrie_tables::value_names::MOST;
 use ucptrie_tables::width::ValueWidth;
-use ucptrie_tables::written::{Form, written};
 
 /// Returns the file in a word `FILE`, or `FILE:PROPERTY,..`, and its properties.
 fn file_of(word: &str) -> (&str, Option<&str>) {

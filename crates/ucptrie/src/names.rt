@@ -1,13 +1,13 @@
 //! Names in source, and lists of the names of values.
-use crate::error::{Error, about};
-use crate::numbering::{UnicodeFile, numbering};
-use crate::streams::say;
 use clap::ArgMatches;
 use std::alloc::{AllocError, Global};
 use ucd_files::choice::{Choice, ValueKind};
 use ucd_files::names::{Name, Numbering};
+use ucptrie_inputs::error::{Error, about};
+use ucptrie_inputs::numbering::{UnicodeFile, numbering};
+use ucptrie_inputs::streams::say;
+use ucptrie_names::value_names::MOST;
 use ucptrie_tables::source::is_name;
-use ucptrie_tables::value_names::MOST;
 
 /// The words that cannot name a module in Rust: its keywords, including the reserved ones, and `_`.
 static RESERVED_BY_RUST: [&str; 53] = [

@@ -1,12 +1,12 @@
 //! Where the bytes of a table go: to standard output, into a file, or nowhere if a file is compared
 //! with them.
-use crate::error::{Error, about, about_arguments, said};
-use crate::streams::put;
 use clap::ArgMatches;
 use std::alloc::{AllocError, Global};
 use std::fs::File;
 use std::io::Write;
 use std::{fs, io};
+use ucptrie_inputs::error::{Error, about, about_arguments, said};
+use ucptrie_inputs::streams::put;
 use ucptrie_tables::compare::{Difference, first_difference};
 
 /// Where the bytes go.

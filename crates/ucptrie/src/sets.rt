@@ -1,19 +1,8 @@
 //! The command `set`: the set of the code points with a value, or of a file of sets, in a form.
 use crate::build::unbuilt;
-use crate::compressed::expect_lines;
-use crate::error::{Error, about, about_arguments};
-use crate::file_forms::{is_json, is_toml};
-use crate::groups::numbers_in_group;
-use crate::missing::{default_of, test_numbers, test_own_names};
 use crate::names::name_in;
-use crate::numbering::UnicodeFile;
-use crate::offsets::{has_tries, start_of, starts_trie};
-use crate::streams::say;
-use crate::tables::{number, table_in};
-use crate::unicode_files::{
-    choice_of_file, column_option, is_named, named_kind, not_of_rows, test_conflicts, unicode_file,
-    unread, why_no_default,
-};
+use crate::tables::table_in;
+use crate::unicode_tables::unread;
 use clap::ArgMatches;
 use icu_invlist::codepointinvlist::{CodePointInversionList, CodePointInversionListBuilder};
 use icu_invlist_binary::serialized::SerializedSetError;
@@ -26,13 +15,26 @@ use ucd_files::names::{Matching, Numbering, is_same_name, number_of};
 use ucd_files::statement::Columns;
 use ucd_files::title::title_of;
 use ucd_files::value_names::ValueNames;
+use ucptrie_inputs::compressed::expect_lines;
+use ucptrie_inputs::error::{Error, about, about_arguments};
+use ucptrie_inputs::file_forms::{is_json, is_toml};
+use ucptrie_inputs::groups::numbers_in_group;
+use ucptrie_inputs::missing::{default_of, test_numbers, test_own_names};
+use ucptrie_inputs::number;
+use ucptrie_inputs::numbering::UnicodeFile;
+use ucptrie_inputs::offsets::{has_tries, start_of, starts_trie};
+use ucptrie_inputs::streams::say;
+use ucptrie_inputs::unicode_files::{
+    choice_of_file, column_option, is_named, named_kind, not_of_rows, test_conflicts, unicode_file,
+    why_no_default,
+};
+use ucptrie_readers::unicode_file::table_of_file;
 use ucptrie_sets::error::{SetFileError, SetWriteError, ValueSetError};
 use ucptrie_sets::of_value::set_of_value;
 use ucptrie_sets::serialized::set_of_bytes;
 use ucptrie_sets::toml_file::{count_strings, set_of_file};
 use ucptrie_sets::written::{SetForm, written};
 use ucptrie_tables::table::{Table, TableOptions, table_of_rows};
-use ucptrie_tables::unicode_file::table_of_file;
 use ucptrie_tables::width::ValueWidth;
 
 /// What is said of a file that says too little of code points without a line.

@@ -3,7 +3,7 @@ use crate::names::name_in;
 use clap::ArgMatches;
 use std::alloc::{AllocError, Global};
 use ucd_files::names::Name;
-use ucptrie_tables::static_source::static_source;
+use ucptrie_names::static_source::static_source;
 use ucptrie_tables::width::ValueWidth;
 
 /// Returns whether the arguments ask for a static trie.

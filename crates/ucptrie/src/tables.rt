@@ -1,28 +1,23 @@
 //! The tables of files, and how a table is to be written.
-use crate::compressed::expect_text;
-use crate::error::{Error, about, said};
-use crate::file_forms::is_toml;
 use crate::names::name_in;
-use crate::offsets::{Start, from_trie, starts_trie};
-use crate::streams::{bytes_at, input_name, without_mark};
 use clap::ArgMatches;
 use icu_trie_core::header::TrieType;
 use std::alloc::{AllocError, Global};
 use std::str;
+use ucptrie_inputs::compressed::expect_text;
+use ucptrie_inputs::error::{Error, about, said};
+use ucptrie_inputs::file_forms::is_toml;
+use ucptrie_inputs::offsets::{Start, from_trie, starts_trie};
+use ucptrie_inputs::streams::{bytes_at, input_name, without_mark};
+use ucptrie_readers::error::{ReadError, TomlFileError};
+use ucptrie_readers::other_toml::{OtherToml, other_toml};
+use ucptrie_readers::parsed::ParsedFile;
+use ucptrie_readers::properties::{PropertyError, read_property};
 use ucptrie_sets::error::SetFileError;
 use ucptrie_sets::toml_file::set_of_file;
-use ucptrie_tables::error::{ReadError, TomlFileError};
-use ucptrie_tables::other_toml::{OtherToml, other_toml};
-use ucptrie_tables::parsed::ParsedFile;
-use ucptrie_tables::properties::{PropertyError, read_property};
+use ucptrie_tables::form::Form;
 use ucptrie_tables::table::Table;
 use ucptrie_tables::width::ValueWidth;
-use ucptrie_tables::written::Form;
-
-/// Returns the number that the argument `id` gives.
-pub fn number(matches: &ArgMatches<'_>, id: &str) -> Option<u32> {
-    matches.get_one(id)
-}
 
 /// Returns the trie type that the arguments name.
 pub fn trie_type(matches: &ArgMatches<'_>) -> Option<TrieType> {

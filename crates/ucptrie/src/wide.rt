@@ -1,7 +1,4 @@
 //! Where a value comes from that has more bits than the asked width.
-use crate::error::{Error, said};
-use crate::numbering::UnicodeFile;
-use crate::tables::number;
 use clap::ArgMatches;
 use icu_trie_builder::writes::Write;
 use icu_zerovec::CODE_POINT_LIMIT;
@@ -10,6 +7,9 @@ use ucd_files::names::Numbering;
 use ucd_files::statement::{Statement, statement_of};
 use ucptab_table::input::first_line;
 use ucptab_table::rows::row_of;
+use ucptrie_inputs::error::{Error, said};
+use ucptrie_inputs::number;
+use ucptrie_inputs::numbering::UnicodeFile;
 use ucptrie_tables::table::Table;
 use ucptrie_tables::width::ValueWidth;
 

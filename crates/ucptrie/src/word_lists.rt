@@ -1,12 +1,12 @@
 //! The command `words`: a word list as a unit trie.
-use crate::compressed::{expect_line_feeds, expect_text};
-use crate::error::{Error, about, said};
 use crate::names::name_in;
 use clap::ArgMatches;
 use icu_char16trie::char16trie::Char16Trie;
 use std::alloc::{AllocError, Global};
 use ucptab_table::input::line_at;
 use ucptab_table::message::{line_message, push_quoted};
+use ucptrie_inputs::compressed::{expect_line_feeds, expect_text};
+use ucptrie_inputs::error::{Error, about, said};
 use ucptrie_words::built::{trie_of_units, trie_of_words};
 use ucptrie_words::error::{RowsError, UnitsError, WordsError};
 use ucptrie_words::written::{Form, written};

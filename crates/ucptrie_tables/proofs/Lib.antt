@@ -1,21 +1,12 @@
 mod AskedLemmas
+pub mod CallerLemmas
 mod DifferenceLemmas
-mod IdentifierLemmas
 mod JoinLemmas
-mod JsonLemmas
 mod Printed
-mod PropertyLemmas
-mod SameNumbers
 mod RebuildLemmas
+mod SameNumbers
 mod ShownLemmas
 mod SizeLemmas
 mod SourceLemmas
-mod SourceTexts
-mod StatedLemmas
 mod TableLemmas
-mod TomlLemmas
-mod TomlNameLemmas
 mod WideLemmas
-mod WidthLemmas
-mod WordLemmas
-mod WriteLemmas

@@ -1,14 +1,12 @@
--- A trie that has the numbers of another one: by the closure that maps it, and over numbers the trie itself.
+-- A trie that has the numbers of another one, by the closure that maps it.
 use Rattle.std.proofs.Common.{◌≡◌, ℕ, ◌^◌, ◌<◌, List, [], ◌∷◌, map, length, is_none, true, false, Option, Some, None, Result, Ok, Err, refl, sym, ap, ◌∙◌, arith}
 use Rattle.std.specs.Prelude.{IfErr, IfOk}
 use Rattle.std.specs.Option.{ok_or}
-use Rattle.icu_trie_core.specs.ValueNumbers.{fitting}
 use Rattle.icu_trie.specs.Parts.{Parts}
-use Rattle.icu_trie.specs.Conversion.{with_null_value}
 use Rattle.icu_trie.specs.MappedTrie.{CallsInTurn, IsMapOfTrie, MapsInTurn}
 use Rattle.icu_trie.specs.declared.map_value.MapError.{MapError}
 use Rattle.icu_trie.specs.declared.map_value.MapError.TheVariants.{Closure, Memory}
-use Rattle.ucptrie_tables.specs.Inside.Numbers.{HasNumbersOf, IsWhyNoNumbers, first_without}
+use Rattle.ucptrie_tables.specs.Numbers.{HasNumbersOf, IsWhyNoNumbers, first_without}
 
 module _ {F A B : Type 0} (step : F → A → Result B ℕ → F → Type 0) (number : A → ℕ) (of_number : ℕ → Option B)
     (same : (s : F) (x : A) (r : Result B ℕ) (t : F) → step s x r t → r ≡ ok_or (of_number (number x)) (number x))
@@ -117,23 +115,3 @@ module _ {F A B : Type 0} (step : F → A → Result B ℕ → F → Type 0) (nu
         → IfErr r (λ e. (n : ℕ) → e ≡ Closure n → (n < 2 ^ 32) × (of_number n ≡ None))
     numbers-if_err (Ok t) m = tt
     numbers-if_err (Err e) m = λ n is. numbers-refused e n is m
-
--- over numbers
-pub fitted : (limit n m : ℕ) → fitting limit n ≡ Some m → m ≡ n
-fitted limit n m e = grind (arith, e)
-
-pub same_list : (limit : ℕ) (xs ys : List ℕ) → map Some ys ≡ map (fitting limit) xs → ys ≡ xs
-same_list limit [] [] e = refl
-same_list limit (x ∷ xs) [] e = absurd (cc)
-same_list limit [] (y ∷ ys) e = absurd (cc)
-same_list limit (x ∷ xs) (y ∷ ys) e =
-    let here : fitting limit x ≡ Some y = cc in
-    let rest : map Some ys ≡ map (fitting limit) xs = cc in
-    λ i. fitted limit x y here i ∷ same_list limit xs ys rest i
-
-pub HasNumbersOf-same : (a b : ℕ) (p t : Parts ℕ) → HasNumbersOf (λ n. n) (fitting a) (λ n. n) (fitting b) p t → t ≡ p
-HasNumbersOf-same a b p t h =
-    let null = fitted b h.old_null h.null h.null_is ∙ fitted a p.header.null_value h.old_null h.old_null_is in
-    let header : t.header ≡ p.header = h.header ∙ ap (with_null_value p.header) null in
-    let values = same_list b p.values t.values h.values in
-    λ i. record { header = header i; index = h.index i; values = values i }

@@ -11,7 +11,7 @@ use Rattle.icu_trie_builder.proofs.CallerLemmas.{error-of-map}
 use Rattle.ucptrie_tables.specs.Tables.{IsValueOfMap}
 use Rattle.ucptrie_tables.specs.ValueWidth.{bits_of, first_wider}
 use Rattle.ucptrie_tables.specs.declared.width.ValueWidth.{ValueWidth}
-use Rattle.ucptrie_tables.proofs.SameNumbers.{fitted}
+use Rattle.ucptrie_tables.proofs.CallerLemmas.{fitted}
 
 -- what is found is in the list and passes the test
 found : (p : ℕ → Bool) (xs : List ℕ) (v : ℕ) → find p xs ≡ Some v

@@ -23,8 +23,8 @@ use Rattle.ucptrie_tables.specs.declared.table.Table.{Table}
 use Rattle.ucptrie_tables.specs.declared.table.TableOptions.{TableOptions}
 use Rattle.ucptrie_tables.specs.declared.width.ValueWidth.{ValueWidth}
 use Rattle.ucptrie_tables.specs.declared.width.ValueWidth.TheVariants.{Bits8, Bits16, Bits32}
-use Rattle.ucptrie_tables.specs.declared.written.Form.{Form}
-use Rattle.ucptrie_tables.specs.declared.written.Form.TheVariants.{Bks, Icu}
+use Rattle.ucptrie_tables.specs.declared.form.Form.{Form}
+use Rattle.ucptrie_tables.specs.declared.form.Form.TheVariants.{Bks, Icu}
 
 -- ---- The table of writes
 

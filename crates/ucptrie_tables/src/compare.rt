@@ -12,7 +12,7 @@ pub struct Difference {
 }
 
 /// Counts the line feeds.
-pub(crate) fn line_feeds(bytes: &[u8]) -> usize
+pub fn line_feeds(bytes: &[u8]) -> usize
     ensures { result ≡ line_feeds bytes.now }
 {
     bytes.iter().filter(|byte| **byte == b'\n').count()

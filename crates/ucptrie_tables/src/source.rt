@@ -1,17 +1,9 @@
-//! What the sources in C and in Rust have in common.
-ghost use Rattle.std.specs.Prelude.{◌≡◌, ◌++◌, ◌*◌, ◌^◌, ◌<◌, OnOk, string_bytes};
+//! Source in C and in Rust: its names, and what it says of a trie's type.
+ghost use Rattle.std.specs.Prelude.{◌≡◌};
 ghost use Rattle.icu_trie_core.specs.Format.{index1_start};
-ghost use Rattle.icu_trie_core.specs.ValueNumbers.{type_number};
-ghost use Rattle.ucptrie_tables.specs.Source.{is_name, is_name_byte};
-ghost use Rattle.ucptrie_tables.specs.TableSource.{header_numbers, sizes_text, type_name};
-ghost use Rattle.ucptrie_tables.specs.ValueWidth.{bytes_of};
+ghost use Rattle.ucptrie_tables.specs.Source.{is_name, is_name_byte, type_name};
 
-use crate::table::Table;
-use crate::width::ValueWidth;
 use icu_trie::header::TrieType;
-use std::alloc::AllocError;
-use ucptab_table::pattern::Number::{self, Decimal, Hexadecimal};
-use ucptab_table::pattern::push_pattern;
 
 /// Returns whether a name in C and in Rust can have a byte: an ASCII letter or digit, or `_`.
 fn is_name_byte(byte: u8) -> bool
@@ -34,7 +26,7 @@ pub fn is_name(text: &str) -> bool
 }
 
 /// Returns the name of a type, as in `ucptab`'s arguments.
-pub(crate) fn type_name(trie_type: TrieType) -> &'static str
+pub fn type_name(trie_type: TrieType) -> &'static str
     ensures { result.now ≡ type_name trie_type }
 {
     match trie_type {
@@ -43,72 +35,13 @@ pub(crate) fn type_name(trie_type: TrieType) -> &'static str
     }
 }
 
-/// Returns ICU's number of a type (UCPTRIE_TYPE_FAST, _SMALL).
-pub(crate) fn type_code(trie_type: TrieType) -> u8
-    ensures { result ≡ type_number trie_type }
-{
-    match trie_type {
-        TrieType::Fast => 0,
-        TrieType::Small => 1,
-    }
-}
-
 /// Returns what is added to `c >> 14` for the index of the index-1 cell of `c`. The cells follow
 /// the fast index, and a fast trie leaves out the four of the BMP.
-pub(crate) fn index1_offset(trie_type: TrieType) -> u32
+pub fn index1_offset(trie_type: TrieType) -> u32
     ensures { result ≡ index1_start trie_type }
 {
     match trie_type {
         TrieType::Fast => 1024 - 4,
         TrieType::Small => 64,
     }
-}
-
-/// Returns the number of bytes in so many values, of which each has at most four.
-fn data_size(len: usize, width: ValueWidth) -> usize
-    requires { len * 4 < 2 ^ 63 }
-    ensures { result ≡ len * bytes_of width }
-{
-    len * width.bytes()
-}
-
-/// The comment about the trie and its sizes.
-const SIZES: &str = "\
-// Made by ucptrie: a @ code point trie, with values of % bits.
-// Index: % cells, % bytes. Data: % cells, % bytes.
-";
-
-/// Appends a comment about the trie and its sizes.
-pub(crate) fn push_sizes(text: &mut String, table: &Table) -> Result<(), AllocError>
-    ensures { OnOk result (string_bytes text.new
-        ≡ string_bytes text.old ++ sizes_text table.now) }
-{
-    let (header, index, values) = table.trie.parts();
-    let numbers = [
-        Decimal(table.width.bits() as usize),
-        Decimal(index.len()),
-        Decimal(index.len() * 2),
-        Decimal(values.len()),
-        Decimal(data_size(values.len(), table.width)),
-    ];
-    push_pattern(text, SIZES, type_name(header.trie_type), &numbers)
-}
-
-/// Returns the numbers of the header in the order of ICU's struct and of TOML: lengths, the high
-/// start in two forms, type and width, null blocks and the null value.
-pub(crate) fn header_numbers(table: &Table) -> [Number; 9]
-    ensures { result ≡ header_numbers table.now }
-{
-    let (header, index, values) = table.trie.parts();
-    [
-        Decimal(index.len()),
-        Decimal(values.len()),
-        Hexadecimal(header.high_start),
-        Hexadecimal(header.shifted12_high_start as u32),
-        Decimal(type_code(header.trie_type) as usize),
-        Decimal(table.width.code() as usize),
-        Hexadecimal(header.index3_null_offset as u32),
-        Hexadecimal(header.data_null_offset),
-        Hexadecimal(header.null_value),
-    ]
 }

@@ -2,7 +2,7 @@
 ghost use Rattle.std.specs.Prelude.{◌≡◌, ◌^◌, ◌<◌, ℕ, Option, None, IfOk, IfErr};
 ghost use Rattle.std.specs.Option.{ok_or};
 ghost use Rattle.icu_trie.specs.declared.map_value.MapError.TheVariants.{Closure};
-ghost use Rattle.ucptrie_tables.specs.Inside.Numbers.{HasNumbersOf, IsWhyNoNumbers};
+ghost use Rattle.ucptrie_tables.specs.Numbers.{HasNumbersOf, IsWhyNoNumbers};
 
 use icu_trie::cptrie::CodePointTrie;
 use icu_trie::map_value::MapError;
@@ -26,7 +26,7 @@ fn same_number<T: TrieValue, P: TrieValue>(value: T) -> Result<P, u32>
 ///
 /// Tries the error value, the null value and each cell, in this order. `Closure` has the first
 /// number for which there is no such value.
-pub(crate) fn with_values_of<P: TrieValue, T: TrieValue>(
+pub fn with_values_of<P: TrieValue, T: TrieValue>(
     alloc: Global,
     trie: &CodePointTrie<'_, T>,
 ) -> Result<CodePointTrie<'static, P>, MapError<u32>>

@@ -1,6 +1,7 @@
 //! What the programs ucptab and ucptrie share: crates/ucptab_table, and with the feature `ucptrie` also
-//! crates/ucd_files, crates/ucptrie_tables, crates/ucptrie_sets and crates/ucptrie_words, without their
-//! proofs, over `bekstaudi`. `host` and `support` have what Rattle's std has in another form.
+//! crates/ucd_files, crates/ucptrie_tables, crates/ucptrie_forms, crates/ucptrie_names,
+//! crates/ucptrie_readers, crates/ucptrie_sets and crates/ucptrie_words, without their proofs, over
+//! `bekstaudi`. `host` and `support` have what Rattle's std has in another form.
 #![deny(unsafe_code)]
 // Each module imports the same names of `host` and `support`. What the proved sources have in another
 // form than clippy asks for is allowed. A format has whole lines.
@@ -35,6 +36,15 @@ pub mod toml;
 pub mod ucd_files;
 #[allow(dead_code, unused_variables)]
 pub mod ucptab_table;
+#[cfg(feature = "ucptrie")]
+#[allow(dead_code, unused_variables)]
+pub mod ucptrie_forms;
+#[cfg(feature = "ucptrie")]
+#[allow(dead_code, unused_variables)]
+pub mod ucptrie_names;
+#[cfg(feature = "ucptrie")]
+#[allow(dead_code, unused_variables)]
+pub mod ucptrie_readers;
 #[cfg(feature = "ucptrie")]
 #[allow(dead_code, unused_variables)]
 pub mod ucptrie_sets;

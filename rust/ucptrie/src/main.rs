@@ -1,5 +1,5 @@
-//! The program ucptrie: crates/ucptrie without its proofs, over `bekstaudi`, `bekstaudi-tables` and
-//! `clap`.
+//! The program ucptrie: crates/ucptrie and crates/ucptrie_inputs without their proofs, over `bekstaudi`,
+//! `bekstaudi-tables` and `clap`.
 #![forbid(unsafe_code)]
 // Each module imports the same names of `host` and `support`. What the proved sources have in another
 // form than clippy asks for is allowed.
@@ -17,13 +17,16 @@
 )]
 
 use bekstaudi_tables::{
-    host, support, ucd_files, ucptab_table, ucptrie_sets, ucptrie_tables, ucptrie_words,
+    host, support, ucd_files, ucptab_table, ucptrie_forms, ucptrie_names, ucptrie_readers,
+    ucptrie_sets, ucptrie_tables, ucptrie_words,
 };
 
 #[allow(dead_code)]
 mod clap;
 #[allow(unused_variables)]
 mod ucptrie;
+#[allow(unused_variables)]
+mod ucptrie_inputs;
 
 fn main() -> std::process::ExitCode {
     ucptrie::main(host::HostRuntime)

@@ -20,7 +20,7 @@ fn same_number<T: TrieValue, P: TrieValue>(value: T) -> Result<P, u32> {
 ///
 /// Tries the error value, the null value and each cell, in this order. `Closure` has the first
 /// number for which there is no such value.
-pub(crate) fn with_values_of<P: TrieValue, T: TrieValue>(
+pub fn with_values_of<P: TrieValue, T: TrieValue>(
     trie: &CodePointTrie<'_, T>,
 ) -> Result<CodePointTrie<'static, P>, MapError<u32>> {
     trie.try_alloc_map_value_fallible(|value: T| same_number::<T, P>(value))

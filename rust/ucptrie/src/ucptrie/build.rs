@@ -8,18 +8,18 @@ use crate::ucptab_table::error::{RowError, TableError};
 use crate::ucptab_table::input::line_at;
 use crate::ucptab_table::message::row_message;
 use crate::ucptab_table::rows::{after, before, code_points_of, content_of, trimmed};
-use crate::ucptrie::compressed::expect_lines;
-use crate::ucptrie::error::{Error, about, said};
-use crate::ucptrie::file_forms::is_made;
 use crate::ucptrie::names::expect_names;
-use crate::ucptrie::tables::{form, number, trie_type, width};
-use crate::ucptrie::unicode_files::{
-    build_file, column_option, named_kind, not_of_rows, with_names,
-};
+use crate::ucptrie::tables::{form, trie_type, width};
+use crate::ucptrie::unicode_tables::{build_file, with_names};
 use crate::ucptrie::wide::{row_with, too_wide};
-use crate::ucptrie_tables::built;
+use crate::ucptrie_forms::built;
+use crate::ucptrie_forms::stated::stated_values;
+use crate::ucptrie_inputs::compressed::expect_lines;
+use crate::ucptrie_inputs::error::{Error, about, said};
+use crate::ucptrie_inputs::file_forms::is_made;
+use crate::ucptrie_inputs::number;
+use crate::ucptrie_inputs::unicode_files::{column_option, named_kind, not_of_rows};
 use crate::ucptrie_tables::error::TableBuildError;
-use crate::ucptrie_tables::stated::stated_values;
 use crate::ucptrie_tables::table::TableOptions;
 use crate::ucptrie_tables::width::ValueWidth;
 use bekstaudi::codepointtrie::TrieType;

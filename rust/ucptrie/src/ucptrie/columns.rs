@@ -8,16 +8,17 @@ use crate::ucd_files::kind::{FileKind, kind_of};
 use crate::ucd_files::names::{Name, Numbering, is_same_name};
 use crate::ucptrie::arguments::program_words;
 use crate::ucptrie::build::{options_of_rows, unbuilt};
-use crate::ucptrie::compressed::expect_lines;
-use crate::ucptrie::error::Error;
-use crate::ucptrie::fractions::{say_fractions, say_reading};
 use crate::ucptrie::functions::function_name;
-use crate::ucptrie::numbering::UnicodeFile;
-use crate::ucptrie::unicode_files::{
-    choice_of_file, column_option, not_of_rows, tested, unicode_file, unread,
+use crate::ucptrie::unicode_tables::{tested, unread};
+use crate::ucptrie_inputs::compressed::expect_lines;
+use crate::ucptrie_inputs::error::Error;
+use crate::ucptrie_inputs::fractions::{say_fractions, say_reading};
+use crate::ucptrie_inputs::numbering::UnicodeFile;
+use crate::ucptrie_inputs::unicode_files::{
+    choice_of_file, column_option, not_of_rows, unicode_file,
 };
+use crate::ucptrie_readers::unicode_file::table_of_file;
 use crate::ucptrie_tables::table::{Table, table_of_rows};
-use crate::ucptrie_tables::unicode_file::table_of_file;
 
 /// A file whose properties are joined.
 pub struct Input<'a> {

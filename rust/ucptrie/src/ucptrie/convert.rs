@@ -3,20 +3,22 @@ use crate::clap::ArgMatches;
 use crate::host::*;
 use crate::support::prelude::*;
 use crate::ucptrie::build::unbuilt;
-use crate::ucptrie::error::{Error, about};
 use crate::ucptrie::names::{expect_names, is_list, say_many};
-use crate::ucptrie::offsets::start_of;
-use crate::ucptrie::tables::{file_in, form, number, table_of_property, trie_type, width};
-use crate::ucptrie::unicode_files::with_names;
+use crate::ucptrie::tables::{file_in, form, table_of_property, trie_type, width};
+use crate::ucptrie::unicode_tables::with_names;
 use crate::ucptrie::wide::too_wide_in;
+use crate::ucptrie_forms::written::written;
+use crate::ucptrie_inputs::error::{Error, about};
+use crate::ucptrie_inputs::number;
+use crate::ucptrie_inputs::offsets::start_of;
+use crate::ucptrie_readers::parsed::ParsedFile;
+use crate::ucptrie_readers::properties::property_names;
+use crate::ucptrie_readers::toml_names::NamesError;
 use crate::ucptrie_tables::error::TableBuildError;
-use crate::ucptrie_tables::parsed::ParsedFile;
-use crate::ucptrie_tables::properties::property_names;
+use crate::ucptrie_tables::form::Form;
 use crate::ucptrie_tables::rebuild::rebuilt;
 use crate::ucptrie_tables::table::Table;
-use crate::ucptrie_tables::toml_names::NamesError;
 use crate::ucptrie_tables::width::ValueWidth;
-use crate::ucptrie_tables::written::{Form, written};
 
 /// Returns the table as the arguments want it: as it is, or built again of its values. `name` is
 /// what it was read from.

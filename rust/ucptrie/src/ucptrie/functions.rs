@@ -4,9 +4,9 @@ use crate::host::*;
 use crate::support::AllocError;
 use crate::support::prelude::*;
 use crate::ucptrie::columns::Column;
-use crate::ucptrie::error::{Error, said};
 use crate::ucptrie::names::{is_reserved, name_in};
-use crate::ucptrie_tables::value_names::enum_name;
+use crate::ucptrie_inputs::error::{Error, said};
+use crate::ucptrie_names::value_names::enum_name;
 
 /// What source defines itself, beside the functions of the properties.
 static DEFINED_BY_SOURCE: [&str; 9] = [

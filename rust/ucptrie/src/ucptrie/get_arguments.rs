@@ -4,8 +4,8 @@ use crate::host::*;
 use crate::support::prelude::*;
 use crate::ucptab_table::input::line_at;
 use crate::ucptab_table::message::line_message;
-use crate::ucptrie::error::{Error, about, about_arguments, said};
-use crate::ucptrie::streams::{input_name, text_at, without_mark};
+use crate::ucptrie_inputs::error::{Error, about, about_arguments, said};
+use crate::ucptrie_inputs::streams::{input_name, text_at, without_mark};
 use crate::ucptrie_tables::asked::{AskedError, push_asked, push_asked_lines};
 
 /// What a word or a line has to be.

@@ -5,11 +5,11 @@ use crate::support::AllocError;
 use crate::support::prelude::*;
 use crate::ucd_files::choice::{Choice, ValueKind};
 use crate::ucd_files::names::{Name, Numbering};
-use crate::ucptrie::error::{Error, about};
-use crate::ucptrie::numbering::{UnicodeFile, numbering};
-use crate::ucptrie::streams::say;
+use crate::ucptrie_inputs::error::{Error, about};
+use crate::ucptrie_inputs::numbering::{UnicodeFile, numbering};
+use crate::ucptrie_inputs::streams::say;
+use crate::ucptrie_names::value_names::MOST;
 use crate::ucptrie_tables::source::is_name;
-use crate::ucptrie_tables::value_names::MOST;
 
 /// The words that cannot name a module in Rust: its keywords, including the reserved ones, and `_`.
 static RESERVED_BY_RUST: [&str; 53] = [

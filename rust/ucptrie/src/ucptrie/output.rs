@@ -7,8 +7,8 @@ use crate::host::*;
 use crate::host::{fs, io};
 use crate::support::AllocError;
 use crate::support::prelude::*;
-use crate::ucptrie::error::{Error, about, about_arguments, said};
-use crate::ucptrie::streams::put;
+use crate::ucptrie_inputs::error::{Error, about, about_arguments, said};
+use crate::ucptrie_inputs::streams::put;
 use crate::ucptrie_tables::compare::{Difference, first_difference};
 
 /// Where the bytes go.

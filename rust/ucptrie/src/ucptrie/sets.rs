@@ -10,27 +10,29 @@ use crate::ucd_files::statement::Columns;
 use crate::ucd_files::title::title_of;
 use crate::ucd_files::value_names::ValueNames;
 use crate::ucptrie::build::unbuilt;
-use crate::ucptrie::compressed::expect_lines;
-use crate::ucptrie::error::{Error, about, about_arguments};
-use crate::ucptrie::file_forms::{is_json, is_toml};
-use crate::ucptrie::groups::numbers_in_group;
-use crate::ucptrie::missing::{default_of, test_numbers, test_own_names};
 use crate::ucptrie::names::name_in;
-use crate::ucptrie::numbering::UnicodeFile;
-use crate::ucptrie::offsets::{has_tries, start_of, starts_trie};
-use crate::ucptrie::streams::say;
-use crate::ucptrie::tables::{number, table_in};
-use crate::ucptrie::unicode_files::{
+use crate::ucptrie::tables::table_in;
+use crate::ucptrie::unicode_tables::unread;
+use crate::ucptrie_inputs::compressed::expect_lines;
+use crate::ucptrie_inputs::error::{Error, about, about_arguments};
+use crate::ucptrie_inputs::file_forms::{is_json, is_toml};
+use crate::ucptrie_inputs::groups::numbers_in_group;
+use crate::ucptrie_inputs::missing::{default_of, test_numbers, test_own_names};
+use crate::ucptrie_inputs::number;
+use crate::ucptrie_inputs::numbering::UnicodeFile;
+use crate::ucptrie_inputs::offsets::{has_tries, start_of, starts_trie};
+use crate::ucptrie_inputs::streams::say;
+use crate::ucptrie_inputs::unicode_files::{
     choice_of_file, column_option, is_named, named_kind, not_of_rows, test_conflicts, unicode_file,
-    unread, why_no_default,
+    why_no_default,
 };
+use crate::ucptrie_readers::unicode_file::table_of_file;
 use crate::ucptrie_sets::error::{SetFileError, SetWriteError, ValueSetError};
 use crate::ucptrie_sets::of_value::set_of_value;
 use crate::ucptrie_sets::serialized::set_of_bytes;
 use crate::ucptrie_sets::toml_file::{count_strings, set_of_file};
 use crate::ucptrie_sets::written::{SetForm, written};
 use crate::ucptrie_tables::table::{Table, TableOptions, table_of_rows};
-use crate::ucptrie_tables::unicode_file::table_of_file;
 use crate::ucptrie_tables::width::ValueWidth;
 use bekstaudi::codepointinvlist::serialized::SerializedSetError;
 use bekstaudi::codepointinvlist::{CodePointInversionList, CodePointInversionListBuilder};

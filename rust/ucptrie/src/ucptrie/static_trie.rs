@@ -5,7 +5,7 @@ use crate::support::AllocError;
 use crate::support::prelude::*;
 use crate::ucd_files::names::Name;
 use crate::ucptrie::names::name_in;
-use crate::ucptrie_tables::static_source::static_source;
+use crate::ucptrie_names::static_source::static_source;
 use crate::ucptrie_tables::width::ValueWidth;
 
 /// Returns whether the arguments ask for a static trie.

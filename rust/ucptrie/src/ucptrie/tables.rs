@@ -3,27 +3,22 @@ use crate::clap::ArgMatches;
 use crate::host::*;
 use crate::support::AllocError;
 use crate::support::prelude::*;
-use crate::ucptrie::compressed::expect_text;
-use crate::ucptrie::error::{Error, about, said};
-use crate::ucptrie::file_forms::is_toml;
 use crate::ucptrie::names::name_in;
-use crate::ucptrie::offsets::{Start, from_trie, starts_trie};
-use crate::ucptrie::streams::{bytes_at, input_name, without_mark};
+use crate::ucptrie_inputs::compressed::expect_text;
+use crate::ucptrie_inputs::error::{Error, about, said};
+use crate::ucptrie_inputs::file_forms::is_toml;
+use crate::ucptrie_inputs::offsets::{Start, from_trie, starts_trie};
+use crate::ucptrie_inputs::streams::{bytes_at, input_name, without_mark};
+use crate::ucptrie_readers::error::{ReadError, TomlFileError};
+use crate::ucptrie_readers::other_toml::{OtherToml, other_toml};
+use crate::ucptrie_readers::parsed::ParsedFile;
+use crate::ucptrie_readers::properties::{PropertyError, read_property};
 use crate::ucptrie_sets::error::SetFileError;
 use crate::ucptrie_sets::toml_file::set_of_file;
-use crate::ucptrie_tables::error::{ReadError, TomlFileError};
-use crate::ucptrie_tables::other_toml::{OtherToml, other_toml};
-use crate::ucptrie_tables::parsed::ParsedFile;
-use crate::ucptrie_tables::properties::{PropertyError, read_property};
+use crate::ucptrie_tables::form::Form;
 use crate::ucptrie_tables::table::Table;
 use crate::ucptrie_tables::width::ValueWidth;
-use crate::ucptrie_tables::written::Form;
 use bekstaudi::codepointtrie::TrieType;
-
-/// Returns the number that the argument `id` gives.
-pub fn number(matches: &ArgMatches<'_>, id: &str) -> Option<u32> {
-    matches.get_one(id)
-}
 
 /// Returns the trie type that the arguments name.
 pub fn trie_type(matches: &ArgMatches<'_>) -> Option<TrieType> {

@@ -1,0 +1,5 @@
+mod CellLemmas
+mod JsonLemmas
+mod StatedLemmas
+mod WidthLemmas
+mod WriteLemmas

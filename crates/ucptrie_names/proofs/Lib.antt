@@ -1,0 +1,3 @@
+mod IdentifierLemmas
+mod SourceTexts
+mod WordLemmas

@@ -1,0 +1,12 @@
+use Rattle.std.proofs.Common.{◌≡◌, ◌++◌, string_bytes}
+use Rattle.ucptrie_names.specs.NamesSource.{rust_arm}
+use Rattle.ucptrie_names.proofs.SourceTexts.{joined-5-text}
+use Rattle.ucptrie_names.proofs.value_names.push_arm.Goals as goal
+
+pub returns : goal.returns
+unfolding rust_arm
+returns c =
+    let own : string_bytes c.push_str-2.new.self ≡ string_bytes c.push_named.new.text ++ string_bytes c.args.value.now.identifier =
+    rw c.as_str.ensures.value at c.in_ok-push_str-2.ensures.bytes in
+    joined-5-text c.push_str-3.result _ _ _ _ _ _ _ _ _ _ _ c.in_ok-push_str.ensures.bytes c.in_ok-push_number.ensures
+    c.in_ok-push_named.ensures own c.push_str-3.ensures.bytes

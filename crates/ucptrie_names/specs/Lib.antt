@@ -1,0 +1,4 @@
+pub mod JoinSource
+pub mod NamesList
+pub mod NamesSource
+pub mod ValueIdentifiers

@@ -1,0 +1,4 @@
+mod PropertyLemmas
+mod TomlLemmas
+mod TomlNameLemmas
+mod WidthLemmas

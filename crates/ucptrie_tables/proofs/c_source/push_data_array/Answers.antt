@@ -1,9 +1,0 @@
-use Rattle.std.proofs.Common.{append_assoc}
-use Rattle.ucptrie_tables.specs.TableSource.{c_data}
-use Rattle.ucptrie_tables.proofs.c_source.push_data_array.Goals as goal
-
-pub returns : goal.returns
-unfolding c_data
-returns c =
-    let whole = rw (c.in_ok-push_pattern.ensures, append_assoc) at c.push_data.ensures in
-    simp (c.bits.ensures, c.len.ensures.len, c.parts.ensures.values) at whole

@@ -1,5 +1,0 @@
-use Rattle.ucptrie_tables.proofs.SourceTexts.{map-self}
-use Rattle.ucptrie_tables.proofs.cells.push_index.Goals as goal
-
-pub returns : goal.returns
-returns c = simp (map-self, c.parts.ensures.index) at c.push_cells.ensures

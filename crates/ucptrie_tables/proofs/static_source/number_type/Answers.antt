@@ -1,7 +1,0 @@
-use Rattle.std.proofs.lemmas.List.{append-nil}
-use Rattle.ucptrie_tables.specs.NamesSource.{number_type}
-use Rattle.ucptrie_tables.proofs.static_source.number_type.Goals as goal
-
-pub returns : goal.returns
-unfolding number_type
-returns c = rw (c.new-text.ensures.bytes, append-nil) at c.in_ok-push_pattern.ensures

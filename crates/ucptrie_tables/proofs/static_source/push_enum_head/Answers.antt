@@ -1,7 +1,0 @@
-use Rattle.ucptrie_tables.specs.NamesSource.{static_enum_head}
-use Rattle.ucptrie_tables.proofs.SourceTexts.{joined-2}
-use Rattle.ucptrie_tables.proofs.static_source.push_enum_head.Goals as goal
-
-pub returns : goal.returns
-unfolding static_enum_head
-returns c = joined-2 c.push_pattern.result _ _ _ _ _ c.in_ok-push_named.ensures c.push_pattern.ensures

@@ -1,6 +1,0 @@
-use Rattle.ucptrie_tables.specs.NamesSource.{rust_attributes}
-use Rattle.ucptrie_tables.proofs.value_names.push_attributes.Goals as goal
-
-pub returns : goal.returns
-unfolding rust_attributes
-returns c = c.push_pattern.ensures

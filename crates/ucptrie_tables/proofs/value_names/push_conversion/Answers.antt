@@ -1,6 +1,0 @@
-use Rattle.ucptrie_tables.specs.NamesSource.{rust_conversion}
-use Rattle.ucptrie_tables.proofs.value_names.push_conversion.Goals as goal
-
-pub returns : goal.returns
-unfolding rust_conversion
-returns c = c.push_pattern.ensures

@@ -1,6 +1,0 @@
-use Rattle.ucptrie_tables.specs.NamesSource.{rust_enum_head}
-use Rattle.ucptrie_tables.proofs.value_names.push_enum_head.Goals as goal
-
-pub returns : goal.returns
-unfolding rust_enum_head
-returns c = c.push_named.ensures

@@ -1,0 +1,29 @@
+//! The table of a file of the Unicode Character Database.
+
+use crate::host::*;
+use crate::support::prelude::*;
+use crate::ucd_files::names::Numbering;
+use crate::ucd_files::read::read_writes;
+use crate::ucd_files::statement::Columns;
+use crate::ucptrie_readers::error::UnicodeFileError;
+use crate::ucptrie_tables::table::{Table, TableOptions, table_of_writes};
+
+/// Builds the table of a file of the Unicode Character Database. Each code point has the value of
+/// the last line that covers it. If none does, it has the value of the last `@missing` line that
+/// covers it, or else the default.
+///
+/// # Errors
+/// Returns [`UnicodeFileError::File`] for the first line that has a fault, and if the file ends in
+/// the middle of a range. Returns [`UnicodeFileError::Build`] for a map that is too large for a
+/// trie, for a value of a code point, or the error value, that has more bits than the asked width,
+/// and if an allocation fails.
+pub fn table_of_file(
+    file: &[u8],
+    columns: Columns<'_>,
+    numbering: Numbering<'_>,
+    options: TableOptions,
+) -> Result<Table, UnicodeFileError> {
+    let writes = read_writes(file, columns, numbering)?;
+    let table = table_of_writes(&writes, options)?;
+    Ok(table)
+}

@@ -1,0 +1,71 @@
+//! How the values of a file become numbers, by the arguments.
+use crate::clap::ArgMatches;
+use crate::host::*;
+use crate::support::prelude::*;
+use crate::ucd_files::choice::{Choice, NumberingKind, alias_choice, numbering_of, own_choice};
+use crate::ucd_files::names::Numbering;
+use crate::ucd_files::statement::Columns;
+use crate::ucptrie_inputs::aliases::{Aliases, name_in_values, unknown_property};
+use crate::ucptrie_inputs::error::{Error, about};
+
+/// A file of the Unicode Character Database.
+pub struct UnicodeFile<'f> {
+    /// What it was read from.
+    pub name: &'f str,
+    /// Its bytes.
+    pub bytes: &'f [u8],
+    /// Where its lines have their values.
+    pub columns: Columns<'f>,
+    /// The files of aliases that the arguments name.
+    pub aliases: Aliases,
+}
+
+/// Returns the names of the property's values in the file of aliases, and what they are.
+fn choice_of_aliases<'f>(
+    matches: &ArgMatches<'_>,
+    file: &'f UnicodeFile<'f>,
+) -> Result<Choice<'f>, Error> {
+    let Some(property) = matches.get_str("property") else {
+        let why = "--aliases needs --property, the property whose values are named";
+        return Err(about("arguments", why));
+    };
+    let aliases = &file.aliases;
+    let name = name_in_values(aliases, property.as_bytes());
+    let choice = alias_choice(&aliases.values, name, file.columns)?;
+    if choice.names.as_slice().is_empty() {
+        return Err(unknown_property(aliases, property));
+    }
+    Ok(choice)
+}
+
+/// Returns the names of the values of a file, and what they are: those in the file of aliases, if
+/// the arguments name one, and else those in the file itself.
+pub fn choice_of<'f>(
+    matches: &ArgMatches<'_>,
+    file: &'f UnicodeFile<'f>,
+) -> Result<Choice<'f>, Error> {
+    if file.aliases.values.is_empty() {
+        return Ok(own_choice(file.bytes, file.columns)?);
+    }
+    choice_of_aliases(matches, file)
+}
+
+/// Returns the kind of numbering that the arguments ask for.
+fn asked_numbering(matches: &ArgMatches<'_>) -> Option<NumberingKind> {
+    match matches.get_str("values") {
+        Some("decimal") => Some(NumberingKind::Decimal),
+        Some("hexadecimal") => Some(NumberingKind::Hexadecimal),
+        Some("set") => Some(NumberingKind::One),
+        Some(_) => Some(NumberingKind::Names),
+        None => None,
+    }
+}
+
+/// Returns how the values of a file become numbers.
+pub fn numbering<'n>(
+    matches: &ArgMatches<'_>,
+    file: &UnicodeFile<'_>,
+    choice: &'n Choice<'n>,
+) -> Numbering<'n> {
+    numbering_of(asked_numbering(matches), file.bytes, file.columns, choice)
+}

@@ -1,0 +1,153 @@
+//! Files in which no line has the property or the field that is asked for.
+use crate::clap::ArgMatches;
+use crate::host::*;
+use crate::support::AllocError;
+use crate::support::prelude::*;
+use crate::ucd_files::fields::{column, field, has_field, missing_of};
+use crate::ucd_files::names::{Matching, Name, is_same_name};
+use crate::ucd_files::statement::Columns;
+use crate::ucd_files::value_names::ValueNames;
+use crate::ucptab_table::input::first_line;
+use crate::ucptab_table::rows::content_of;
+use crate::ucptrie_inputs::error::{Error, said};
+use crate::ucptrie_inputs::number;
+
+/// How many properties a message lists at most.
+const LISTED: usize = 10;
+
+/// Returns the property in a line of a file of several.
+fn property_of<'f>(columns: Columns<'_>, line: &'f [u8]) -> &'f [u8] {
+    let content = content_of(line);
+    match columns {
+        Columns::Unihan(_) => column(1, content),
+        _ => field(1, content),
+    }
+}
+
+/// Returns whether a line of a file of Unihan has this property.
+pub fn has_unihan_property(file: &[u8], property: &[u8]) -> bool {
+    let mut rest = file;
+    while let Some((line, after)) = first_line(rest) {
+        rest = after;
+        if is_same_name(column(1, content_of(line)), property) {
+            return true;
+        }
+    }
+    false
+}
+
+/// Appends a name with the next number, unless it is empty or known.
+pub fn push_new<'f>(names: &mut ValueNames<'f>, text: &'f [u8]) -> Result<(), AllocError> {
+    if !text.is_empty() && names.number_named(Matching::Exact, text).is_none() {
+        let number = names.as_slice().len();
+        names.try_push(number, text)?;
+    }
+    Ok(())
+}
+
+/// Returns the properties in the lines of a file, in order of first appearance.
+pub fn properties_in<'f>(
+    columns: Columns<'_>,
+    file: &'f [u8],
+) -> Result<ValueNames<'f>, AllocError> {
+    let mut names = ValueNames::new();
+    let mut rest = file;
+    while let Some((line, after)) = first_line(rest) {
+        rest = after;
+        push_new(&mut names, property_of(columns, line))?;
+    }
+    Ok(names)
+}
+
+/// Appends a text, with `?` for each byte that is no printing ASCII character.
+pub fn push_text(line: &mut String, text: &[u8]) -> Result<(), AllocError> {
+    for byte in text {
+        let is_printing = (0x20..=0x7e).contains(byte);
+        line.try_push(if is_printing { char::from(*byte) } else { '?' })?;
+    }
+    Ok(())
+}
+
+/// Appends the first of some names, and `..` if there are more.
+pub fn push_listed(line: &mut String, names: &[Name<'_>]) -> Result<(), AllocError> {
+    let mut mark = "; the file has ";
+    for name in names.get(..LISTED).unwrap_or(names) {
+        line.try_push_str(mark)?;
+        push_text(line, name.text)?;
+        mark = ", ";
+    }
+    if names.len() > LISTED {
+        line.try_push_str(", ..")?;
+    }
+    Ok(())
+}
+
+/// Returns the line about a file in which no line has a property.
+fn missing_line(
+    columns: Columns<'_>,
+    property: &str,
+    name: &str,
+    file: &[u8],
+) -> Result<String, AllocError> {
+    let names = properties_in(columns, file)?;
+    let mut line = String::new();
+    write!(line, "{name}: no line has the property {property}")?;
+    push_listed(&mut line, names.as_slice())?;
+    Ok(line)
+}
+
+/// Returns the fault of a file in which no line has a property. `name` is what it was read from,
+/// and `columns` are where its lines have their property.
+pub fn missing_property(columns: Columns<'_>, property: &str, name: &str, file: &[u8]) -> Error {
+    said(missing_line(columns, property, name, file))
+}
+
+/// Returns whether a line has field `n`, or is an `@missing` line with one.
+fn has_field_in(n: usize, line: &[u8]) -> bool {
+    match missing_of(line) {
+        Some(content) => has_field(n, content),
+        None => has_field(n, content_of(line)),
+    }
+}
+
+/// Returns whether a line of a file has field `n`.
+pub fn is_field_of(n: usize, file: &[u8]) -> bool {
+    let mut rest = file;
+    while let Some((line, after)) = first_line(rest) {
+        rest = after;
+        if has_field_in(n, line) {
+            return true;
+        }
+    }
+    false
+}
+
+/// Returns the field of which the arguments ask, by its number or as a property of UnicodeData.txt.
+fn asked_field(matches: &ArgMatches<'_>, columns: Columns<'_>) -> Option<usize> {
+    match columns {
+        Columns::UnicodeData(n) => Some(n),
+        Columns::Field(n) if number(matches, "field").is_some() => Some(n),
+        _ => None,
+    }
+}
+
+/// Returns the line about a file in which no line has field `n`.
+fn no_field_line(name: &str, n: usize) -> Result<String, AllocError> {
+    let mut line = String::new();
+    write!(line, "{name}: no line has field {n}, counted from 0")?;
+    Ok(line)
+}
+
+/// Tests whether a line has the field of which the arguments ask. `name` is what the file was read
+/// from.
+pub fn expect_field(
+    matches: &ArgMatches<'_>,
+    columns: Columns<'_>,
+    name: &str,
+    file: &[u8],
+) -> Result<(), Error> {
+    match asked_field(matches, columns) {
+        Some(n) if !is_field_of(n, file) => Err(said(no_field_line(name, n))),
+        _ => Ok(()),
+    }
+}

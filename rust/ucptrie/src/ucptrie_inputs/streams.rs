@@ -1,0 +1,87 @@
+//! Files and streams, and the names by which faults call them.
+use crate::host::io::{Read, Write};
+use crate::host::*;
+use crate::host::{fs, io};
+use crate::support::prelude::*;
+use crate::ucptrie_inputs::compressed::{expect_decompressed, expect_lines};
+use crate::ucptrie_inputs::error::{Error, about, about_arguments};
+
+/// The name of standard input in messages.
+pub const INPUT: &str = "standard input";
+
+/// The name of standard output in messages.
+const OUTPUT: &str = "standard output";
+
+/// Returns the fault of two inputs that are standard input.
+pub fn read_twice() -> Error {
+    about_arguments(INPUT, "can be read once, and two inputs are -")
+}
+
+/// Returns the name of an input in messages. `-` is standard input.
+pub fn input_name(path: &str) -> &str {
+    if path == "-" { INPUT } else { path }
+}
+
+/// The byte order mark of UTF-8.
+const MARK: &[u8] = b"\xef\xbb\xbf";
+
+/// Returns a text without the byte order mark at its start, if it has one.
+pub fn without_mark(text: &[u8]) -> &[u8] {
+    text.strip_prefix(MARK).unwrap_or(text)
+}
+
+/// Reads all of standard input.
+fn input(rt: &HostRuntime) -> Result<Vec<u8>, Error> {
+    let mut bytes = Vec::new();
+    match rt.stdin().read_to_end(&mut bytes) {
+        Ok(_) => Ok(bytes),
+        Err(error) => Err(about(INPUT, error)),
+    }
+}
+
+/// Reads a file, or standard input if its name is `-`.
+pub fn bytes_at(rt: &HostRuntime, path: &str) -> Result<Vec<u8>, Error> {
+    if path == "-" {
+        return input(rt);
+    }
+    match fs::read(rt, path) {
+        Ok(bytes) => Ok(bytes),
+        Err(error) => Err(about(path, error)),
+    }
+}
+
+/// Reads a text from a file, or from standard input if its name is `-`. `option` is the option that
+/// names it, with a space.
+pub fn text_at(rt: &HostRuntime, path: &str, option: &'static str) -> Result<Vec<u8>, Error> {
+    let bytes = bytes_at(rt, path)?;
+    expect_decompressed(input_name(path), option, &bytes)?;
+    expect_lines(input_name(path), &bytes)?;
+    Ok(bytes)
+}
+
+/// Returns the fault of a write to standard output. It says nothing if the reader has closed the
+/// pipe, as `head` does.
+fn unwritten(error: io::Error) -> Error {
+    if matches!(error.kind(), io::ErrorKind::BrokenPipe) {
+        return Error::ClosedPipe;
+    }
+    about(OUTPUT, error)
+}
+
+/// Writes to standard output.
+pub fn put(rt: &HostRuntime, bytes: &[u8]) -> Result<(), Error> {
+    match rt.stdout().write_all(bytes) {
+        Ok(()) => Ok(()),
+        Err(error) => Err(unwritten(error)),
+    }
+}
+
+/// Prints a line on standard error.
+pub fn say(rt: &HostRuntime, line: &str) {
+    let _ = writeln!(io::stderr(), "ucptrie: {line}");
+}
+
+/// Prints on standard error that a step is done, and over how many bytes.
+pub fn say_step(rt: &HostRuntime, step: &str, bytes: usize) {
+    let _ = writeln!(io::stderr(), "ucptrie: {step} {bytes} bytes");
+}
