@@ -25,7 +25,7 @@ def draw_trie(trie, names):
     index, data = trie["index"], trie["data"]
     heading = "A fast code point trie: one index cell for each block of 64 code points"
     shared = len({tuple(data[it : it + 64]) for it in index[:1024]})
-    said = f"general categories: the 1,024 blocks below U+10000 need {shared} different blocks of data"
+    said = f"general categories: the 1,024 blocks below U+10000 need {shared} different blocks of data, which may overlap"
     picture = Picture(1000, 430, "Equal blocks of a code point trie share their cells", heading, said)
     offsets = sorted({index[it // 64] for it in BLOCKS})
     width, top, below = 940 / len(BLOCKS), 118, 236
@@ -99,8 +99,8 @@ def draw_frozen(words, rows, value):
     blocks = (0x00, 0x01, 0x13, last, 0x43F)
     count = len({offset(it) for it in range(1088)})
     assert len(words) == offset(0) + 16 * (count + 1)
-    said = f"Lu, the uppercase letters: {len(words):,} words. {offset(0)} have the offsets; then come {count} blocks and the full one"
-    picture = Picture(1000, 418, "A frozen set", "A frozen set: one bit for each code point, in blocks of 1,024", said)
+    said = f"Lu, the uppercase letters: {len(words):,} words. {offset(0)} hold the offsets. Then come {count} different blocks, and one of ones, which each frozen set has"
+    picture = Picture(1000, 426, "A frozen set", "A frozen set: one bit for each code point, in blocks of 1,024", said)
     said = f"the offset of each block of 1,024 code points: the index of its first word. The last one, of U+{1024 * last:04X},"
     picture.text(30, 92, f"{said} is that of all later blocks", BLUE)
     found = list(dict.fromkeys(offset(it) for it in blocks))
@@ -123,8 +123,8 @@ def draw_frozen(words, rows, value):
             for bit in range(64):
                 if bits[bit]:
                     picture.box(x + 3.5 * bit, y, 3, 9, GREEN, rx=0)
-    picture.text(30, 380, "each line is a word with the bits of 64 code points; green is 1", GREEN)
-    picture.text(30, 404, "U+0051 Q: the block of U+0000, its second word, bit 17 counted from 0")
+    picture.text(30, 390, "each line is a word with the bits of 64 code points; green is 1", GREEN)
+    picture.text(30, 412, "U+0051 Q: the block of U+0000, its second word, bit 17 counted from 0")
     picture.write("frozen.svg")
 
 
