@@ -65,16 +65,6 @@ let trie = builder.try_build()?;
 assert_eq!(trie.longest_match(&[0x61, 0x62, 0x63]), Some((2, 2)));
 assert_eq!(trie.longest_match(&[0x61, 0x63]), Some((1, 1)));
 assert_eq!(trie.longest_match(&[0x62]), None);
-//# dictionary longest_match_str
-use bekstaudi::char16trie::Char16TrieBuilder;
-
-let mut builder = Char16TrieBuilder::new();
-builder.add_str("\u{E9}", 1)?;
-builder.add_str("\u{E9}t\u{E9}", 2)?;
-let trie = builder.try_build()?;
-// There are 5 bytes before "s".
-assert_eq!(trie.longest_match_str("\u{E9}t\u{E9}s"), Some((5, 2)));
-assert_eq!(trie.longest_match_str("\u{E9}t"), Some((2, 1)));
 //# dictionary matches
 use bekstaudi::char16trie::Char16TrieBuilder;
 
@@ -132,6 +122,16 @@ builder.add_str("ab", 2)?;
 let trie = builder.try_build()?;
 assert_eq!(trie.get_str("ab"), Some(2));
 assert_eq!(trie.get_str("b"), None);
+//# text_units longest_match_str
+use bekstaudi::char16trie::Char16TrieBuilder;
+
+let mut builder = Char16TrieBuilder::new();
+builder.add_str("\u{E9}", 1)?;
+builder.add_str("\u{E9}t\u{E9}", 2)?;
+let trie = builder.try_build()?;
+// There are 5 bytes before "s".
+assert_eq!(trie.longest_match_str("\u{E9}t\u{E9}s"), Some((5, 2)));
+assert_eq!(trie.longest_match_str("\u{E9}t"), Some((2, 1)));
 //# mod
 //# soundness try_is_trie
 use bekstaudi::char16trie::Char16Trie;

@@ -18,7 +18,7 @@ pub use Rattle.icu_char16trie.proofs.MapLemmas.{none_beyond}
 pub use Rattle.icu_char16trie.proofs.PassedLemmas.{along_then}
 pub use Rattle.icu_char16trie.proofs.FrontLemmas.{front_more, none_along}
 -- The units and the bytes of the first characters of a text.
-pub use Rattle.icu_char16trie.proofs.CharFronts.{bytes_fit, bytes_next, units_more}
+pub use Rattle.icu_char16trie.proofs.CharFronts.{bytes_next, units_more}
 -- The entries of a map and the values of its keys.
 pub use Rattle.icu_char16trie.proofs.ListedKeys.{Contains-value_of, below_itself, same_key_eq, same_key_self, value_of-listed, value_of-some}
 -- The keys of the map of a trie ascend, and so do their first units.

@@ -39,13 +39,6 @@ units_more cs i k below within =
           ∙ ap (λ z. front_units cs i ++ (z ++ flat_map encode_utf16 t.1)) one.2,
     )
 
--- If no unit can match after some characters, no longer sequence of characters has a value.
-pub no_more_steps : (units cs : List ℕ) (place : Place) (i k : ℕ) → StepsAlong units (Node 0) (front_units cs i) place
-    → is_empty_at units place ≡ true → i < k → k ≤ length cs → HasCharsStepped units cs k None
-no_more_steps units cs place i k steps ends below within =
-    let more = units_more cs i k below within in
-    rw more.2 (none_along units (front_units cs i) place more.0 more.1 steps ends)
-
 -- ---- bytes
 
 -- The bytes of the first characters and those of the others are the bytes of the text.
@@ -81,13 +74,6 @@ pub bytes_next : (cs : List ℕ) (c : ℕ) → length (encode_utf8_all (cs ++ c 
 bytes_next cs c =
     ap length (encodes-append cs (c ∷ [])) ∙ length-append (encodes cs) (encodes (c ∷ []))
     ∙ ap (λ (z : List ℕ). length (encodes cs) + length z) (append-nil (encode c))
-
--- The bytes of the first characters and of the next one are within the text.
-pub bytes_fit : (text cs : List ℕ) (c : ℕ) → IsUtf8 text → cs ++ c ∷ [] ≡ take (length cs + 1) (chars text)
-    → length (encode_utf8_all cs) + length (encode_utf8 c) ≤ length text
-bytes_fit text cs c u first =
-    let whole : length (encode_utf8_all (cs ++ c ∷ [])) ≤ length text = rw first (bytes_within text (length cs + 1) u) in
-    omega (arith, bytes_next cs c, whole)
 
 -- The longest match in bytes, once one more character is looked up.
 pub longer_bytes : (cs : List ℕ) (k n : ℕ) (v : Option ℤ) (found : Option (ℕ × ℤ)) → n ≡ length (encode_utf8_all (take k cs))

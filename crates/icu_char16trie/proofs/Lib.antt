@@ -22,6 +22,7 @@ pub mod FrontLemmas
 pub mod RunLemmas
 pub mod StandsLemmas
 pub mod LongestLemmas
+pub mod LongestTextLemmas
 pub mod CharFronts
 pub mod TextLemmas
 pub mod MatchLemmas

@@ -71,6 +71,14 @@ at_root units text = record {
   longest = LongestWithin-zero (HasFrontStepped units text) (value_at units (Node 0)) (Node 0, refl, refl);
 }
 
+-- Between two nodes nothing has a value.
+pub none_between : (units text : List ℕ) (i node n q : ℕ) → StepsAlong units (Node 0) (take i text) (Node node)
+    → LeadsToNode units (Node node) (drop i text) q n → (k : ℕ) → i < k → k < i + n → HasFrontStepped units text k None
+none_between units text i node n q steps on k above below =
+    let same : i + (k - i) ≡ k = omega (arith, above) in
+    subst (λ z. HasFrontStepped units text z None) same
+    (front_from units text i (k - i) (Node node) None steps (on.none (k - i) (omega (arith, above)) (omega (arith, above, below))))
+
 at_next : (units text : List ℕ) (i node n q : ℕ) (found : Option (ℕ × ℤ)) → i ≤ length text
     → StepsAlong units (Node 0) (take i text) (Node node) → LongestWithin (HasFrontStepped units text) i found
     → LeadsToNode units (Node node) (drop i text) q n → IsAtNode units text (i + n) q found
@@ -96,31 +104,35 @@ at_next units text i node n q found within steps h on = record {
     along = along_front units text i n (Node node) (Node q) steps on.steps
 
     none : (k : ℕ) → i < k → k ≤ i + n - 1 → P k None
-    none k above below =
-        let same : i + (k - i) ≡ k = omega (arith, above) in
-        subst (λ z. P z None) same
-        (front_from units text i (k - i) (Node node) None steps
-        (on.none (k - i) (omega (arith, above)) (omega (arith, above, below, on.some))))
+    none k above below = none_between units text i node n q steps on k above (omega (arith, below, on.some))
 
-none_further : (units text : List ℕ) (i node : ℕ) (found : Option (ℕ × ℤ)) → i ≤ length text
-    → StepsAlong units (Node 0) (take i text) (Node node) → LongestWithin (HasFrontStepped units text) i found
-    → NoneHasValue units (Node node) (drop i text) → LongestWithin (HasFrontStepped units text) (length text) found
-none_further units text i node found within steps h none =
-    LongestWithin-more (HasFrontStepped units text) i (length text) found within further h
-  where
-    further : (k : ℕ) → i < k → k ≤ length text → HasFrontStepped units text k None
-    further k above below =
-        let same : i + (k - i) ≡ k = omega (arith, above) in
-        subst (λ z. HasFrontStepped units text z None) same
-        (front_from units text i (k - i) (Node node) None steps
-        (none (k - i) (omega (arith, above)) (omega (arith, above, below, length-drop i text))))
+-- ---- above the units so far
 
-none_beyond_node : (units text : List ℕ) (i node : ℕ) (found : Option (ℕ × ℤ)) → i ≤ length text
-    → StepsAlong units (Node 0) (take i text) (Node node) → LongestWithin (HasFrontStepped units text) i found
-    → is_empty_at units (Node node) ≡ true → LongestWithin (HasFrontStepped units text) (length text) found
-none_beyond_node units text i node found within steps h ends =
-    LongestWithin-more (HasFrontStepped units text) i (length text) found within
-    (λ k above below. no_longer_step units text (Node node) i k steps ends above below) h
+-- No prefix of more than i units has a value.
+abbrev pub NoneAbove : List ℕ → List ℕ → ℕ → Type 0
+NoneAbove units text i = (k : ℕ) → i < k → k ≤ length text → HasFrontStepped units text k None
+
+-- The lead is missing.
+pub none_above_missing : (units text : List ℕ) (i node : ℕ) → StepsAlong units (Node 0) (take i text) (Node node)
+    → slice_get units node ≡ None → NoneAbove units text i
+none_above_missing units text i node steps g k = no_longer_step units text (Node node) i k steps (ap ends_by g)
+
+-- The lead is that of a final value.
+pub none_above_final : (units text : List ℕ) (i node lead : ℕ) → StepsAlong units (Node 0) (take i text) (Node node)
+    → slice_get units node ≡ Some lead → 0x8000 ≤ lead → NoneAbove units text i
+none_above_final units text i node lead steps g big k =
+    no_longer_step units text (Node node) i k steps (ap ends_by g ∙ from_yes 0x8000 lead big)
+
+-- The text does not continue at the match node.
+pub none_above_match : (units text : List ℕ) (i node lead place : ℕ) → StepsAlong units (Node 0) (take i text) (Node node)
+    → slice_get units node ≡ Some lead → lead < 0x8000 → place ≡ node_end (node + 1) lead
+    → PassesMatch units (drop i text) place (lead % 64) None → NoneAbove units text i
+none_above_match units text i node lead place steps g small e passes k above below =
+    let same : i + (k - i) ≡ k = omega (arith, above) in
+    subst (λ z. HasFrontStepped units text z None) same
+    (front_from units text i (k - i) (Node node) None steps
+    (passes (Node node) (match_leads units node lead place g small e) (k - i) (omega (arith, above))
+    (omega (arith, above, below, length-drop i text))))
 
 -- ---- the result once the node's lead is read
 
@@ -136,24 +148,16 @@ pub ends_before : (units text : List ℕ) (i node : ℕ) (found : Option (ℕ ×
     → slice_get units node ≡ None → LongestWithin (HasFrontStepped units text) (length text) found
 ends_before units text i node found at g =
     let no_value : value_at units (Node node) ≡ None = ap (option_and_then (value_by units (node + 1))) g in
-    none_beyond_node units text i node found at.within at.steps (rw no_value at at.longest) (ap ends_by g)
+    LongestWithin-more (HasFrontStepped units text) i (length text) found at.within
+    (none_above_missing units text i node at.steps g) (rw no_value at at.longest)
 
--- The lead is that of a final value.
-pub ends_here : (units text : List ℕ) (i node lead : ℕ) (before found : Option (ℕ × ℤ)) → IsAtNode units text i node before
-    → slice_get units node ≡ Some lead → found ≡ longer i (value_by units (node + 1) lead) before → 0x8000 ≤ lead
+-- The lead is there, and the text does not continue.
+pub ends_at : (units text : List ℕ) (i node lead : ℕ) (before found : Option (ℕ × ℤ)) → IsAtNode units text i node before
+    → slice_get units node ≡ Some lead → found ≡ longer i (value_by units (node + 1) lead) before → NoneAbove units text i
     → LongestWithin (HasFrontStepped units text) (length text) found
-ends_here units text i node lead before found at g is big =
-    none_beyond_node units text i node found at.within at.steps (found_here units text i node lead before found at g is)
-    (ap ends_by g ∙ from_yes 0x8000 lead big)
-
--- The text does not continue at the match node.
-pub ends_within : (units text : List ℕ) (i node lead place : ℕ) (before found : Option (ℕ × ℤ)) → IsAtNode units text i node before
-    → slice_get units node ≡ Some lead → found ≡ longer i (value_by units (node + 1) lead) before → lead < 0x8000
-    → place ≡ node_end (node + 1) lead → PassesMatch units (drop i text) place (lead % 64) None
-    → LongestWithin (HasFrontStepped units text) (length text) found
-ends_within units text i node lead place before found at g is small e passes =
-    none_further units text i node found at.within at.steps (found_here units text i node lead before found at g is)
-    (passes (Node node) (match_leads units node lead place g small e))
+ends_at units text i node lead before found at g is none =
+    LongestWithin-more (HasFrontStepped units text) i (length text) found at.within none
+    (found_here units text i node lead before found at g is)
 
 -- The text continues to the next node.
 pub goes_to : (units text : List ℕ) (i node lead place q n : ℕ) → slice_get units node ≡ Some lead → lead < 0x8000
@@ -181,32 +185,9 @@ whole : (units text : List ℕ) (k : ℕ) (v : Option ℤ) → k ≡ length text
 whole units text k v e h =
     let all : take k text ≡ text = ap (λ n. take n text) e ∙ take-length text in subst (λ w. HasValueAlong units w v) all h
 
-no_value_beyond : (units text : List ℕ) (i node : ℕ) → i < length text → StepsAlong units (Node 0) (take i text) (Node node)
-    → is_empty_at units (Node node) ≡ true → HasValueAlong units text None
-no_value_beyond units text i node within steps ends =
-    whole units text (length text) None refl (no_longer_step units text (Node node) i (length text) steps ends within (omega arith))
-
--- The lead is missing.
-pub none_without_lead : (units text : List ℕ) (i node : ℕ) → i < length text → StepsAlong units (Node 0) (take i text) (Node node)
-    → slice_get units node ≡ None → HasValueAlong units text None
-none_without_lead units text i node within steps g = no_value_beyond units text i node within steps (ap ends_by g)
-
--- The lead is that of a final value.
-pub none_after_final : (units text : List ℕ) (i node lead : ℕ) → i < length text → StepsAlong units (Node 0) (take i text) (Node node)
-    → slice_get units node ≡ Some lead → 0x8000 ≤ lead → HasValueAlong units text None
-none_after_final units text i node lead within steps g big =
-    no_value_beyond units text i node within steps (ap ends_by g ∙ from_yes 0x8000 lead big)
-
--- The text does not continue at the match node.
-pub none_within : (units text : List ℕ) (i node lead place : ℕ) → i < length text
-    → StepsAlong units (Node 0) (take i text) (Node node) → slice_get units node ≡ Some lead → lead < 0x8000
-    → place ≡ node_end (node + 1) lead → PassesMatch units (drop i text) place (lead % 64) None → HasValueAlong units text None
-none_within units text i node lead place within steps g small e passes =
-    let rest : i + (length text - i) ≡ length text = omega (arith, within) in
-    whole units text (i + (length text - i)) None rest
-    (front_from units text i (length text - i) (Node node) None steps
-    (passes (Node node) (match_leads units node lead place g small e) (length text - i) (omega (arith, within))
-    (omega (arith, length-drop i text))))
+-- The text does not end at the node.
+pub none_at_end : (units text : List ℕ) (i : ℕ) → i < length text → NoneAbove units text i → HasValueAlong units text None
+none_at_end units text i within none = whole units text (length text) None refl (none (length text) within (omega arith))
 
 -- The text ends at the node.
 pub value_here : (units text : List ℕ) (i node : ℕ) (lead : Option ℕ) → i ≡ length text

@@ -115,7 +115,7 @@ front_is_value : (units : List ℕ) (m : UnitMap) (text : List ℕ) (k : ℕ) (v
     → HasFrontValue m text k v
 front_is_value units m text k v trie h = along_is_value units m (take k text) v trie h
 
-longest_as : (P Q : ℕ → Option ℤ → Type 0) (most : ℕ) (found : Option (ℕ × ℤ)) → ((k : ℕ) (v : Option ℤ) → P k v → Q k v)
+pub longest_as : (P Q : ℕ → Option ℤ → Type 0) (most : ℕ) (found : Option (ℕ × ℤ)) → ((k : ℕ) (v : Option ℤ) → P k v → Q k v)
     → LongestWithin P most found → LongestWithin Q most found
 longest_as P Q most None f h = λ k within. f k None (h k within)
 longest_as P Q most (Some found) f h =

@@ -1,5 +1,5 @@
 -- The units of a text that are still to be read.
-use Rattle.std.proofs.Common.{◌≡◌, ℕ, ◌+◌, ◌-◌, ◌/◌, ◌%◌, ◌<◌, ◌≤◌, Bool, true, false, not, nat_eq, nat_lt, add-zero, eq-eqb, eqb-true, List, [], ◌∷◌, ◌++◌, Option, Some, None, length, slice_get, drop, length-drop, zero, suc, refl, sym, ap, subst, ◌∙◌, arith}
+use Rattle.std.proofs.Common.{◌≡◌, ℕ, ◌+◌, ◌-◌, ◌/◌, ◌%◌, ◌<◌, ◌≤◌, Bool, true, false, not, nat_eq, nat_lt, add-zero, append_assoc, eq-eqb, eqb-true, List, [], ◌∷◌, ◌++◌, Option, Some, None, length, slice_get, drop, length-drop, zero, suc, refl, sym, ap, subst, ◌∙◌, arith}
 use Rattle.std.proofs.lemmas.Bool.{lt-ltb, true≢false}
 use Rattle.std.proofs.lemmas.List.{drop-drop}
 use Rattle.std.specs.Option.{option_eq}
@@ -24,7 +24,7 @@ units_of_char : (bytes rest : List ℕ) (c : ℕ) → IsUtf8 bytes → bytes ≡
     → text_units bytes ≡ encode_utf16 c ++ text_units rest
 units_of_char bytes rest c u e = ap (flat_map encode_utf16) (chars_past_char bytes rest c u e)
 
-one_unit : (c : ℕ) → c < 0x1_0000 → encode_utf16 c ≡ c ∷ []
+pub one_unit : (c : ℕ) → c < 0x1_0000 → encode_utf16 c ≡ c ∷ []
 one_unit c small = let t : nat_lt c 0x1_0000 ≡ true = lt-ltb c 0x1_0000 small in rw t refl
 
 -- At the end of the text there are no more units.
@@ -47,6 +47,11 @@ pub two_left : (second : Option ℕ) (bytes rest : List ℕ) (c : ℕ) → ((x :
     ≡ (0xD800 + (c - 0x1_0000) / 0x400) ∷ after_second (Some (0xDC00 + (c - 0x1_0000) % 0x400)) (text_units rest)
 two_left second bytes rest c none u e big =
     no_second second _ none ∙ units_of_char bytes rest c u e ∙ ap (λ z. z ++ text_units rest) (two_units c big)
+
+-- The last characters of the last ones are last.
+pub last_then : {xs ys zs : List ℕ} → (front : List ℕ) × (xs ≡ front ++ ys) → (front : List ℕ) × (ys ≡ front ++ zs)
+    → (front : List ℕ) × (xs ≡ front ++ zs)
+last_then {zs = zs} a b = (a.0 ++ b.0, a.1 ∙ ap (λ z. a.0 ++ z) b.1 ∙ sym (append_assoc a.0 b.0 zs))
 
 -- ---- one more unit
 

@@ -17,7 +17,7 @@ ghost use Rattle.icu_char16trie.specs.declared.place.Place.TheVariants.{Nowhere,
 use crate::listing::Entries;
 use crate::next_units::add_units;
 use crate::place::{CursorPlace, Place, numbers_of, place_of};
-use crate::step::{is_empty_at, state_at, step, value_at};
+use crate::step::{is_empty_at, step, value_at};
 use crate::unique::unique_value_at;
 use icu_zerovec::{MemoryError, ZeroSlice};
 use std::alloc::Global;
@@ -124,7 +124,8 @@ impl<'a> Char16TrieCursor<'a> {
         }
     }
 
-    /// Advances by the UTF-16 units of the character `c`: one below U+10000, and two from there on.
+    /// Advances by the UTF-16 units of the character `c`: one below U+10000, and two from there on. If
+    /// nothing matched before, nothing matches now.
     #[inline(always)]
     pub fn step(&mut self, c: char)
         ensures passes { Passes self.old (encode_utf16 c) self.new }
@@ -155,16 +156,6 @@ impl<'a> Char16TrieCursor<'a> {
         ensures exact { result ≡ is_empty_at self.now.units self.now.place }
     {
         is_empty_at(self.units, self.place)
-    }
-
-    /// Returns the value of the units so far, as [`value`](Self::value) does, and whether no key
-    /// continues after them, as [`is_empty`](Self::is_empty) does.
-    #[inline(always)]
-    pub(crate) fn state(&self) -> (Option<i32>, bool)
-        ensures value { result.0 ≡ value_at self.now.units self.now.place }
-        ensures empty { result.1 ≡ is_empty_at self.now.units self.now.place }
-    {
-        state_at(self.units, self.place)
     }
 
     /// Returns the entries whose keys start with the units so far, in unit order, each key without

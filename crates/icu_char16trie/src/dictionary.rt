@@ -1,12 +1,11 @@
 //! Finds the keys that a text starts with, as a dictionary finds words.
 ghost use Rattle.icu_zerovec.specs.Slice.{slice_values};
-ghost use Rattle.std.specs.Prelude.{◌≡◌, ◌↔◌, ℕ, ℤ, ◌^◌, ◌<◌, List, IfSome, IsTrue};
+ghost use Rattle.std.specs.Prelude.{◌≡◌, ◌↔◌, ℕ, ℤ, ◌^◌, ◌<◌, List, IsTrue};
 ghost use Rattle.std.specs.Iterator.{Drains};
-ghost use Rattle.std.specs.Str.{IsCharBoundary};
 ghost use Rattle.icu_char16trie.specs.Constants.{min_value_lead};
 ghost use Rattle.icu_char16trie.specs.Grammar.{IsTrieOf};
 ghost use Rattle.icu_char16trie.specs.UnitMap.{UnitMap};
-ghost use Rattle.icu_char16trie.specs.Matches.{IsLongestInText, IsLongestMatch, IsLongestStepped, IsLongestSteppedInText, matches_of};
+ghost use Rattle.icu_char16trie.specs.Matches.{IsLongestMatch, IsLongestStepped, matches_of};
 ghost use Rattle.icu_char16trie.specs.MatchesLeft.{AreLeft, GivesMatch};
 ghost use Rattle.icu_char16trie.specs.Inside.Fronts.{BeginsRun, PassesMatch, longer};
 
@@ -20,7 +19,7 @@ use icu_zerovec::ZeroSlice;
 
 /// Returns the match of the first `n` units if they have a value, and otherwise the earlier match.
 #[inline(always)]
-fn longer_match(n: usize, value: Option<i32>, found: Option<(usize, i32)>) -> Option<(usize, i32)>
+pub(crate) fn longer_match(n: usize, value: Option<i32>, found: Option<(usize, i32)>) -> Option<(usize, i32)>
     ensures { result ≡ longer n value found }
 {
     match value {
@@ -115,40 +114,6 @@ impl<'data> Char16Trie<'data> {
             passed += count;
         }
         found
-    }
-
-    /// Returns the longest key that `text` starts with: its length in bytes of `text` and its
-    /// value.
-    ///
-    /// Returns `None` if `text` starts with no key. Only keys that are whole characters in UTF-16
-    /// count: a key that ends between the two units of a character does not. So `&text[length..]`
-    /// is what follows the key.
-    ///
-    /// ```
-    /// // of the map of "\u{e9}" to 1 and "\u{e9}t\u{e9}" to 2
-    /// // trie.longest_match_str("\u{e9}t\u{e9}s") is Some((5, 2)), and before "s" there are 5 bytes
-    /// // trie.longest_match_str("\u{e9}t") is Some((2, 1))
-    /// ```
-    pub fn longest_match_str(&self, text: &str) -> Option<(usize, i32)>
-        ensures longest { (m : UnitMap) → IsTrieOf self.now m
-            → IsLongestInText m text.now result }
-        ensures exact { IsLongestSteppedInText self.now text.now result }
-        ensures boundary { IfSome result (λ found. IsCharBoundary text.now found.0) }
-    {
-        let mut cursor = self.cursor();
-        let mut found = None;
-        let mut end = 0;
-        for c in text.chars() {
-            let (value, ends) = cursor.state();
-            found = longer_match(end, value, found);
-            if ends {
-                return found;
-            }
-            cursor.step(c);
-            end += c.len_utf8();
-        }
-        let value = cursor.value();
-        longer_match(end, value, found)
     }
 
     /// Returns all keys that `text` starts with, the shortest first: the length of each in units

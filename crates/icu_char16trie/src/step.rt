@@ -165,21 +165,3 @@ pub(crate) fn is_empty_at(units: ZeroSlice<'_, u16>, place: Place) -> bool
         Place::Run(_, _) => false,
     }
 }
-
-/// Returns the value at a position, and true if no unit can match there. One read of the lead unit
-/// is enough for both.
-#[inline(always)]
-pub(crate) fn state_at(units: ZeroSlice<'_, u16>, place: Place) -> (Option<i32>, bool)
-    requires { IsNear place }
-    ensures value { result.0 ≡ value_at (slice_values units.entry) place }
-    ensures empty { result.1 ≡ is_empty_at (slice_values units.entry) place }
-{
-    match place {
-        Place::Nowhere => (None, true),
-        Place::Node(node) => match unit_at(units, node) {
-            Some(lead) => (value_by(units, node + 1, lead), lead >= VALUE_IS_FINAL),
-            None => (None, true),
-        },
-        Place::Run(_, _) => (None, false),
-    }
-}

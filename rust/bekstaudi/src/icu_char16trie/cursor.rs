@@ -3,7 +3,7 @@
 use crate::icu_char16trie::listing::Entries;
 use crate::icu_char16trie::next_units::add_units;
 use crate::icu_char16trie::place::{CursorPlace, Place, numbers_of, place_of};
-use crate::icu_char16trie::step::{is_empty_at, state_at, step, value_at};
+use crate::icu_char16trie::step::{is_empty_at, step, value_at};
 use crate::icu_char16trie::unique::unique_value_at;
 use crate::icu_zerovec::{MemoryError, ZeroSlice};
 use crate::support::prelude::*;
@@ -82,7 +82,8 @@ impl<'a> Char16TrieCursor<'a> {
         }
     }
 
-    /// Advances by the UTF-16 units of the character `c`: one below U+10000, and two from there on.
+    /// Advances by the UTF-16 units of the character `c`: one below U+10000, and two from there on. If
+    /// nothing matched before, nothing matches now.
     #[inline(always)]
     pub fn step(&mut self, c: char) {
         self.step32(c as u32);
@@ -102,13 +103,6 @@ impl<'a> Char16TrieCursor<'a> {
     #[must_use]
     pub fn is_empty(&self) -> bool {
         is_empty_at(self.units, self.place)
-    }
-
-    /// Returns the value of the units so far, as [`value`](Self::value) does, and whether no key
-    /// continues after them, as [`is_empty`](Self::is_empty) does.
-    #[inline(always)]
-    pub(crate) fn state(&self) -> (Option<i32>, bool) {
-        state_at(self.units, self.place)
     }
 
     /// Returns the entries whose keys start with the units so far, in unit order, each key without

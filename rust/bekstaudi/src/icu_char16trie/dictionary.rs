@@ -11,7 +11,11 @@ use crate::support::prelude::*;
 
 /// Returns the match of the first `n` units if they have a value, and otherwise the earlier match.
 #[inline(always)]
-fn longer_match(n: usize, value: Option<i32>, found: Option<(usize, i32)>) -> Option<(usize, i32)> {
+pub(crate) fn longer_match(
+    n: usize,
+    value: Option<i32>,
+    found: Option<(usize, i32)>,
+) -> Option<(usize, i32)> {
     match value {
         Some(v) => Some((n, v)),
         None => found,
@@ -96,43 +100,6 @@ impl<'data> Char16Trie<'data> {
             passed += count;
         }
         found
-    }
-
-    /// Returns the longest key that `text` starts with: its length in bytes of `text` and its
-    /// value.
-    ///
-    /// Returns `None` if `text` starts with no key. Only keys that are whole characters in UTF-16
-    /// count: a key that ends between the two units of a character does not. So `&text[length..]`
-    /// is what follows the key.
-    ///
-    /// ```
-    /// use bekstaudi::char16trie::Char16TrieBuilder;
-    ///
-    /// let mut builder = Char16TrieBuilder::new();
-    /// builder.add_str("\u{E9}", 1)?;
-    /// builder.add_str("\u{E9}t\u{E9}", 2)?;
-    /// let trie = builder.try_build()?;
-    /// // There are 5 bytes before "s".
-    /// assert_eq!(trie.longest_match_str("\u{E9}t\u{E9}s"), Some((5, 2)));
-    /// assert_eq!(trie.longest_match_str("\u{E9}t"), Some((2, 1)));
-    /// # Ok::<(), Box<dyn std::error::Error>>(())
-    /// ```
-    #[must_use]
-    pub fn longest_match_str(&self, text: &str) -> Option<(usize, i32)> {
-        let mut cursor = self.cursor();
-        let mut found = None;
-        let mut end = 0;
-        for c in text.chars() {
-            let (value, ends) = cursor.state();
-            found = longer_match(end, value, found);
-            if ends {
-                return found;
-            }
-            cursor.step(c);
-            end += c.len_utf8();
-        }
-        let value = cursor.value();
-        longer_match(end, value, found)
     }
 
     /// Returns all keys that `text` starts with, the shortest first: the length of each in units

@@ -115,17 +115,3 @@ pub(crate) fn is_empty_at(units: ZeroSlice<'_, u16>, place: Place) -> bool {
         Place::Run(_, _) => false,
     }
 }
-
-/// Returns the value at a position, and true if no unit can match there. One read of the lead unit
-/// is enough for both.
-#[inline(always)]
-pub(crate) fn state_at(units: ZeroSlice<'_, u16>, place: Place) -> (Option<i32>, bool) {
-    match place {
-        Place::Nowhere => (None, true),
-        Place::Node(node) => match unit_at(units, node) {
-            Some(lead) => (value_by(units, node + 1, lead), lead >= VALUE_IS_FINAL),
-            None => (None, true),
-        },
-        Place::Run(_, _) => (None, false),
-    }
-}

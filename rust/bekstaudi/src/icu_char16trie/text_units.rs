@@ -1,6 +1,8 @@
-//! The UTF-16 units of a text, one after another, and the value of a key that is a text.
+//! The UTF-16 units of a text, one after another: the value of a key that is a text, and the longest
+//! key that a text starts with.
 
 use crate::icu_char16trie::branch::child_in_branch;
+use crate::icu_char16trie::dictionary::longer_match;
 use crate::icu_char16trie::encoded::{node_end, run_len, unit_at};
 use crate::icu_char16trie::impl_const::{MIN_LINEAR_MATCH, MIN_VALUE_LEAD, VALUE_IS_FINAL};
 use crate::icu_char16trie::step::value_by;
@@ -32,6 +34,21 @@ impl<'a> TextUnits<'a> {
         let supplementary = c - 0x1_0000;
         self.second = Some((0xDC00 + supplementary % 0x400) as u16);
         Some((0xD800 + supplementary / 0x400) as u16)
+    }
+
+    /// Returns the match of what was read of `text` if that has a value and ends with a whole
+    /// character, and otherwise the earlier match. Its length is in bytes.
+    #[inline(always)]
+    fn longer_match(
+        &self,
+        text: &str,
+        value: Option<i32>,
+        found: Option<(usize, i32)>,
+    ) -> Option<(usize, i32)> {
+        if self.second.is_some() {
+            return found;
+        }
+        longer_match(text.len() - self.rest.len(), value, found)
     }
 }
 
@@ -114,5 +131,51 @@ impl<'data> Char16Trie<'data> {
         }
         let last = unit_at(units, node)?;
         value_by(units, node + 1, last)
+    }
+
+    /// Returns the longest key that `text` starts with: its length in bytes of `text` and its
+    /// value.
+    ///
+    /// Returns `None` if `text` starts with no key. Only keys that are whole characters in UTF-16
+    /// count: a key that ends between the two units of a character does not. So `&text[length..]`
+    /// is what follows the key.
+    ///
+    /// ```
+    /// use bekstaudi::char16trie::Char16TrieBuilder;
+    ///
+    /// let mut builder = Char16TrieBuilder::new();
+    /// builder.add_str("\u{E9}", 1)?;
+    /// builder.add_str("\u{E9}t\u{E9}", 2)?;
+    /// let trie = builder.try_build()?;
+    /// // There are 5 bytes before "s".
+    /// assert_eq!(trie.longest_match_str("\u{E9}t\u{E9}s"), Some((5, 2)));
+    /// assert_eq!(trie.longest_match_str("\u{E9}t"), Some((2, 1)));
+    /// # Ok::<(), Box<dyn std::error::Error>>(())
+    /// ```
+    #[must_use]
+    pub fn longest_match_str(&self, text: &str) -> Option<(usize, i32)> {
+        let units = self.data.as_slice();
+        let mut left = TextUnits {
+            rest: text,
+            second: None,
+        };
+        let mut node = 0;
+        let mut found = None;
+        while let Some(lead) = unit_at(units, node) {
+            found = left.longer_match(text, value_by(units, node + 1, lead), found);
+            if lead >= VALUE_IS_FINAL {
+                return found;
+            }
+            let Some(unit) = left.next_unit() else {
+                return found;
+            };
+            let place = node_end(node + 1, lead);
+            let Some(next) = pass_units(units, place, lead % MIN_VALUE_LEAD, unit, &mut left)
+            else {
+                return found;
+            };
+            node = next;
+        }
+        found
     }
 }

@@ -2,7 +2,7 @@ use Rattle.std.proofs.Common.{◌≡◌, ◌∷◌, Some, drop, sym, ◌∙◌, 
 use Rattle.std.proofs.lemmas.Bool.{false≢true}
 use borrow.Author.Count.{below_more}
 use Rattle.icu_char16trie.specs.Inside.Texts.{units_left}
-use Rattle.icu_char16trie.proofs.TextLemmas.{is_other, is_unit, none_after, rest_after, unit_here, within_rest}
+use Rattle.icu_char16trie.proofs.TextLemmas.{is_other, is_unit, last_then, none_after, rest_after, unit_here, within_rest}
 use Rattle.icu_char16trie.proofs.text_units.reads_run.Goals as goal
 
 pub returns-in_default-clause-begins : goal.returns-in_default-clause-begins
@@ -11,6 +11,12 @@ returns-in_default-clause-begins c =
       λ told. absurd (false≢true told),
       λ begins. absurd (omega (arith, begins.within, over, c.loop-i-test.true)),
     )
+
+pub returns-in_default-clause-last : goal.returns-in_default-clause-last
+returns-in_default-clause-last c = last_then c.loop-i.invariant.last c.in_default.ensures.last
+
+pub returns-then-ne-clause-last : goal.returns-then-ne-clause-last
+returns-then-ne-clause-last c = last_then c.loop-i.invariant.last c.in-Some.ensures.last
 
 pub returns-then-ne-clause-begins : goal.returns-then-ne-clause-begins
 returns-then-ne-clause-begins c =
@@ -35,5 +41,6 @@ loop-i-preserved c =
           (sym c.unit_at.ensures.unit ∙ same ∙ sym (unit_here (units_left c.args.text.now) _ c.in-Some.unit c.loop-i.i left));
       near = omega (arith, near.0);
       left = rest_after (units_left c.args.text.now) _ c.in-Some.unit c.loop-i.i left;
-      utf8 = c.in-Some.ensures.utf8;
+      units = c.in-Some.ensures.units;
+      last = last_then inv.last c.in-Some.ensures.last;
     }

@@ -1,4 +1,5 @@
-use Rattle.std.proofs.Common.{sym, ◌∙◌, arith}
+use Rattle.std.proofs.Common.{◌∷◌, [], sym, ◌∙◌, arith}
+use Rattle.std.proofs.lemmas.Str.{chars_past_char}
 use Rattle.icu_char16trie.proofs.TextLemmas.{none_left, one_left, two_left}
 use Rattle.icu_char16trie.proofs.text_units.TextUnits.next_unit.Goals as goal
 
@@ -15,7 +16,7 @@ returns-then-c-lt65536-clause-unit c =
     let some = c.in_ok-next.ensures.steps.0 in
     rw (c.from-c.ensures, c.as_str-self.ensures)
     (one_left c.args.self.now.second c.take.new.self c.args.self.now.rest.now _ c.in_ok-next.field-0
-    (λ x e. c.in_default.not-Some x (c.take.ensures.value ∙ e)) c.take.ensures.after c.requires
+    (λ x e. c.in_default.not-Some x (c.take.ensures.value ∙ e)) c.take.ensures.after c.requires.utf8
     (sym c.chars-chars.ensures.rest ∙ some) (omega (arith, c.from-c.ensures, c.if-c-lt65536.true)))
 
 pub returns-clause-unit : goal.returns-clause-unit
@@ -23,5 +24,17 @@ returns-clause-unit c =
     let some = c.in_ok-next.ensures.steps.0 in
     rw (c.from-c.ensures, c.as_str-self.ensures)
     (two_left c.args.self.now.second c.args.self.now.rest.now _ c.in_ok-next.field-0
-    (λ x e. c.in_default.not-Some x (c.take.ensures.value ∙ e)) c.requires
+    (λ x e. c.in_default.not-Some x (c.take.ensures.value ∙ e)) c.requires.utf8
     (sym c.chars-chars.ensures.rest ∙ some) (omega (arith, c.from-c.ensures, c.if-c-lt65536.false)))
+
+pub returns-then-c-lt65536-clause-last : goal.returns-then-c-lt65536-clause-last
+returns-then-c-lt65536-clause-last c =
+    let some = c.in_ok-next.ensures.steps.0 in
+    rw c.as_str-self.ensures
+    (c.in_ok-next.field-0 ∷ [], chars_past_char c.args.self.now.rest.now _ c.in_ok-next.field-0 c.requires.utf8 (sym c.chars-chars.ensures.rest ∙ some))
+
+pub returns-clause-last : goal.returns-clause-last
+returns-clause-last c =
+    let some = c.in_ok-next.ensures.steps.0 in
+    rw c.as_str-self.ensures
+    (c.in_ok-next.field-0 ∷ [], chars_past_char c.args.self.now.rest.now _ c.in_ok-next.field-0 c.requires.utf8 (sym c.chars-chars.ensures.rest ∙ some))

@@ -2,7 +2,7 @@ use Rattle.icu_zerovec.specs.Slice.{slice_values}
 use Rattle.std.proofs.Common.{◌≡◌, ◌+◌, ◌≤◌, ◌∙◌, Some, None, sym, arith, length, drop}
 use Rattle.icu_char16trie.specs.Inside.Fronts.{LeadsToNode}
 use Rattle.icu_char16trie.specs.declared.place.Place.TheVariants.{Node}
-use Rattle.icu_char16trie.proofs.LongestLemmas.{along_on, goes_to, none_after_final, none_within, none_without_lead, rest_is, value_here, within_text}
+use Rattle.icu_char16trie.proofs.LongestLemmas.{along_on, goes_to, none_above_final, none_above_match, none_above_missing, none_at_end, rest_is, value_here, within_text}
 use Rattle.icu_char16trie.proofs.StandsLemmas.{along_is_value}
 use Rattle.icu_char16trie.proofs.trie.Char16Trie.get.Goals as goal
 
@@ -10,25 +10,26 @@ pub returns-in_err-lead-clause-exact : goal.returns-in_err-lead-clause-exact
 returns-in_err-lead-clause-exact c =
     let same : slice_values c.as_slice-units.result ≡ c.args.self.now = c.as_slice-units.ensures ∙ c.self.view_is in
     rw (← same, c.from_residual.ensures)
-    (none_without_lead (slice_values c.as_slice-units.result) c.args.key.now c.loop-passed.passed c.loop-passed.node
-    c.loop-passed-test.true (rw (← same) at c.loop-passed.invariant.steps) (sym c.in_err-lead.ensures.unit))
+    (none_at_end (slice_values c.as_slice-units.result) c.args.key.now c.loop-passed.passed c.loop-passed-test.true
+    (none_above_missing _ _ c.loop-passed.passed c.loop-passed.node (rw (← same) at c.loop-passed.invariant.steps)
+    (sym c.in_err-lead.ensures.unit)))
 
 pub returns-then-lead-ge-VALUE_IS_FINAL-clause-exact : goal.returns-then-lead-ge-VALUE_IS_FINAL-clause-exact
 returns-then-lead-ge-VALUE_IS_FINAL-clause-exact c =
     let same : slice_values c.as_slice-units.result ≡ c.args.self.now = c.as_slice-units.ensures ∙ c.self.view_is in
     rw (← same)
-    (none_after_final (slice_values c.as_slice-units.result) c.args.key.now c.loop-passed.passed c.loop-passed.node c.in_ok-lead.lead
-    c.loop-passed-test.true (rw (← same) at c.loop-passed.invariant.steps) (sym c.in_ok-lead.ensures.unit)
-    c.if-lead-ge-VALUE_IS_FINAL.true)
+    (none_at_end (slice_values c.as_slice-units.result) c.args.key.now c.loop-passed.passed c.loop-passed-test.true
+    (none_above_final _ _ c.loop-passed.passed c.loop-passed.node c.in_ok-lead.lead (rw (← same) at c.loop-passed.invariant.steps)
+    (sym c.in_ok-lead.ensures.unit) c.if-lead-ge-VALUE_IS_FINAL.true))
 
 pub returns-in_err-next-clause-exact : goal.returns-in_err-next-clause-exact
 returns-in_err-next-clause-exact c =
     let same : slice_values c.as_slice-units.result ≡ c.args.self.now = c.as_slice-units.ensures ∙ c.self.view_is in
     rw (← same, c.from_residual-in_err-next.ensures)
-    (none_within (slice_values c.as_slice-units.result) c.args.key.now c.loop-passed.passed c.loop-passed.node c.in_ok-lead.lead
-    c.node_end-place.result c.loop-passed-test.true (rw (← same) at c.loop-passed.invariant.steps) (sym c.in_ok-lead.ensures.unit)
-    c.if-lead-ge-VALUE_IS_FINAL.false c.node_end-place.ensures.end
-    (rw (rest_is c.args.key.now c.loop-passed.passed) at c.in_err-next.ensures))
+    (none_at_end (slice_values c.as_slice-units.result) c.args.key.now c.loop-passed.passed c.loop-passed-test.true
+    (none_above_match _ _ c.loop-passed.passed c.loop-passed.node c.in_ok-lead.lead c.node_end-place.result
+    (rw (← same) at c.loop-passed.invariant.steps) (sym c.in_ok-lead.ensures.unit) c.if-lead-ge-VALUE_IS_FINAL.false
+    c.node_end-place.ensures.end (rw (rest_is c.args.key.now c.loop-passed.passed) at c.in_err-next.ensures)))
 
 -- The key continues to the next node.
 leads_on : (c : goal.In_ok-next)

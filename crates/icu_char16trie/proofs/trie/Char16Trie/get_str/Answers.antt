@@ -6,7 +6,7 @@ use Rattle.icu_char16trie.specs.Steps.{StepsAlong}
 use Rattle.icu_char16trie.specs.Inside.Fronts.{LeadsToNode, PassesMatch}
 use Rattle.icu_char16trie.specs.Inside.Texts.{units_left}
 use Rattle.icu_char16trie.specs.declared.place.Place.TheVariants.{Node}
-use Rattle.icu_char16trie.proofs.LongestLemmas.{along_on, match_leads, none_after_final, none_within, none_without_lead, value_here, within_text}
+use Rattle.icu_char16trie.proofs.LongestLemmas.{along_on, match_leads, none_above_final, none_above_match, none_above_missing, none_at_end, value_here, within_text}
 use Rattle.icu_char16trie.proofs.StandsLemmas.{along_is_value}
 use Rattle.icu_char16trie.proofs.TextLemmas.{none_after, within_rest}
 use Rattle.icu_char16trie.proofs.trie.Char16Trie.get_str.Goals as goal
@@ -24,28 +24,31 @@ pub returns-in_err-lead-clause-exact : goal.returns-in_err-lead-clause-exact
 returns-in_err-lead-clause-exact c =
     let same : slice_values c.as_slice-units.result ≡ c.args.self.now = c.as_slice-units.ensures ∙ c.self.view_is in
     rw (← same, c.from_residual.ensures)
-    (none_without_lead (slice_values c.as_slice-units.result) (text_units c.args.key.now) c.loop-unit.invariant.passed c.loop-unit.node
-    (some_left (goal.at.returns-in_err-lead-clause-exact c).In-Some) (rw (← same) at c.loop-unit.invariant.steps)
-    (sym c.in_err-lead.ensures.unit))
+    (none_at_end (slice_values c.as_slice-units.result) (text_units c.args.key.now) c.loop-unit.invariant.passed
+    (some_left (goal.at.returns-in_err-lead-clause-exact c).In-Some)
+    (none_above_missing _ _ c.loop-unit.invariant.passed c.loop-unit.node (rw (← same) at c.loop-unit.invariant.steps)
+    (sym c.in_err-lead.ensures.unit)))
 
 pub returns-then-lead-ge-VALUE_IS_FINAL-clause-exact : goal.returns-then-lead-ge-VALUE_IS_FINAL-clause-exact
 returns-then-lead-ge-VALUE_IS_FINAL-clause-exact c =
     let same : slice_values c.as_slice-units.result ≡ c.args.self.now = c.as_slice-units.ensures ∙ c.self.view_is in
     rw (← same)
-    (none_after_final (slice_values c.as_slice-units.result) (text_units c.args.key.now) c.loop-unit.invariant.passed c.loop-unit.node
-    c.in_ok-lead.lead (some_left (goal.at.returns-then-lead-ge-VALUE_IS_FINAL-clause-exact c).In-Some)
-    (rw (← same) at c.loop-unit.invariant.steps) (sym c.in_ok-lead.ensures.unit) c.if-lead-ge-VALUE_IS_FINAL.true)
+    (none_at_end (slice_values c.as_slice-units.result) (text_units c.args.key.now) c.loop-unit.invariant.passed
+    (some_left (goal.at.returns-then-lead-ge-VALUE_IS_FINAL-clause-exact c).In-Some)
+    (none_above_final _ _ c.loop-unit.invariant.passed c.loop-unit.node c.in_ok-lead.lead (rw (← same) at c.loop-unit.invariant.steps)
+    (sym c.in_ok-lead.ensures.unit) c.if-lead-ge-VALUE_IS_FINAL.true))
 
 pub returns-in_err-node-clause-exact : goal.returns-in_err-node-clause-exact
 returns-in_err-node-clause-exact c =
     let same : slice_values c.as_slice-units.result ≡ c.args.self.now = c.as_slice-units.ensures ∙ c.self.view_is in
     let inside = (goal.at.returns-in_err-node-clause-exact c).In-Some in
     rw (← same, c.from_residual-in_err-node.ensures)
-    (none_within (slice_values c.as_slice-units.result) (text_units c.args.key.now) c.loop-unit.invariant.passed c.loop-unit.node
-    c.in_ok-lead.lead c.node_end-place.result (some_left inside) (rw (← same) at c.loop-unit.invariant.steps)
-    (sym c.in_ok-lead.ensures.unit) c.if-lead-ge-VALUE_IS_FINAL.false c.node_end-place.ensures.end
+    (none_at_end (slice_values c.as_slice-units.result) (text_units c.args.key.now) c.loop-unit.invariant.passed (some_left inside)
+    (none_above_match _ _ c.loop-unit.invariant.passed c.loop-unit.node c.in_ok-lead.lead c.node_end-place.result
+    (rw (← same) at c.loop-unit.invariant.steps) (sym c.in_ok-lead.ensures.unit) c.if-lead-ge-VALUE_IS_FINAL.false
+    c.node_end-place.ensures.end
     (subst (λ w. PassesMatch (slice_values c.as_slice-units.result) w c.node_end-place.result (c.in_ok-lead.lead % 64) None)
-    (rest_of inside) c.in_err-node.ensures.passes))
+    (rest_of inside) c.in_err-node.ensures.passes)))
 
 -- The text continues to the next node.
 leads_on : (c : goal.In_ok-node)
@@ -87,7 +90,7 @@ loop-unit-preserved c =
       left = on.2 ∙ drop-drop on.0 c.loop-unit.invariant.passed (text_units c.args.key.now);
       steps = next_steps (slice_values c.as_slice-units.result) c.args.self.now (text_units c.args.key.now) c.loop-unit.invariant.passed
           c.loop-unit.node on.0 c.in_ok-node.node same c.loop-unit.invariant.steps on.1;
-      utf8 = c.in_ok-node.ensures.utf8;
+      units = c.in_ok-node.ensures.units;
     }
 
 pub returns-in_err-last-clause-exact : goal.returns-in_err-last-clause-exact

@@ -1,8 +1,7 @@
 use Rattle.std.proofs.Common.{◌≡◌, ℕ, ◌≤◌, length, drop, take}
-use Rattle.std.specs.Str.{IsUtf8}
 use Rattle.icu_char16trie.specs.Steps.{StepsAlong}
 use Rattle.icu_char16trie.specs.Matches.{text_units}
-use Rattle.icu_char16trie.specs.Inside.Texts.{units_left}
+use Rattle.icu_char16trie.specs.Inside.Texts.{AreTextUnits, units_left}
 use Rattle.icu_char16trie.specs.declared.place.Place.TheVariants.{Node}
 use Rattle.icu_char16trie.proofs.trie.Char16Trie.get_str.Given as goal
 
@@ -13,7 +12,7 @@ invariant-loop-unit l = record {
   within : passed ≤ length (text_units l.fn.key);
   left : units_left l.text ≡ drop passed (text_units l.fn.key);
   steps : StepsAlong l.fn.self (Node 0) (take passed (text_units l.fn.key)) (Node l.node);
-  utf8 : IsUtf8 l.text.rest.now;
+  units : AreTextUnits l.text;
 }
 
 abbrev pub decreases-loop-unit : goal.decreases-loop-unit

@@ -2,7 +2,7 @@ use Rattle.icu_zerovec.specs.Slice.{slice_values}
 use Rattle.std.proofs.Common.{◌≡◌, ◌+◌, ◌≤◌, ◌∙◌, sym, arith, length, drop}
 use Rattle.icu_char16trie.specs.Inside.Fronts.{LeadsToNode}
 use Rattle.icu_char16trie.specs.declared.place.Place.TheVariants.{Node}
-use Rattle.icu_char16trie.proofs.LongestLemmas.{at_next_node, at_root, ends_before, ends_here, ends_within, goes_to, rest_is, within_text}
+use Rattle.icu_char16trie.proofs.LongestLemmas.{at_next_node, at_root, ends_at, ends_before, goes_to, none_above_final, none_above_match, rest_is, within_text}
 use Rattle.icu_char16trie.proofs.StandsLemmas.{stepped_is_longest}
 use Rattle.icu_char16trie.proofs.trie.Char16Trie.longest_match.Goals as goal
 
@@ -20,19 +20,20 @@ pub returns-then-lead-ge-VALUE_IS_FINAL-clause-exact : goal.returns-then-lead-ge
 returns-then-lead-ge-VALUE_IS_FINAL-clause-exact c =
     let same : slice_values c.as_slice-units.result ≡ c.args.self.now = c.as_slice-units.ensures ∙ c.self.view_is in
     rw (← same)
-    (ends_here (slice_values c.as_slice-units.result) c.args.text.now c.loop-lead.passed c.loop-lead.node c.in-Some.lead c.loop-lead.found _
+    (ends_at (slice_values c.as_slice-units.result) c.args.text.now c.loop-lead.passed c.loop-lead.node c.in-Some.lead c.loop-lead.found _
     (rw (← same) at c.loop-lead.invariant) (sym c.in-Some.ensures.unit) (rw c.value_by.ensures at c.longer_match-found.ensures)
-    c.if-lead-ge-VALUE_IS_FINAL.true)
+    (none_above_final _ _ c.loop-lead.passed c.loop-lead.node c.in-Some.lead (rw (← same) at c.loop-lead.invariant.steps)
+    (sym c.in-Some.ensures.unit) c.if-lead-ge-VALUE_IS_FINAL.true))
 
 pub returns-in_default-pass_match-clause-exact : goal.returns-in_default-pass_match-clause-exact
 returns-in_default-pass_match-clause-exact c =
     let same : slice_values c.as_slice-units.result ≡ c.args.self.now = c.as_slice-units.ensures ∙ c.self.view_is in
     rw (← same)
-    (ends_within (slice_values c.as_slice-units.result) c.args.text.now c.loop-lead.passed c.loop-lead.node c.in-Some.lead
-    c.node_end-place.result c.loop-lead.found _
+    (ends_at (slice_values c.as_slice-units.result) c.args.text.now c.loop-lead.passed c.loop-lead.node c.in-Some.lead c.loop-lead.found _
     (rw (← same) at c.loop-lead.invariant) (sym c.in-Some.ensures.unit) (rw c.value_by.ensures at c.longer_match-found.ensures)
-    c.if-lead-ge-VALUE_IS_FINAL.false c.node_end-place.ensures.end
-    (rw (rest_is c.args.text.now c.loop-lead.passed) at c.in_default-pass_match.ensures))
+    (none_above_match _ _ c.loop-lead.passed c.loop-lead.node c.in-Some.lead c.node_end-place.result
+    (rw (← same) at c.loop-lead.invariant.steps) (sym c.in-Some.ensures.unit) c.if-lead-ge-VALUE_IS_FINAL.false c.node_end-place.ensures.end
+    (rw (rest_is c.args.text.now c.loop-lead.passed) at c.in_default-pass_match.ensures)))
 
 pub returns-clause-longest : goal.returns-clause-longest
 returns-clause-longest c = λ m trie. stepped_is_longest c.args.self.now m c.args.text.now _ _ trie (returns-clause-exact c)
