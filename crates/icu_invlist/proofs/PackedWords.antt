@@ -1,5 +1,5 @@
 -- Several boundaries in packed bytes, read at once.
-use Rattle.std.proofs.Common.{◌≡◌, ℕ, zero, suc, ◌+◌, ◌-◌, ◌*◌, ◌/◌, ◌%◌, ◌^◌, ◌<◌, ◌≤◌, List, [], ◌∷◌, length, take, drop, Some, refl, sym, arith, ◌∙◌, ap, length-drop}
+use Rattle.std.proofs.Common.{◌≡◌, ℕ, zero, suc, ◌+◌, ◌-◌, ◌*◌, ◌/◌, ◌%◌, ◌^◌, ◌<◌, ◌≤◌, List, [], ◌∷◌, ◌++◌, length, take, drop, get_or, Some, refl, sym, arith, ◌∙◌, ap, length-drop, take-append-drop}
 use Rattle.std.specs.Prelude.{IsTrue, ◌↔◌, nat_lt}
 use Rattle.std.specs.Int.{w32, from_le_bytes}
 use Rattle.std.specs.List.{All, flat_map}
@@ -77,6 +77,24 @@ next_two b h = next_end b (omega arith)
     ∙ ap (λ xs. number_of 3 b ∷ xs) (next_end (drop 3 b) (omega (arith, length-drop 3 b)))
     ∙ ap (λ c. number_of 3 b ∷ number_of 3 (drop 3 b) ∷ ends_in c) (drop-drop 3 3 b)
 
+next_four : (b : List ℕ) → 12 ≤ length b
+    → ends_in b ≡ number_of 3 b ∷ number_of 3 (drop 3 b) ∷ number_of 3 (drop 6 b) ∷ number_of 3 (drop 9 b) ∷ ends_in (drop 12 b)
+next_four b h =
+    let second = next_two (drop 6 b) (omega (arith, length-drop 6 b)) in
+    let third : drop 3 (drop 6 b) ≡ drop 9 b = drop-drop 3 6 b in
+    let last : drop 6 (drop 6 b) ≡ drop 12 b = drop-drop 6 6 b in
+    next_two b (omega arith) ∙ ap (λ xs. number_of 3 b ∷ number_of 3 (drop 3 b) ∷ xs) (rw (third, last) at second)
+
+-- The first four boundaries in bytes.
+abbrev pub four_numbers : List ℕ → List ℕ
+four_numbers b = number_of 3 b ∷ number_of 3 (drop 3 b) ∷ number_of 3 (drop 6 b) ∷ number_of 3 (drop 9 b) ∷ []
+
+pub all_eight : (b : List ℕ) → length b ≡ 24 → ends_in b ≡ four_numbers b ++ four_numbers (drop 12 b)
+all_eight b h =
+    let none : ends_in (drop 12 (drop 12 b)) ≡ [] = no_more_ends _ (omega (arith, length-drop 12 (drop 12 b), length-drop 12 b)) in
+    next_four b (omega arith)
+    ∙ ap (λ xs. four_numbers b ++ xs) (next_four (drop 12 b) (omega (arith, length-drop 12 b)) ∙ ap (λ xs. four_numbers (drop 12 b) ++ xs) none)
+
 -- The same with names for the parts of the bytes.
 pub one_end : (b three next : List ℕ) → 3 ≤ length b → three ≡ take 3 b → next ≡ drop 3 b → ends_in b ≡ number_of 3 three ∷ ends_in next
 one_end b three next h e f = rw (e, f) (next_end b h ∙ ap (λ n. n ∷ ends_in (drop 3 b)) (sym (number-take b)))
@@ -89,12 +107,8 @@ two_ends b two h e =
 pub four_ends : (b four next : List ℕ) → 12 ≤ length b → four ≡ take 12 b → next ≡ drop 12 b
     → ends_in b ≡ number_of 3 four ∷ number_of 3 (drop 3 four) ∷ number_of 3 (drop 6 four) ∷ number_of 3 (drop 9 four) ∷ ends_in next
 four_ends b four next h e f =
-    let first = next_two b (omega arith) in
-    let second = next_two (drop 6 b) (omega (arith, length-drop 6 b)) in
-    let third : drop 3 (drop 6 b) ≡ drop 9 b = drop-drop 3 6 b in
-    let last : drop 6 (drop 6 b) ≡ drop 12 b = drop-drop 6 6 b in
     rw (e, f, number-within 0 12 b (omega arith), number-within 3 9 b (omega arith), number-within 6 6 b (omega arith), number-within 9 3 b (omega arith))
-    (first ∙ ap (λ xs. number_of 3 b ∷ number_of 3 (drop 3 b) ∷ xs) (rw (third, last) at second))
+    (next_four b h)
 
 -- ---- the boundaries from an index on, or up to one
 ends_from_take : (i n : ℕ) (b : List ℕ) → i ≤ n
@@ -137,6 +151,9 @@ ends_in_drop i m b e h =
     ∙ ap (λ j. values_from (λ c. Some (number_of 3 c)) 3 (drop j b) (length b / 3 - i)) e
     ∙ ends_from_drop i (length b / 3) b
 
+pub eight_ends : (b eight next : List ℕ) → 24 ≤ length b → eight ≡ take 24 b → next ≡ drop 24 b → ends_in b ≡ ends_in eight ++ ends_in next
+eight_ends b eight next h e f = rw (e, f, ends_in_take 8 24 b refl h, ends_in_drop 8 24 b refl h) (sym (take-append-drop 8 (ends_in b)))
+
 -- A suffix of small numbers has small numbers.
 pub small-drop : (n : ℕ) (xs ys : List ℕ) → ys ≡ drop n xs → All (λ x. x < 2 ^ 24) xs → All (λ x. x < 2 ^ 24) ys
 small-drop n xs ys e h = rw e (λ k d l. rw (get_or-drop n xs k d) (h (n + k) d (omega (arith, l, length-drop n xs))))
@@ -145,6 +162,29 @@ small-drop n xs ys e h = rw e (λ k d l. rw (get_or-drop n xs k d) (h (n + k) d 
 pub packed-length : (xs : List ℕ) → length (flat_map (low_bytes 3) xs) ≡ length xs * 3
 packed-length [] = refl
 packed-length (x ∷ xs) = let i = packed-length xs in omega arith
+
+empty_list : (xs : List ℕ) → length xs ≡ 0 → xs ≡ []
+empty_list [] h = refl
+empty_list (x ∷ xs) h = absurd (omega arith)
+
+four_first : (xs : List ℕ) → 4 ≤ length xs → xs ≡ get_or xs 0 0 ∷ get_or xs 1 0 ∷ get_or xs 2 0 ∷ get_or xs 3 0 ∷ drop 4 xs
+four_first [] h = absurd (omega arith)
+four_first (a ∷ []) h = absurd (omega arith)
+four_first (a ∷ b ∷ []) h = absurd (omega arith)
+four_first (a ∷ b ∷ c ∷ []) h = absurd (omega arith)
+four_first (a ∷ b ∷ c ∷ d ∷ xs) h = refl
+
+-- A list of eight numbers is four and four.
+pub four_and_four : (xs : List ℕ) → length xs ≡ 8
+    → xs ≡ (get_or xs 0 0 ∷ get_or xs 1 0 ∷ get_or xs 2 0 ∷ get_or xs 3 0 ∷ [])
+    ++ (get_or xs 4 0 ∷ get_or xs 5 0 ∷ get_or xs 6 0 ∷ get_or xs 7 0 ∷ [])
+four_and_four xs h =
+    let first = four_first xs (omega arith) in
+    let second = four_first (drop 4 xs) (omega (arith, length-drop 4 xs)) in
+    let none : drop 4 (drop 4 xs) ≡ [] = empty_list (drop 4 (drop 4 xs)) (omega (arith, length-drop 4 (drop 4 xs), length-drop 4 xs)) in
+    let named : drop 4 xs ≡ get_or xs 4 0 ∷ get_or xs 5 0 ∷ get_or xs 6 0 ∷ get_or xs 7 0 ∷ [] =
+    rw (none, get_or-drop 4 xs 0 0, get_or-drop 4 xs 1 0, get_or-drop 4 xs 2 0, get_or-drop 4 xs 3 0) at second in
+    first ∙ ap (λ ys. get_or xs 0 0 ∷ get_or xs 1 0 ∷ get_or xs 2 0 ∷ get_or xs 3 0 ∷ ys) named
 
 -- ---- the packed boundaries of a set
 pub bytes-length : (b xs : List ℕ) → IsPacked (λ c. Some (number_of 3 c)) 3 b → xs ≡ values_of (λ c. Some (number_of 3 c)) 3 b

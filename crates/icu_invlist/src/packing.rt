@@ -1,5 +1,6 @@
 //! Packing and unpacking of boundaries: three bytes each, lowest byte first. Four of them are three
-//! words of 32 bits.
+//! words of 32 bits. They are read and written eight at a time, so that the length of a slice is
+//! tested once for eight boundaries.
 ghost use Rattle.std.specs.Prelude.{◌≡◌, ◌+◌, ◌-◌, ◌*◌, ◌/◌, ◌^◌, ◌<◌, ◌≤◌, ◌++◌, [], ◌∷◌, length, take, drop, map, min, IfOk, OnOk, OnErr};
 ghost use Rattle.std.specs.Int.{w32, from_le_bytes};
 ghost use Rattle.std.specs.List.{All, flat_map};
@@ -27,8 +28,8 @@ pub(crate) fn unpacked(
 
 /// Returns the number in the four bytes from index `at` on. It is a single read.
 #[inline(always)]
-fn word_at(bytes: &[u8; 12], at: usize) -> u32
-    requires { at + 4 ≤ 12 }
+fn word_at(bytes: &[u8], at: usize) -> u32
+    requires { at + 4 ≤ length bytes.now }
     ensures { result ≡ from_le_bytes w32 (take 4 (drop at bytes.now)) }
 {
     match bytes[at..].first_chunk::<4>() {
@@ -37,9 +38,10 @@ fn word_at(bytes: &[u8; 12], at: usize) -> u32
     }
 }
 
-/// Returns the four boundaries in these bytes, each by one read.
+/// Returns the first four boundaries in these bytes, each by one read.
 #[inline(always)]
-fn four_of(bytes: &[u8; 12]) -> [u32; 4]
+fn four_of(bytes: &[u8]) -> [u32; 4]
+    requires { 12 ≤ length bytes.now }
     ensures { result
         ≡ number_of 3 bytes.now ∷ number_of 3 (drop 3 bytes.now) ∷ number_of 3 (drop 6 bytes.now)
         ∷ number_of 3 (drop 9 bytes.now) ∷ [] }
@@ -52,6 +54,14 @@ fn four_of(bytes: &[u8; 12]) -> [u32; 4]
     ]
 }
 
+/// Returns the eight boundaries in these bytes, in two groups of four.
+#[inline(always)]
+fn eight_of(bytes: &[u8; 24]) -> [[u32; 4]; 2]
+    ensures { flat_map (λ four. four) result ≡ ends_in bytes.now }
+{
+    [four_of(bytes), four_of(&bytes[12..])]
+}
+
 /// Writes the items to `out` from index `at` on.
 #[inline(always)]
 fn write<T: Copy>(out: &mut [T], at: usize, items: &[T])
@@ -62,8 +72,8 @@ fn write<T: Copy>(out: &mut [T], at: usize, items: &[T])
     out[at..at + items.len()].copy_from_slice(items);
 }
 
-/// Writes the boundaries in these bytes to `out`, which has an element for each. It reads four at
-/// once.
+/// Writes the boundaries in these bytes to `out`, which has an element for each. It reads eight at
+/// a time, and the rest one by one.
 #[inline(always)]
 pub(crate) fn unpack_into(out: &mut [u32], bytes: &[u8])
     requires { length out.old ≡ length bytes.now / 3 }
@@ -71,11 +81,22 @@ pub(crate) fn unpack_into(out: &mut [u32], bytes: &[u8])
 {
     let mut at = 0;
     let mut rest = bytes;
-    while let Some((four, next)) = rest.split_first_chunk::<12>() {
-        write(out, at, &four_of(four));
-        at += 4;
+    while let Some((eight, next)) = rest.split_first_chunk::<24>() {
+        write(out, at, eight_of(eight).as_flattened());
+        at += 8;
         rest = next;
     }
+    unpack_each(&mut out[at..], rest);
+}
+
+/// Writes the boundaries in these bytes to `out`, which has an element for each, one by one.
+#[inline(always)]
+fn unpack_each(out: &mut [u32], bytes: &[u8])
+    requires { length out.old ≡ length bytes.now / 3 }
+    ensures { out.new ≡ ends_in bytes.now }
+{
+    let mut at = 0;
+    let mut rest = bytes;
     while let Some((three, next)) = rest.split_first_chunk::<3>() {
         let end = u32::from_le_bytes([three[0], three[1], three[2], 0]);
         write(out, at, &[end]);
@@ -131,8 +152,18 @@ fn words_of(four: &[u32; 4]) -> [[u8; 4]; 3]
     ]
 }
 
-/// Writes the boundaries, which are below 2^24, to `out`, packed in three bytes each. It writes the
-/// bytes of four at once.
+/// Returns the bytes of eight boundaries, which are below 2^24, as two groups of three words.
+#[inline(always)]
+fn words_of_eight(eight: &[u32; 8]) -> [[[u8; 4]; 3]; 2]
+    requires { All (λ x. x < 2 ^ 24) eight.now }
+    ensures { flat_map (λ b. b) (flat_map (λ words. words) result) ≡ flat_map (low_bytes 3) eight.now }
+{
+    let [a, b, c, d, e, f, g, h] = *eight;
+    [words_of(&[a, b, c, d]), words_of(&[e, f, g, h])]
+}
+
+/// Writes the boundaries, which are below 2^24, to `out`, packed in three bytes each. It writes
+/// eight at a time, and the rest one by one.
 fn pack_into(out: &mut [u8], ends: &[u32])
     requires small { All (λ x. x < 2 ^ 24) ends.now }
     requires len { length out.old ≡ length ends.now * 3 }
@@ -140,12 +171,23 @@ fn pack_into(out: &mut [u8], ends: &[u32])
 {
     let mut at = 0;
     let mut rest = ends;
-    while let Some((four, next)) = rest.split_first_chunk::<4>() {
-        write(out, at, words_of(four).as_flattened());
-        at += 12;
+    while let Some((eight, next)) = rest.split_first_chunk::<8>() {
+        write(out, at, words_of_eight(eight).as_flattened().as_flattened());
+        at += 24;
         rest = next;
     }
-    for end in rest {
+    pack_each(&mut out[at..], rest);
+}
+
+/// Writes the boundaries, which are below 2^24, to `out`, packed in three bytes each, one by one.
+#[inline(always)]
+fn pack_each(out: &mut [u8], ends: &[u32])
+    requires small { All (λ x. x < 2 ^ 24) ends.now }
+    requires len { length out.old ≡ length ends.now * 3 }
+    ensures { out.new ≡ flat_map (low_bytes 3) ends.now }
+{
+    let mut at = 0;
+    for end in ends {
         write(out, at, &end.to_le_bytes()[..3]);
         at += 3;
     }

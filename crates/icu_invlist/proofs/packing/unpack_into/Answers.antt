@@ -1,44 +1,23 @@
--- The boundaries that are left begin with those of the bytes that are read.
-use Rattle.std.proofs.Common.{◌++◌, ◌+◌, take, arith, ◌≡◌, ap, sym, ◌∙◌, append_assoc, append-nil, length}
-use Rattle.std.proofs.lemmas.List.{take_all}
-use Rattle.icu_zerovec.specs.PackedBytes.{number_of}
-use Rattle.icu_invlist.proofs.PackedWords.{four_ends, one_end, no_more_ends}
+-- The boundaries that are left begin with the eight of the bytes that are read.
+use Rattle.std.proofs.Common.{◌++◌, ◌+◌, take, arith, ◌≡◌, ap, sym, ◌∙◌, append_assoc, length}
+use Rattle.std.proofs.lemmas.List.{length-take-le}
+use Rattle.icu_invlist.proofs.PackedWords.{all_eight, eight_ends}
 use Rattle.icu_invlist.specs.Inside.StillGiven.{ends_in}
 use Rattle.icu_invlist.proofs.packing.unpack_into.Goals as goal
 
-pub loop-four-preserved : goal.loop-four-preserved
-loop-four-preserved c =
-    let l = c.loop-four in
+pub loop-eight-preserved : goal.loop-eight-preserved
+loop-eight-preserved c =
+    let l = c.loop-eight in
     let k = c.in-Some.ensures.cases in
-    let e = four_ends l.rest.now c.in-Some.four.now c.in-Some.next.now (omega (arith, k.2)) k.0 k.1 in
-    let four = c.four_of.result in
-    let size : length four ≡ 4 = ap length c.four_of.ensures in
-    let written : take (l.at + 4) c.write.new.out ≡ take l.at l.out ++ four =
-    ap (λ n. take (l.at + n) c.write.new.out) (sym size) ∙ c.write.ensures.written in
+    let e = eight_ends l.rest.now c.in-Some.eight.now c.in-Some.next.now (omega (arith, k.2)) k.0 k.1 in
+    let eight : c.as_flattened.result.now ≡ ends_in c.in-Some.eight.now = c.as_flattened.ensures.value ∙ c.eight_of.ensures in
+    let size : length c.as_flattened.result.now ≡ 8 = ap length eight
+    ∙ ap length (all_eight c.in-Some.eight.now (ap length k.0 ∙ length-take-le 24 l.rest.now (omega (arith, k.2)))) in
+    let written : take (l.at + 8) c.write.new.out ≡ take l.at l.out ++ ends_in c.in-Some.eight.now =
+    ap (λ n. take (l.at + n) c.write.new.out) (sym size) ∙ c.write.ensures.written ∙ ap (λ ys. take l.at l.out ++ ys) eight in
     record {
       len = c.write.ensures.len ∙ l.invariant.len;
       at = (let i = l.invariant.at in omega (arith, k.2));
-      items = rw (written, c.four_of.ensures)
+      items = rw written
           (append_assoc (take l.at l.out) _ (ends_in c.in-Some.next.now) ∙ ap (λ ys. take l.at l.out ++ ys) (sym e) ∙ l.invariant.items);
     }
-
-pub loop-three-preserved : goal.loop-three-preserved
-loop-three-preserved c =
-    let l = c.loop-three in
-    let k = c.in-Some-split_first_chunk.ensures.cases in
-    let e = one_end l.rest.now c.in-Some-split_first_chunk.three.now c.in-Some-split_first_chunk.next.now (omega (arith, k.2)) k.0 k.1 in
-    let n : c.from_le_bytes-end.result ≡ number_of 3 c.in-Some-split_first_chunk.three.now = c.from_le_bytes-end.ensures ∙ (omega arith) in
-    record {
-      len = c.write-in-Some-split_first_chunk.ensures.len ∙ l.invariant.len;
-      at = (let i = l.invariant.at in omega (arith, k.2));
-      items = rw (c.write-in-Some-split_first_chunk.ensures.written, n)
-          (append_assoc (take l.at l.out) _ (ends_in c.in-Some-split_first_chunk.next.now) ∙ ap (λ ys. take l.at l.out ++ ys) (sym e)
-          ∙ l.invariant.items);
-    }
-
-pub returns : goal.returns
-returns c =
-    let l = c.loop-three in
-    let d = c.in_default-split_first_chunk.ensures.cases in
-    let all : take l.at l.out ≡ l.out = take_all l.at l.out (let a = l.invariant.at in let n = l.invariant.len in omega arith) in
-    sym all ∙ (sym (ap (λ ys. take l.at l.out ++ ys) (no_more_ends l.rest.now d) ∙ append-nil (take l.at l.out)) ∙ l.invariant.items)

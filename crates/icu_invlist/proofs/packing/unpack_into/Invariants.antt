@@ -3,22 +3,12 @@ use Rattle.std.proofs.Common.{◌≡◌, ◌+◌, ◌/◌, ◌++◌, take, lengt
 use Rattle.icu_invlist.specs.Inside.StillGiven.{ends_in}
 use Rattle.icu_invlist.proofs.packing.unpack_into.Given as goal
 
-abbrev pub invariant-loop-four : goal.invariant-loop-four
-invariant-loop-four l = record {
+abbrev pub invariant-loop-eight : goal.invariant-loop-eight
+invariant-loop-eight l = record {
   len : length l.out ≡ length l.bytes / 3;
   at : l.at + length l.rest / 3 ≡ length l.bytes / 3;
   items : take l.at l.out ++ ends_in l.rest ≡ ends_in l.bytes;
 }
 
-abbrev pub decreases-loop-four : goal.decreases-loop-four
-decreases-loop-four l = length l.rest
-
-abbrev pub invariant-loop-three : goal.invariant-loop-three
-invariant-loop-three l = record {
-  len : length l.out ≡ length l.bytes / 3;
-  at : l.at + length l.rest / 3 ≡ length l.bytes / 3;
-  items : take l.at l.out ++ ends_in l.rest ≡ ends_in l.bytes;
-}
-
-abbrev pub decreases-loop-three : goal.decreases-loop-three
-decreases-loop-three l = length l.rest
+abbrev pub decreases-loop-eight : goal.decreases-loop-eight
+decreases-loop-eight l = length l.rest
