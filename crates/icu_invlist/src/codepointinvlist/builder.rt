@@ -268,7 +268,8 @@ impl CodePointInversionListBuilder {
     }
 
     /// Removes all code points outside `range`. If `range` is empty or reversed, the set becomes
-    /// empty. This does not allocate.
+    /// empty. A range that ends above 0x110000 retains all code points from its start on. This does
+    /// not allocate.
     pub fn retain_range32<R: RangeOf<u32>>(&mut self, range: R)
         ensures set { Acts both self.old (between (R.start range) (R.end range)) self.new }
         ensures valid { IsValid self.new × IsValid self.old }

@@ -231,7 +231,8 @@ impl CodePointInversionListBuilder {
     }
 
     /// Removes all code points outside `range`. If `range` is empty or reversed, the set becomes
-    /// empty. This does not allocate.
+    /// empty. A range that ends above 0x110000 retains all code points from its start on. This does
+    /// not allocate.
     #[inline]
     pub fn retain_range32<R: core::ops::RangeBounds<u32>>(&mut self, range: R) {
         let (start, end) = range.deconstruct();
