@@ -19,8 +19,8 @@ pub enum TrieType {
 }
 
 impl TrieType {
-    /// Returns the fast limit: the first code point that the fast index does not cover, 0x10000 or
-    /// 0x1000.
+    /// Returns the fast limit, the first code point that the fast index does not cover: 0x10000 for
+    /// `Fast` and 0x1000 for `Small`.
     #[inline(always)]
     pub fn fast_limit(self) -> u32
         ensures limit { result ≡ fast_limit self }
@@ -33,7 +33,7 @@ impl TrieType {
     }
 
     /// Returns the number of cells in the fast index, one for each block of 64 below the fast
-    /// limit: 1,024 or 64.
+    /// limit: 1,024 for `Fast` and 64 for `Small`.
     #[inline(always)]
     pub fn fast_index_len(self) -> usize
         ensures { result ≡ fast_index_len self }

@@ -21,8 +21,8 @@ pub fn place_of_two(text: &[u8]) -> (u32, u32)
     (first, second)
 }
 
-/// Returns the block of 64 code points and the index in it of the first character of a text. The
-/// first byte is the lead byte of three.
+/// Returns the block of 64 code points that has the first character of a text, and its index in that
+/// block. The first byte starts a character of three bytes.
 #[inline(always)]
 pub fn place_of_three(text: &[u8]) -> (u32, u32)
     requires text { IsUtf8 text.now }

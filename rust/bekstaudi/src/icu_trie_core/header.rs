@@ -16,8 +16,8 @@ pub enum TrieType {
 }
 
 impl TrieType {
-    /// Returns the fast limit: the first code point that the fast index does not cover, 0x10000 or
-    /// 0x1000.
+    /// Returns the fast limit, the first code point that the fast index does not cover: 0x10000 for
+    /// `Fast` and 0x1000 for `Small`.
     #[inline(always)]
     #[must_use]
     pub const fn fast_limit(self) -> u32 {
@@ -28,7 +28,7 @@ impl TrieType {
     }
 
     /// Returns the number of cells in the fast index, one for each block of 64 below the fast
-    /// limit: 1,024 or 64.
+    /// limit: 1,024 for `Fast` and 64 for `Small`.
     #[inline(always)]
     #[must_use]
     pub const fn fast_index_len(self) -> usize {
