@@ -19,7 +19,11 @@ use icu_zerovec::ZeroSlice;
 
 /// Returns the match of the first `n` units if they have a value, and otherwise the earlier match.
 #[inline(always)]
-pub(crate) fn longer_match(n: usize, value: Option<i32>, found: Option<(usize, i32)>) -> Option<(usize, i32)>
+pub(crate) fn longer_match(
+    n: usize,
+    value: Option<i32>,
+    found: Option<(usize, i32)>,
+) -> Option<(usize, i32)>
     ensures { result ≡ longer n value found }
 {
     match value {

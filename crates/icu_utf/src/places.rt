@@ -5,7 +5,7 @@ ghost use Rattle.std.specs.Str.{IsUtf8};
 ghost use Rattle.icu_utf.specs.Utf8.{IsFirstPart};
 
 /// Returns the block of 64 code points and the index in it of the first character of a text. The
-/// first byte is the lead byte of two.
+/// first byte starts a character of two bytes.
 #[inline(always)]
 pub fn place_of_two(text: &[u8]) -> (u32, u32)
     requires text { IsUtf8 text.now }

@@ -3,7 +3,7 @@
 
 use crate::support::prelude::*;
 /// Returns the block of 64 code points and the index in it of the first character of a text. The
-/// first byte is the lead byte of two.
+/// first byte starts a character of two bytes.
 #[inline(always)]
 pub(crate) fn place_of_two(text: &[u8]) -> (u32, u32) {
     let first = u32::from(text[0]) - 0xC0;

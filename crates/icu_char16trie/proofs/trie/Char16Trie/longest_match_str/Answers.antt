@@ -31,10 +31,10 @@ longer_match-found-requires c =
 clauses : (units now text : List ℕ) (i : ℕ) (result : Option (ℕ × ℤ)) → units ≡ now → IsUtf8 text → NoneAbove units (text_units text) i
     → IsFound units text (i + 1) result
     → record {
-        longest : (m : UnitMap) → IsTrieOf now m → IsLongestInText m text result;
-        exact : IsLongestSteppedInText now text result;
-        boundary : IfSome result (λ found. IsCharBoundary text found.0);
-      }
+      longest : (m : UnitMap) → IsTrieOf now m → IsLongestInText m text result;
+      exact : IsLongestSteppedInText now text result;
+      boundary : IfSome result (λ found. IsCharBoundary text found.0);
+    }
 clauses units now text i result same utf8 none found =
     let h = ends_in_text units text i result none found in
     let exact : IsLongestSteppedInText now text result = subst (λ z. IsLongestSteppedInText z text result) same h in
@@ -88,7 +88,7 @@ leads_on : (c : goal.In-Some-pass_units)
     × (units_left c.pass_units.new.text ≡ drop n (drop c.loop-lead.invariant.at.passed (text_units c.args.text.now)))
 leads_on c =
     let left : c.in-Some-next_unit.unit ∷ units_left c.next_unit.new.self
-        ≡ drop c.loop-lead.invariant.at.passed (text_units c.args.text.now) =
+    ≡ drop c.loop-lead.invariant.at.passed (text_units c.args.text.now) =
     sym c.in-Some-next_unit.ensures.unit ∙ c.loop-lead.invariant.at.left in
     let passes = rw left at c.in-Some-pass_units.ensures.passes in
     passes (Node c.loop-lead.node)
@@ -111,9 +111,9 @@ pub loop-lead-preserved : goal.loop-lead-preserved
 loop-lead-preserved c =
     let on = leads_on c in
     let next = reads_on (slice_values c.as_slice-units.result) c.args.text.now c.loop-lead.left c.pass_units.new.text c.loop-lead.node
-        on.0 c.in-Some-pass_units.next c.longer_match-found.result c.loop-lead.invariant.at
-        (last_then c.in-Some-next_unit.ensures.last c.in-Some-pass_units.ensures.last) on.1 on.2
-        (here (goal.at.loop-lead-preserved c).After-longer_match-found) in
+    on.0 c.in-Some-pass_units.next c.longer_match-found.result c.loop-lead.invariant.at
+    (last_then c.in-Some-next_unit.ensures.last c.in-Some-pass_units.ensures.last) on.1 on.2
+    (here (goal.at.loop-lead-preserved c).After-longer_match-found) in
     record { units = c.in-Some-pass_units.ensures.units; at = next.0; longest = next.1 }
 
 pub returns : goal.returns
