@@ -9,7 +9,7 @@ use Rattle.std.proofs.lemmas.Nat.Bits.{bit_at_ones, bit_at-zero}
 use Rattle.icu_invlist.specs.InversionList.{between}
 use Rattle.icu_frozen_sets.specs.FrozenWords.{bit_in, offset_at, offset_words, place_in}
 use Rattle.icu_frozen_sets.specs.Inside.Filling.{AreTables, HasOffset, IsFilling, SetsBlock, block_bit}
-use Rattle.icu_frozen_sets.proofs.BitLemmas.{between_after, between_before, between_in, or_false, or_true}
+use Rattle.icu_frozen_sets.proofs.BitLemmas.{between_after, between_before, between_in, between_more, or_false, or_true}
 use Rattle.icu_frozen_sets.proofs.PlaceLemmas.{place_inside, place_of_first, same_place}
 
 -- ---- the bits of equal words
@@ -227,16 +227,8 @@ one_more from next word first words l there before k = elim (cases_eq k next) [
   | inl q ↦ get_or-set_at words next k word 0 q there
       ∙ sym (rw (between_in from (next + 1) k (omega (arith, l, q)) (omega (arith, q))) refl)
   | inr n ↦ get_or-set_other words next k word 0 n
-      ∙ (before k ∙ ap (λ (b : Bool). cond b word (get_or first k 0)) (same_between n))
-] where
-  same_between : (k ≡ next → ⊥) → between from next k ≡ between from (next + 1) k
-  same_between n = elim (cases_lt k from) [
-    | inl h ↦ between_before from next k h ∙ sym (between_before from (next + 1) k h)
-    | inr h ↦ elim (cases_lt k next) [
-      | inl m ↦ between_in from next k h m ∙ sym (between_in from (next + 1) k h (omega (arith, m)))
-      | inr m ↦ between_after from next k m ∙ sym (between_after from (next + 1) k (omega (arith, m, n)))
-    ]
-  ]
+      ∙ (before k ∙ ap (λ (b : Bool). cond b word (get_or first k 0)) (between_more from next k n))
+]
 
 -- The blocks from `from` to before `to` are made full.
 module _ (t new : List ℕ) (from to : ℕ) (a : AreTables t) (some : 0 < from) (order : from ≤ to) (there : to ≤ 1088)

@@ -1,150 +1,129 @@
 -- Filling the bits, step by step.
-use Rattle.std.proofs.Common.{◌≡◌, ◌∙◌, ℕ, ◌+◌, ◌-◌, ◌/◌, ◌%◌, ◌^◌, ◌<◌, ◌≤◌, List, refl, ap, sym, arith, Bool, false, inl, inr}
-use Rattle.std.specs.Int.{bit_at}
-use Rattle.std.specs.Prelude.{nat_eq, ◌||◌}
+use Rattle.std.proofs.Common.{◌≡◌, ◌∙◌, ℕ, ◌+◌, ◌/◌, ◌%◌, ◌<◌, ◌≤◌, List, refl, ap, sym, arith, Bool, true, false, not, inl, inr}
+use Rattle.std.specs.Prelude.{◌||◌}
 use Rattle.std.proofs.lemmas.Bool.{cases_eq, cases_lt, eq-eqb, ne_eqb}
-use Rattle.std.proofs.lemmas.Nat.{pow_pos}
-use Rattle.std.proofs.lemmas.Nat.Bits.{bit_at-zero}
 use Rattle.icu_zerovec.specs.CodePoints.{code_point_limit}
 use Rattle.icu_invlist.specs.InversionList.{between}
 use Rattle.icu_frozen_sets.specs.FrozenWords.{bit_in}
-use Rattle.icu_frozen_sets.specs.Inside.Filling.{IsFilling, SetsBlock, block_bit, filled}
-use Rattle.icu_frozen_sets.proofs.BitLemmas.{between_in, between_before, between_after, or_false}
+use Rattle.icu_frozen_sets.specs.Inside.Filling.{IsFilledBelow, IsFilling, SetsBlock, block_bit, filled, is_odd_at}
+use Rattle.icu_frozen_sets.proofs.BitLemmas.{between_after, between_before, between_in, between_more, or_false, or_true}
 use Rattle.icu_frozen_sets.proofs.BlockLemmas.{empty_block}
-use Rattle.icu_frozen_sets.proofs.MarkLemmas.{range_bits}
 
 -- ---- the block of a code point
-pub filled_here : (t : List ℕ) (block at c : ℕ) → c / 1024 ≡ at → filled t block at c ≡ nat_eq (bit_at block (c % 1024)) 1
+pub filled_here : (t block : List ℕ) (at c : ℕ) → c / 1024 ≡ at → filled t block at c ≡ is_odd_at block c
 unfolding filled
 filled_here t block at c e = rw (eq-eqb (c / 1024) at e) refl
 
-pub filled_else : (t : List ℕ) (block at c : ℕ) → (c / 1024 ≡ at → ⊥) → filled t block at c ≡ bit_in t c
+pub filled_else : (t block : List ℕ) (at c : ℕ) → (c / 1024 ≡ at → ⊥) → filled t block at c ≡ bit_in t c
 unfolding filled
 filled_else t block at c n = rw (ne_eqb (c / 1024) at n) refl
 
--- No bit of 0 is set.
-no_bit : (k : ℕ) → nat_eq (bit_at 0 k) 1 ≡ false
-no_bit k = rw (bit_at-zero k) refl
+-- ---- no range
+pub none_filled : (t block : List ℕ) → IsFilling t 0 → ((c : ℕ) → is_odd_at block c ≡ false) → IsFilledBelow t block 0 0
+none_filled t block f none = record {
+  here = omega arith;
+  none = λ c l h. elim (cases_eq (c / 1024) 0) [
+    | inl q ↦ filled_here t block 0 c q ∙ none c
+    | inr n ↦ filled_else t block 0 c n
+        ∙ empty_block t c f.tables (f.empty (c / 1024) (omega (arith, n)) (omega arith) (omega (arith, h)))
+  ];
+}
 
-pub none_filled : (t : List ℕ) (c : ℕ) → c < code_point_limit → IsFilling t 0 → filled t 0 0 c ≡ false
-none_filled t c h f = elim (cases_eq (c / 1024) 0) [
-  | inl q ↦ filled_here t 0 0 c q ∙ no_bit (c % 1024)
-  | inr n ↦ filled_else t 0 0 c n ∙ empty_block t c f.tables (f.empty (c / 1024) (omega (arith, n)) (omega arith) (omega arith))
+pub below_later : (t block : List ℕ) (at next later : ℕ) → IsFilledBelow t block at next → next ≤ later
+    → IsFilledBelow t block at later
+below_later t block at next later b l =
+    let here = b.here in
+    record { here = omega (arith, here, l); none = λ c m h. b.none c (omega (arith, l, m)) h }
+
+-- ---- the current block is written, and an empty one begins
+pub moved_same : (t new block words empty : List ℕ) (at next : ℕ) → IsFilling t at → at < next
+    → SetsBlock t new at (block_bit words) → ((c : ℕ) → block_bit words c ≡ is_odd_at block c)
+    → ((c : ℕ) → is_odd_at empty c ≡ false)
+    → (c : ℕ) → c < code_point_limit → filled new empty next c ≡ filled t block at c
+moved_same t new block words empty at next f order s alike none c h = elim (cases_eq (c / 1024) next) [
+  | inl q ↦ filled_here new empty next c q ∙ (none c ∙ sym (filled_else t block at c (λ p. omega (arith, order, p, q))
+      ∙ empty_block t c f.tables (f.empty (c / 1024) (omega (arith, q, order)) (omega (arith, q, order)) (omega (arith, h)))))
+  | inr n ↦ filled_else new empty next c n ∙ elim (cases_eq (c / 1024) at) [
+    | inl q ↦ s.set c q ∙ (alike c ∙ sym (filled_here t block at c q))
+    | inr m ↦ s.kept c m h ∙ sym (filled_else t block at c m)
+  ]
 ]
 
--- ---- the current block is written, and another begins
-module _ (t new : List ℕ) (block at next : ℕ) (f : IsFilling t at) (order : at ≤ next) (other : at ≡ next → ⊥)
-    (words : List ℕ) (s : SetsBlock t new at (block_bit words)) where
-  pub moved_same : ((c : ℕ) → block_bit words c ≡ nat_eq (bit_at block (c % 1024)) 1)
-      → (c : ℕ) → c < code_point_limit → filled new 0 next c ≡ filled t block at c
-  moved_same alike c h = elim (cases_eq (c / 1024) next) [
-    | inl q ↦ filled_here new 0 next c q ∙ (no_bit (c % 1024) ∙ sym (filled_else t block at c (λ p. other (sym p ∙ q))
-        ∙ empty_block t c f.tables (f.empty (c / 1024) (omega (arith, q, other)) (omega (arith, q)) (omega arith))))
-    | inr n ↦ filled_else new 0 next c n ∙ elim (cases_eq (c / 1024) at) [
-      | inl q ↦ s.set c q ∙ (alike c ∙ sym (filled_here t block at c q))
-      | inr m ↦ s.kept c m h ∙ sym (filled_else t block at c m)
+-- ---- the blocks up to a later one are filled
+pub filled_to : (t new empty full : List ℕ) (next last : ℕ) → next ≤ last → ((c : ℕ) → is_odd_at empty c ≡ false)
+    → ((c : ℕ) → is_odd_at full c ≡ not (is_odd_at empty c))
+    → ((c : ℕ) → c < code_point_limit → bit_in new c ≡ (bit_in t c || between next last (c / 1024)))
+    → (c : ℕ) → c < code_point_limit → filled new full last c ≡ (filled t empty last c || between next (last + 1) (c / 1024))
+filled_to t new empty full next last order none all bits c h = elim (cases_eq (c / 1024) last) [
+  | inl q ↦ filled_here new full last c q ∙ (all c ∙ (ap not (none c)
+      ∙ sym (rw (between_in next (last + 1) (c / 1024) (omega (arith, q, order)) (omega (arith, q))) (or_true _))))
+  | inr n ↦ filled_else new full last c n ∙ (bits c h ∙ (ap (λ (b : Bool). bit_in t c || b) (between_more next last (c / 1024) n)
+      ∙ ap (λ (b : Bool). b || between next (last + 1) (c / 1024)) (sym (filled_else t empty last c n))))
+]
+
+-- No block is to be filled.
+pub filled_none : (b : Bool) (next c : ℕ) → b ≡ (b || between next next c)
+filled_none b next c = elim (cases_lt c next) [
+  | inl l ↦ sym (rw (between_before next next c l) (or_false b))
+  | inr l ↦ sym (rw (between_after next next c l) (or_false b))
+]
+
+-- ---- a range more
+-- The tests flip from a code point on to the end of its block.
+pub record FlipsFrom (from : ℕ) (old new : ℕ → Bool) : Type 0 where
+  pub kept : (c : ℕ) → (c / 1024 ≡ from / 1024 → c < from) → new c ≡ old c
+  pub flipped : (c : ℕ) → c / 1024 ≡ from / 1024 → from ≤ c → new c ≡ not (old c)
+
+pub flips_from : (t block new : List ℕ) (at to from : ℕ) → at ≡ from / 1024 → to ≡ from / 1024
+    → ((d : ℕ) → d % 1024 < from % 1024 → is_odd_at new d ≡ is_odd_at block d)
+    → ((d : ℕ) → from % 1024 ≤ d % 1024 → is_odd_at new d ≡ not (is_odd_at block d))
+    → FlipsFrom from (filled t block at) (filled t new to)
+flips_from t block new at to from a b before after = record {
+  kept = λ c l. elim (cases_eq (c / 1024) (from / 1024)) [
+    | inl q ↦ filled_here t new to c (q ∙ sym b) ∙ (before c (let m = l q in omega (arith, m, q))
+        ∙ sym (filled_here t block at c (q ∙ sym a)))
+    | inr n ↦ filled_else t new to c (λ q. n (q ∙ b)) ∙ sym (filled_else t block at c (λ q. n (q ∙ a)))
+  ];
+  flipped = λ c q l. filled_here t new to c (q ∙ sym b) ∙ (after c (omega (arith, q, l))
+      ∙ ap not (sym (filled_here t block at c (q ∙ sym a))));
+}
+
+-- Flips from the start and from the end add a range, if the blocks between them are filled.
+module _ (start end at : ℕ) (order : start < end) (here : at ≡ start / 1024) (old first whole new : ℕ → Bool)
+    (none : (c : ℕ) → start ≤ c → c < code_point_limit → old c ≡ false) (starts : FlipsFrom start old first)
+    (fills : (c : ℕ) → c < code_point_limit → whole c ≡ (first c || between (at + 1) (end / 1024 + 1) (c / 1024)))
+    (ends : FlipsFrom end whole new) where
+  -- Until the end is marked, the range has the rest of its last block.
+  open_in : (c : ℕ) → c < code_point_limit → start ≤ c → c / 1024 ≤ end / 1024 → whole c ≡ true
+  open_in c h l m = fills c h ∙ elim (cases_eq (c / 1024) (start / 1024)) [
+    | inl q ↦ ap (λ (b : Bool). b || between (at + 1) (end / 1024 + 1) (c / 1024)) (starts.flipped c q l ∙ ap not (none c l h))
+    | inr n ↦ rw (between_in (at + 1) (end / 1024 + 1) (c / 1024) (omega (arith, here, l, n)) (omega (arith, m))) (or_true _)
+  ]
+
+  open_before : (c : ℕ) → c < code_point_limit → c < start → whole c ≡ old c
+  open_before c h l = fills c h
+      ∙ (rw (between_before (at + 1) (end / 1024 + 1) (c / 1024) (omega (arith, here, l))) (or_false _) ∙ starts.kept c (λ q. l))
+
+  open_after : (c : ℕ) → c < code_point_limit → end / 1024 < c / 1024 → whole c ≡ old c
+  open_after c h l = fills c h ∙ (rw (between_after (at + 1) (end / 1024 + 1) (c / 1024) (omega (arith, l))) (or_false _)
+      ∙ starts.kept c (λ q. absurd (omega (arith, order, l, q))))
+
+  pub added : (c : ℕ) → c < code_point_limit → new c ≡ (old c || between start end c)
+  added c h = elim (cases_lt c start) [
+    | inl l ↦ ends.kept c (λ q. omega (arith, l, order)) ∙ (open_before c h l
+        ∙ sym (rw (between_before start end c l) (or_false _)))
+    | inr l ↦ elim (cases_lt c end) [
+      | inl m ↦ ends.kept c (λ q. m) ∙ (open_in c h l (omega (arith, m))
+          ∙ sym (rw (between_in start end c l m) (or_true _)))
+      | inr m ↦ after m
     ]
-  ]
+  ] where
+    after : end ≤ c → new c ≡ (old c || between start end c)
+    after m = (elim (cases_eq (c / 1024) (end / 1024)) [
+      | inl q ↦ ends.flipped c q m ∙ (ap not (open_in c h (omega (arith, m, order)) (omega (arith, q)))
+          ∙ sym (none c (omega (arith, m, order)) h))
+      | inr n ↦ ends.kept c (λ q. absurd (n q)) ∙ open_after c h (omega (arith, m, n))
+    ]) ∙ sym (rw (between_after start end c m) (or_false _))
 
--- ---- a range in the current block
-outside : (at start end c : ℕ) → at ≡ start / 1024 → at ≡ end / 1024 → (c / 1024 ≡ at → ⊥) → between start end c ≡ false
-outside at start end c s e n = elim (cases_lt c start) [
-  | inl l ↦ between_before start end c l
-  | inr l ↦ elim (cases_lt c end) [
-    | inl h ↦ absurd (n (omega arith))
-    | inr h ↦ between_after start end c h
-  ]
-]
-
--- A range of one block, as bits of that block.
-between_here : (start end c : ℕ) → c / 1024 ≡ start / 1024 → start / 1024 ≡ end / 1024
-    → between (start % 1024) (end % 1024) (c % 1024) ≡ between start end c
-between_here start end c s e = elim (cases_lt c start) [
-  | inl l ↦ between_before (start % 1024) (end % 1024) (c % 1024) (omega arith) ∙ sym (between_before start end c l)
-  | inr l ↦ elim (cases_lt c end) [
-    | inl h ↦ between_in (start % 1024) (end % 1024) (c % 1024) (omega arith) (omega arith) ∙ sym (between_in start end c l h)
-    | inr h ↦ between_after (start % 1024) (end % 1024) (c % 1024) (omega arith) ∙ sym (between_after start end c h)
-  ]
-]
-
-pub added_here : (t : List ℕ) (block more at start end : ℕ) → at ≡ start / 1024 → at ≡ end / 1024 → start < end
-    → block < 2 ^ (start % 1024) → more ≡ block + (2 ^ (end % 1024) - 2 ^ (start % 1024))
-    → (c : ℕ) → filled t more at c ≡ (filled t block at c || between start end c)
-added_here t block more at start end s e order fits is c = elim (cases_eq (c / 1024) at) [
-  | inl q ↦ filled_here t more at c q ∙ (ap (λ (n : ℕ). nat_eq (bit_at n (c % 1024)) 1) is
-      ∙ (range_bits block (start % 1024) (end % 1024) (c % 1024) fits (omega arith)
-      ∙ (ap (λ (b : Bool). nat_eq (bit_at block (c % 1024)) 1 || b) (between_here start end c (q ∙ s) (sym s ∙ e))
-      ∙ ap (λ (b : Bool). b || between start end c) (sym (filled_here t block at c q)))))
-  | inr n ↦ filled_else t more at c n ∙ (sym (filled_else t block at c n)
-      ∙ sym (rw (outside at start end c s e n) (or_false _)))
-]
-
--- ---- a range that ends in a later block
--- Whole blocks are between the first and the last.
-whole_blocks : (at last start end c : ℕ) → at ≡ start / 1024 → last ≡ end / 1024 → (c / 1024 ≡ at → ⊥) → (c / 1024 ≡ last → ⊥)
-    → between (at + 1) last (c / 1024) ≡ between start end c
-whole_blocks at last start end c s e n m = elim (cases_lt (c / 1024) at) [
-  | inl l ↦ between_before (at + 1) last (c / 1024) (omega arith) ∙ sym (between_before start end c (omega arith))
-  | inr l ↦ elim (cases_lt (c / 1024) last) [
-    | inl h ↦ between_in (at + 1) last (c / 1024) (omega arith) h ∙ sym (between_in start end c (omega arith) (omega arith))
-    | inr h ↦ between_after (at + 1) last (c / 1024) h ∙ sym (between_after start end c (omega arith))
-  ]
-]
-
--- In the first block, the range has all bits from its start on.
-first_part : (start end c : ℕ) → c / 1024 ≡ start / 1024 → start / 1024 < end / 1024
-    → between (start % 1024) 1024 (c % 1024) ≡ between start end c
-first_part start end c s l = elim (cases_lt c start) [
-  | inl h ↦ between_before (start % 1024) 1024 (c % 1024) (omega arith) ∙ sym (between_before start end c h)
-  | inr h ↦ between_in (start % 1024) 1024 (c % 1024) (omega arith) (omega arith) ∙ sym (between_in start end c h (omega arith))
-]
-
--- In the last block, it has all bits before its end.
-last_part : (start end c : ℕ) → c / 1024 ≡ end / 1024 → start / 1024 < end / 1024
-    → between 0 (end % 1024) (c % 1024) ≡ between start end c
-last_part start end c s l = elim (cases_lt c end) [
-  | inl h ↦ between_in 0 (end % 1024) (c % 1024) (omega arith) (omega arith) ∙ sym (between_in start end c (omega arith) h)
-  | inr h ↦ between_after 0 (end % 1024) (c % 1024) (omega arith) ∙ sym (between_after start end c h)
-]
-
-module _ (t mid new : List ℕ) (block at start end : ℕ) (words : List ℕ) (f : IsFilling t at) (s : at ≡ start / 1024)
-    (later : start / 1024 < end / 1024) (fits : block < 2 ^ (start % 1024))
-    (sets : SetsBlock t mid at (block_bit words))
-    (alike : (c : ℕ) → block_bit words c ≡ nat_eq (bit_at (block + (2 ^ 1024 - 2 ^ (start % 1024))) (c % 1024)) 1)
-    (run_bits : (c : ℕ) → c < code_point_limit → bit_in new c ≡ (bit_in mid c || between (at + 1) (end / 1024) (c / 1024))) where
-  -- In the last block.
-  last_bits : (c : ℕ) → c < code_point_limit → c / 1024 ≡ end / 1024
-      → filled new (2 ^ (end % 1024) - 1) (end / 1024) c ≡ (filled t block at c || between start end c)
-  last_bits c h q =
-      let whole : 2 ^ (end % 1024) - 1 ≡ 0 + (2 ^ (end % 1024) - 2 ^ 0) = omega arith in
-      filled_here new (2 ^ (end % 1024) - 1) (end / 1024) c q ∙ (ap (λ (n : ℕ). nat_eq (bit_at n (c % 1024)) 1) whole
-      ∙ (range_bits 0 0 (end % 1024) (c % 1024) (pow_pos 0) (omega arith)
-      ∙ (ap (λ (b : Bool). b || between 0 (end % 1024) (c % 1024)) (no_bit (c % 1024)
-      ∙ sym (filled_else t block at c (λ p. omega arith) ∙ empty_block t c f.tables
-      (f.empty (c / 1024) (omega (arith, q, later)) (omega (arith, q, s, later)) (omega arith))))
-      ∙ ap (λ (b : Bool). filled t block at c || b) (last_part start end c q later))))
-
-  -- In the first block.
-  first_bits : (c : ℕ) → c < code_point_limit → c / 1024 ≡ at → bit_in new c ≡ (filled t block at c || between start end c)
-  first_bits c h q = run_bits c h ∙ (rw (between_before (at + 1) (end / 1024) (c / 1024) (omega arith)) (or_false _)
-      ∙ (sets.set c q ∙ (alike c ∙ (range_bits block (start % 1024) 1024 (c % 1024) fits (omega arith)
-      ∙ (ap (λ (b : Bool). b || between (start % 1024) 1024 (c % 1024)) (sym (filled_here t block at c q))
-      ∙ ap (λ (b : Bool). filled t block at c || b) (first_part start end c (q ∙ s) later))))))
-
-  -- In all other blocks.
-  other_bits : (c : ℕ) → c < code_point_limit → (c / 1024 ≡ at → ⊥) → (c / 1024 ≡ end / 1024 → ⊥)
-      → bit_in new c ≡ (filled t block at c || between start end c)
-  other_bits c h m n = run_bits c h
-      ∙ (ap (λ (b : Bool). b || between (at + 1) (end / 1024) (c / 1024))
-      (sets.kept c m h ∙ sym (filled_else t block at c m))
-      ∙ ap (λ (b : Bool). filled t block at c || b) (whole_blocks at (end / 1024) start end c s refl m n))
-
-  pub added_far : (c : ℕ) → c < code_point_limit
-      → filled new (2 ^ (end % 1024) - 1) (end / 1024) c ≡ (filled t block at c || between start end c)
-  added_far c h = elim (cases_eq (c / 1024) (end / 1024)) [
-    | inl q ↦ last_bits c h q
-    | inr n ↦ filled_else new (2 ^ (end % 1024) - 1) (end / 1024) c n ∙ elim (cases_eq (c / 1024) at) [
-      | inl p ↦ first_bits c h p
-      | inr m ↦ other_bits c h m n
-    ]
-  ]
+  pub added_none : (c : ℕ) → c < code_point_limit → end ≤ c → new c ≡ false
+  added_none c h m = added c h ∙ rw (between_after start end c m) (or_false _ ∙ none c (omega (arith, m, order)) h)

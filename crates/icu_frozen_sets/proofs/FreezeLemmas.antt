@@ -8,19 +8,19 @@ use Rattle.std.proofs.lemmas.List.{drop_all, drop_more}
 use Rattle.icu_zerovec.specs.CodePoints.{code_point_limit}
 use Rattle.icu_invlist.specs.InversionList.{AreApart, IsOfCodePoints, IsValid, StartsBehind, between, holds, in_ranges, ranges_of}
 use Rattle.icu_frozen_sets.specs.FrozenWords.{IsFrozenOf, bit_in, offset_words}
-use Rattle.icu_frozen_sets.specs.Inside.Filling.{AreBelow, AreClosed, AreTables, HasOffset, IsFilling, IsFrozen, bit_among, bits_of, filled}
+use Rattle.icu_frozen_sets.specs.Inside.Filling.{AreTables, HasOffset, IsFilledBelow, IsFilling, IsFrozen, bit_among, filled}
 use Rattle.icu_frozen_sets.proofs.BitLemmas.{or_false}
-use Rattle.icu_frozen_sets.proofs.MarkLemmas.{below_later}
+use Rattle.icu_frozen_sets.proofs.FillingLemmas.{below_later}
 
 -- The first of the ranges, if there is one, starts at n or above.
 abbrev pub StartsFrom : ℕ → List (RangeInclusive ℕ) → Type 0
 StartsFrom n [] = Unit {0}
 StartsFrom n (r ∷ rs) = n ≤ r.start
 
--- All marks in block `at` are below the first of the ranges, if there is one.
-abbrev pub AreBelowFirst : List ℕ → List ℕ → ℕ → List (RangeInclusive ℕ) → Type 0
-AreBelowFirst starts ends at [] = Unit {0}
-AreBelowFirst starts ends at (r ∷ rs) = AreBelow starts ends at r.start
+-- All code points that are filled are below the first of the ranges, if there is one.
+abbrev pub IsFilledBelowFirst : List ℕ → List ℕ → ℕ → List (RangeInclusive ℕ) → Type 0
+IsFilledBelowFirst t block at [] = Unit {0}
+IsFilledBelowFirst t block at (r ∷ rs) = IsFilledBelow t block at r.start
 
 -- p is above all boundaries but the end of the code space.
 abbrev pub IsAbove : ℕ → List ℕ → Type 0
@@ -64,15 +64,13 @@ enough_kept set t new same e = record {
 }
 
 -- Each code point in the set is filled, or in one of the ranges that are left.
-pub record Freezes (set : List ℕ) (left : List (RangeInclusive ℕ)) (t : List ℕ) (starts ends : List ℕ) (carried : Bool) (at : ℕ)
-    : Type 0 where
+pub record Freezes (set : List ℕ) (left : List (RangeInclusive ℕ)) (t block : List ℕ) (at : ℕ) : Type 0 where
   pub filling : IsFilling t at
   pub enough : AreEnough set t
-  pub closed : AreClosed starts ends carried
   pub apart : AreApart left
   pub within : All IsOfCodePoints left
-  pub below : AreBelowFirst starts ends at left
-  pub held : (c : ℕ) → c < code_point_limit → holds set c ≡ (filled t (bits_of starts ends carried) at c || in_ranges left c)
+  pub below : IsFilledBelowFirst t block at left
+  pub held : (c : ℕ) → c < code_point_limit → holds set c ≡ (filled t block at c || in_ranges left c)
 
 starts_from : (n : ℕ) (rs : List (RangeInclusive ℕ)) → StartsBehind n rs → StartsFrom n rs
 starts_from n [] h = tt
@@ -98,36 +96,32 @@ below c end last h e = elim (cases_lt end c) [
   | inr l ↦ lt-ltb c last (omega arith) ∙ sym (le-leb c end l)
 ]
 
-below_first : (starts ends : List ℕ) (at : ℕ) (left : List (RangeInclusive ℕ)) → ((next : ℕ) → AreBelow starts ends at next)
-    → AreBelowFirst starts ends at left
-below_first starts ends at [] b = tt
-below_first starts ends at (r ∷ rs) b = b r.start
+below_first : (t block : List ℕ) (at : ℕ) (left : List (RangeInclusive ℕ)) → IsFilledBelow t block at 0
+    → IsFilledBelowFirst t block at left
+below_first t block at [] b = tt
+below_first t block at (r ∷ rs) b = below_later t block at 0 r.start b (omega arith)
 
-below_rest : (starts ends : List ℕ) (at last : ℕ) (left : List (RangeInclusive ℕ)) → AreBelow starts ends at (last + 2)
-    → StartsBehind (last + 1) left → AreBelowFirst starts ends at left
-below_rest starts ends at last [] b h = tt
-below_rest starts ends at last (r ∷ rs) b h = below_later starts ends at (last + 2) r.start b (omega arith)
+below_rest : (t block : List ℕ) (at last : ℕ) (left : List (RangeInclusive ℕ)) → IsFilledBelow t block at (last + 1)
+    → StartsBehind (last + 1) left → IsFilledBelowFirst t block at left
+below_rest t block at last [] b h = tt
+below_rest t block at last (r ∷ rs) b h = below_later t block at (last + 1) r.start b (omega arith)
 
-pub freezes_none : (set : List ℕ) (left : List (RangeInclusive ℕ)) (t : List ℕ) (starts ends : List ℕ) (carried : Bool) (at : ℕ)
-    → IsFilling t at → AreEnough set t → AreClosed starts ends carried → ((next : ℕ) → AreBelow starts ends at next)
-    → ((c : ℕ) → c < code_point_limit → filled t (bits_of starts ends carried) at c ≡ false)
-    → AreApart left → All IsOfCodePoints left → ((c : ℕ) → in_ranges left c ≡ holds set c)
-    → Freezes set left t starts ends carried at
-freezes_none set left t starts ends carried at f enough closed below none apart within held = record {
+pub freezes_none : (set : List ℕ) (left : List (RangeInclusive ℕ)) (t block : List ℕ) (at : ℕ) → IsFilling t at → AreEnough set t
+    → IsFilledBelow t block at 0 → AreApart left → All IsOfCodePoints left → ((c : ℕ) → in_ranges left c ≡ holds set c)
+    → Freezes set left t block at
+freezes_none set left t block at f enough below apart within held = record {
   filling = f;
   enough = enough;
-  closed = closed;
   apart = apart;
   within = within;
-  below = below_first starts ends at left below;
-  held = λ c h. sym (rw (none c h) (held c));
+  below = below_first t block at left below;
+  held = λ c h. sym (rw (below.none c (omega arith) h) (held c));
 }
 
-module _ (set : List ℕ) (left rest : List (RangeInclusive ℕ)) (r : RangeInclusive ℕ) (step : left ≡ r ∷ rest) (t : List ℕ)
-    (starts ends : List ℕ) (carried : Bool) (at : ℕ)
-    (f : Freezes set left t starts ends carried at) where
-  pub range_above : AreBelow starts ends at r.start
-  range_above = let P : List (RangeInclusive ℕ) → Type 0 = λ rs. AreBelowFirst starts ends at rs in rw step at f.below
+module _ (set : List ℕ) (left rest : List (RangeInclusive ℕ)) (r : RangeInclusive ℕ) (step : left ≡ r ∷ rest) (t block : List ℕ)
+    (at : ℕ) (f : Freezes set left t block at) where
+  pub range_above : IsFilledBelow t block at r.start
+  range_above = let P : List (RangeInclusive ℕ) → Type 0 = λ rs. IsFilledBelowFirst t block at rs in rw step at f.below
 
   here : AreApart (r ∷ rest)
   here = rw step at f.apart
@@ -135,40 +129,34 @@ module _ (set : List ℕ) (left rest : List (RangeInclusive ℕ)) (r : RangeIncl
   inside : All IsOfCodePoints (r ∷ rest)
   inside = rw step at f.within
 
-  pub range_order : r.start ≤ r.end
-  range_order = let w = inside 0 r (omega arith) in omega arith
-
   pub range_within : r.end + 1 ≤ code_point_limit
   range_within = let w = inside 0 r (omega arith) in omega arith
 
-  pub freezes_more : (t1 : List ℕ) (starts1 ends1 : List ℕ) (carried1 : Bool) (new start end : ℕ) → start ≡ r.start → end ≡ r.end + 1
-      → IsFilling t1 new → offset_words t1 ≡ offset_words t → AreClosed starts1 ends1 carried1 → AreBelow starts1 ends1 new (end + 1)
-      → ((c : ℕ) → c < code_point_limit → filled t1 (bits_of starts1 ends1 carried1) new c
-      ≡ (filled t (bits_of starts ends carried) at c || between start end c))
-      → Freezes set rest t1 starts1 ends1 carried1 new
-  freezes_more t1 starts1 ends1 carried1 new start end s e filling same closed below bits = record {
+  pub freezes_more : (t1 block1 : List ℕ) (new start end : ℕ) → start ≡ r.start → end ≡ r.end + 1
+      → IsFilling t1 new → offset_words t1 ≡ offset_words t → IsFilledBelow t1 block1 new end
+      → ((c : ℕ) → c < code_point_limit → filled t1 block1 new c ≡ (filled t block at c || between start end c))
+      → Freezes set rest t1 block1 new
+  freezes_more t1 block1 new start end s e filling same below bits = record {
     filling = filling;
     enough = enough_kept set t t1 same f.enough;
-    closed = closed;
     apart = here.1;
     within = λ k d h. inside (suc k) d (omega arith);
-    below = below_rest starts1 ends1 new r.end rest (below_later starts1 ends1 new (end + 1) (r.end + 2) below (omega arith)) here.0;
-    held = λ c h. f.held c h ∙ (ap (λ (rs : List (RangeInclusive ℕ)). filled t (bits_of starts ends carried) at c || in_ranges rs c) step
-        ∙ (or_assoc (filled t (bits_of starts ends carried) at c) (nat_le r.start c && nat_le c r.end) (in_ranges rest c)
+    below = below_rest t1 block1 new r.end rest (below_later t1 block1 new end (r.end + 1) below (omega (arith, e))) here.0;
+    held = λ c h. f.held c h ∙ (ap (λ (rs : List (RangeInclusive ℕ)). filled t block at c || in_ranges rs c) step
+        ∙ (or_assoc (filled t block at c) (nat_le r.start c && nat_le c r.end) (in_ranges rest c)
         ∙ ap (λ (b : Bool). b || in_ranges rest c)
-        (sym (bits c h ∙ (ap (λ (n : ℕ). filled t (bits_of starts ends carried) at c || between n end c) s
-        ∙ ap (λ (x : Bool). filled t (bits_of starts ends carried) at c || (nat_le r.start c && x))
+        (sym (bits c h ∙ (ap (λ (n : ℕ). filled t block at c || between n end c) s
+        ∙ ap (λ (x : Bool). filled t block at c || (nat_le r.start c && x))
         (ap (λ (n : ℕ). nat_lt c n) e ∙ through c r.end))))));
   }
 
 -- All ranges are filled.
-module _ (set : List ℕ) (left : List (RangeInclusive ℕ)) (t : List ℕ) (starts ends : List ℕ) (carried : Bool) (at : ℕ) (new : List ℕ)
-    (f : Freezes set left t starts ends carried at) (none : left ≡ []) (tables : AreTables new) (same : offset_words new ≡ offset_words t)
-    (bits : (c : ℕ) → c < code_point_limit → bit_in new c ≡ filled t (bits_of starts ends carried) at c) where
+module _ (set : List ℕ) (left : List (RangeInclusive ℕ)) (t block : List ℕ) (at : ℕ) (new : List ℕ) (f : Freezes set left t block at)
+    (none : left ≡ []) (tables : AreTables new) (same : offset_words new ≡ offset_words t)
+    (bits : (c : ℕ) → c < code_point_limit → bit_in new c ≡ filled t block at c) where
   all_bits : (c : ℕ) → c < code_point_limit → bit_in new c ≡ holds set c
   all_bits c h = bits c h ∙ sym (f.held c h
-      ∙ (ap (λ (rs : List (RangeInclusive ℕ)). filled t (bits_of starts ends carried) at c || in_ranges rs c) none
-      ∙ or_false (filled t (bits_of starts ends carried) at c)))
+      ∙ (ap (λ (rs : List (RangeInclusive ℕ)). filled t block at c || in_ranges rs c) none ∙ or_false (filled t block at c)))
 
   pub frozen_all : IsValid set → IsFrozenOf set new
   frozen_all v = record {

@@ -8,8 +8,8 @@ pub mod FreezeLemmas
 pub mod FrozenWordLemmas
 pub mod LongestSpanLemmas
 pub mod LossySpanLemmas
-pub mod MarkLemmas
 pub mod OneCharacter
+pub mod ParityLemmas
 pub mod PlaceLemmas
 pub mod RunLemmas
 pub mod SameLengthLemmas

@@ -1,7 +1,7 @@
 -- The words of a frozen set while they are filled, from the first code point on. The current block is
--- separate, as the starts and the ends of the ranges in it: one bit marks each.
-use Rattle.std.specs.Prelude.{ℕ, ◌+◌, ◌-◌, ◌*◌, ◌/◌, ◌%◌, ◌^◌, ◌<◌, ◌≤◌, ◌≡◌, ◌≢◌, List, [], ◌∷◌, length, slice_index, slice_index_or, Bool, false, ◌==◌, min, if◌then◌else◌}
-use Rattle.std.specs.Int.{bit_at, from_bool}
+-- separate, with the boundaries of the ranges in it: each flips the bits of its word from there on.
+use Rattle.std.specs.Prelude.{ℕ, zero, suc, ◌+◌, ◌-◌, ◌*◌, ◌/◌, ◌%◌, ◌^◌, ◌<◌, ◌≤◌, ◌≡◌, ◌≢◌, List, length, slice_index, slice_index_or, Bool, false, ◌==◌, min, if◌then◌else◌}
+use Rattle.std.specs.Int.{bit_at}
 use Rattle.icu_zerovec.specs.CodePoints.{code_point_limit}
 use Rattle.icu_invlist.specs.InversionList.{holds}
 use Rattle.icu_frozen_sets.specs.FrozenWords.{IsFrozenOf, bit_in, offset_words, place_in}
@@ -53,30 +53,24 @@ pub record IsFilling (table : List ℕ) (at : ℕ) : Type 0 where
   pub own : HasOffset table at
   pub empty : (b : ℕ) → 0 < b → at ≤ b → b < 1088 → place_in table b ≡ offset_words table + 16
 
--- Words as one number, whose bit k is bit k % 64 of word k / 64.
-unfoldable pub number : List ℕ → ℕ
-number [] = 0
-number (word ∷ words) = number words * 2 ^ 64 + word
+-- The number of the words before index w whose last bit is 1.
+unfoldable pub last_bits : List ℕ → ℕ → ℕ
+last_bits block zero = 0
+last_bits block (suc w) = last_bits block w + bit_at (slice_index block w) 63
 
--- The bits of a block with these marks. A range from s to before e counts 2 ^ e - 2 ^ s, which has
--- ones from bit s to before bit e. A range that is carried into the block starts at its bit 0.
-abbrev pub bits_of : List ℕ → List ℕ → Bool → ℕ
-bits_of starts ends carried = number ends - (number starts + from_bool carried)
+-- Whether an odd number of boundaries at or below c is marked in its block. Each flips the bits of its word from
+-- there on, so the last bit of a word is 1 if the word has an odd number of boundaries.
+unfoldable pub is_odd_at : List ℕ → ℕ → Bool
+is_odd_at block c = (bit_at (slice_index block (c / 64 % 16)) (c % 64) + last_bits block (c / 64 % 16)) % 2 == 1
 
--- Each range in the block ends in it.
-pub record AreClosed (starts ends : List ℕ) (carried : Bool) : Type 0 where
-  pub order : number starts + from_bool carried ≤ number ends
-  pub fits : number ends < 2 ^ 1024
+-- The bit of c, which is in block `at` if these boundaries are marked there, and otherwise in the words.
+unfoldable pub filled : List ℕ → List ℕ → ℕ → ℕ → Bool
+filled table block at c = if c / 1024 == at then is_odd_at block c else bit_in table c
 
--- All marks in block `at` are below the code point `next`.
-pub record AreBelow (starts ends : List ℕ) (at next : ℕ) : Type 0 where
-  pub here : at * 1024 ≤ next
-  pub of_starts : number starts < 2 ^ (next - at * 1024)
-  pub of_ends : number ends < 2 ^ (next - at * 1024)
-
--- The bit of c if block `at` has these bits.
-unfoldable pub filled : List ℕ → ℕ → ℕ → ℕ → Bool
-filled table block at c = if c / 1024 == at then bit_at block (c % 1024) == 1 else bit_in table c
+-- All code points that are filled are below `next`, which is not before block `at`.
+pub record IsFilledBelow (table block : List ℕ) (at next : ℕ) : Type 0 where
+  pub here : at ≤ next / 1024
+  pub none : (c : ℕ) → next ≤ c → c < code_point_limit → filled table block at c ≡ false
 
 -- The words are the frozen set with these boundaries. `ascii` and `two_bytes` repeat the bits of
 -- ASCII and of the code points below 0x800.

@@ -6,47 +6,35 @@ use crate::support::prelude::*;
 
 /// The bits of the ranges that were added so far, in ascending order.
 ///
-/// The bits of the current block are computed when the block is complete. Until then only the
-/// starts and the ends of its ranges are marked. Read as numbers of 1,024 bits, the ends minus the
-/// starts are the bits, since `2^end - 2^start` has ones from bit `start` to before bit `end`. So a
-/// range takes no jump that depends on the words that it is in.
+/// The start and the end of a range both flip the bits from there on. In the current block, a
+/// boundary flips only those in its word. One pass flips the words after it when the block is
+/// complete. So a range takes no jump that depends on the words that it is in.
 #[derive(Debug)]
 pub(crate) struct Filling {
     /// The blocks below `at`. All others are empty here.
     bits: FrozenWords,
-    /// The starts of the ranges in block `at`.
-    starts: [u64; 16],
-    /// The ends of the ranges in block `at`. An end is the code point after the last one.
-    ends: [u64; 16],
-    /// Whether a range that starts in an earlier block reaches block `at`.
-    carried: bool,
+    /// The bits of block `at`, flipped only in the word of each boundary.
+    block: [u64; 16],
     /// The number of the current block.
     at: u32,
 }
 
-/// Marks the code point `c`, which is above all marks in the words.
+/// Flips the bits from the code point `c` on, in the word of `c`.
 #[inline(always)]
-fn mark(words: &mut [u64; 16], c: u32) {
-    words[(c / 64 % 16) as usize] += 1 << (c % 64);
+fn flip_from(block: &mut [u64; 16], c: u32) {
+    block[(c / 64 % 16) as usize] ^= u64::MAX << (c % 64);
 }
 
-/// Returns `end - start - carried`, and whether that borrows from the next word.
+/// Returns the bits of a block: a word is flipped if an odd number of boundaries is before it.
 #[inline(always)]
-fn less(end: u64, start: u64, carried: bool) -> (u64, bool) {
-    let (rest, first) = end.overflowing_sub(start);
-    let (total, second) = rest.overflowing_sub(u64::from(carried));
-    (total, first | second)
-}
-
-/// Returns the ends minus the starts. `carried` counts as a start before all bits.
-#[inline(always)]
-fn difference(ends: &[u64; 16], starts: &[u64; 16], carried: bool) -> [u64; 16] {
+fn bits_of(block: &[u64; 16]) -> [u64; 16] {
     let mut bits = [0; 16];
-    let mut borrow = carried;
+    let mut flip = 0;
     for k in 0..16 {
-        let (word, next) = less(ends[k], starts[k], borrow);
+        let word = block[k] ^ flip;
         bits[k] = word;
-        borrow = next;
+        // All bits of the next word flip if the last bit of this one is 1.
+        flip = (word >> 63).wrapping_neg();
     }
     bits
 }
@@ -61,20 +49,19 @@ impl Filling {
     pub(crate) fn new(last: u32, ranges: usize) -> Result<Filling, MemoryError> {
         Ok(Filling {
             bits: FrozenWords::new(offsets_for(last), ranges)?,
-            starts: [0; 16],
-            ends: [0; 16],
-            carried: false,
+            block: [0; 16],
             at: 0,
         })
     }
 
-    /// Makes `at` the current block, without marks. A range reaches it if `carried` is true.
+    /// Writes the current block. Block `at`, which is empty, is then the current one.
     #[inline(always)]
-    fn begin(&mut self, at: u32, carried: bool) {
-        self.starts = [0; 16];
-        self.ends = [0; 16];
-        self.carried = carried;
+    fn end_block(&mut self, at: u32) -> Result<(), MemoryError> {
+        let bits = bits_of(&self.block);
+        self.bits.set_block(self.at as usize, &bits)?;
+        self.block = [0; 16];
         self.at = at;
+        Ok(())
     }
 
     /// Makes `at` the current block. If that changes it, the block before is written.
@@ -83,25 +70,29 @@ impl Filling {
         if self.at == at {
             return Ok(());
         }
-        let block = difference(&self.ends, &self.starts, self.carried);
-        self.bits.set_block(self.at as usize, &block)?;
-        self.begin(at, false);
+        self.end_block(at)
+    }
+
+    /// Writes the current block, and fills those after it up to block `at`, the new current one.
+    ///
+    /// This is not inlined: few ranges need it, and the loop over all ranges is faster without it.
+    #[inline(never)]
+    fn fill_later(&mut self, at: u32) -> Result<(), MemoryError> {
+        let next = self.at as usize + 1;
+        self.end_block(at)?;
+        self.bits.fill_blocks(next, at as usize);
+        flip_from(&mut self.block, 0);
         Ok(())
     }
 
-    /// Adds the range `start..end`, which starts in the current block and ends in a later one.
-    ///
-    /// This is not inlined: few ranges are such, and the loop over all ranges is faster without it.
-    #[inline(never)]
-    fn add_far(&mut self, start: u32, end: u32) -> Result<(), MemoryError> {
-        mark(&mut self.starts, start);
-        let block = difference(&self.ends, &self.starts, self.carried);
-        self.bits.set_block(self.at as usize, &block)?;
-        let next = self.at as usize + 1;
-        self.bits.fill_blocks(next, (end / 1024) as usize);
-        self.begin(end / 1024, true);
-        mark(&mut self.ends, end);
-        Ok(())
+    /// Makes `at` the current block. If that changes it, the block before is written, and those
+    /// after it are filled up to block `at`.
+    #[inline(always)]
+    fn fill_to(&mut self, at: u32) -> Result<(), MemoryError> {
+        if self.at == at {
+            return Ok(());
+        }
+        self.fill_later(at)
     }
 
     /// Adds the range `start..end`, which is above all ranges that were added.
@@ -111,11 +102,9 @@ impl Filling {
     #[inline(always)]
     pub(crate) fn add(&mut self, start: u32, end: u32) -> Result<(), MemoryError> {
         self.move_to(start / 1024)?;
-        if end / 1024 != self.at {
-            return self.add_far(start, end);
-        }
-        mark(&mut self.starts, start);
-        mark(&mut self.ends, end);
+        flip_from(&mut self.block, start);
+        self.fill_to(end / 1024)?;
+        flip_from(&mut self.block, end);
         Ok(())
     }
 
@@ -128,9 +117,7 @@ impl Filling {
         self.move_to(BLOCKS)?;
         let Filling {
             bits,
-            starts: _,
-            ends: _,
-            carried: _,
+            block: _,
             at: _,
         } = self;
         Ok(bits.into_words())

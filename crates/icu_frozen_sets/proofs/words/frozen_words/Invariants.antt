@@ -5,4 +5,4 @@ use Rattle.icu_frozen_sets.proofs.words.frozen_words.Given as goal
 
 abbrev pub invariant-loop-i : goal.invariant-loop-i
 invariant-loop-i g l = Freezes (g.B.Boundaries.list l.fn.ends) (ranges_of (drop (2 * l.i) (g.B.Boundaries.list l.fn.ends)))
-    l.filling.bits l.filling.starts l.filling.ends l.filling.carried l.filling.at
+    l.filling.bits l.filling.block l.filling.at

@@ -1,10 +1,8 @@
 use Rattle.std.proofs.Common.{◌∙◌, sym, arith}
-use Rattle.icu_frozen_sets.specs.Inside.Filling.{bits_of}
 use Rattle.icu_frozen_sets.proofs.FillingLemmas.{filled_else}
 use Rattle.icu_frozen_sets.proofs.filling.Filling.finish.Goals as goal
 
 pub returns-clause-bits : goal.returns-clause-bits
 returns-clause-bits c = rw (c.into_words.ensures) (λ k h.
     let m = c.move_to.new.self in
-    sym (filled_else m.bits (bits_of m.starts m.ends m.carried) 1088 k (λ q. omega (arith, q, h)))
-    ∙ c.in_ok-move_to.ensures.same k h)
+    sym (filled_else m.bits m.block 1088 k (λ q. omega (arith, q, h))) ∙ c.in_ok-move_to.ensures.same k h)
