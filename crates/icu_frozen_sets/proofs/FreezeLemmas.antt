@@ -173,9 +173,11 @@ module _ (set : List ℕ) (left : List (RangeInclusive ℕ)) (t block : List ℕ
 -- The words, with the bits that are repeated.
 pub frozen_owned : (set words : List ℕ) → IsFrozenOf set words → (ascii : List Bool)
     → ((c : ℕ) → c < 128 → get_or ascii c false ≡ holds set c) → (two_bytes : List ℕ)
-    → ((c : ℕ) → c < 2048 → bit_among two_bytes c ≡ bit_in words c) → IsFrozen set ascii two_bytes words
-frozen_owned set words frozen ascii first two_bytes alike = record {
+    → ((c : ℕ) → c < 2048 → bit_among two_bytes c ≡ bit_in words c) → (last : ℕ) → last ≡ offset_words words - 1
+    → IsFrozen set ascii two_bytes words last
+frozen_owned set words frozen ascii first two_bytes alike last end = record {
   frozen = frozen;
+  end = end;
   first = first;
   short = λ c h. alike c h ∙ frozen.bits c (omega arith);
 }

@@ -13,7 +13,7 @@ ghost use Rattle.icu_frozen_sets.specs.FrozenWords.{IsFrozenOf};
 ghost use Rattle.icu_frozen_sets.specs.Inside.Characters.{IsAsked};
 
 use crate::ascii::ascii_of;
-use crate::view::{FrozenView, bit_of_parts, contains, first_words};
+use crate::view::{FrozenView, bit_of_parts, contains_by, first_words, last_offset};
 use crate::words::frozen_words;
 use icu_invlist::codepointinvlist::CodePointInversionList;
 use icu_utf::places::{number_of_four, place_of_three, place_of_two};
@@ -48,6 +48,8 @@ pub struct FrozenCodePointSet {
     two_bytes: [u64; 32],
     /// The offsets of the blocks, and then the words of the blocks.
     words: Vec<u64>,
+    /// The index of the last offset.
+    last: usize,
 }
 
 impl Model for FrozenCodePointSet {
@@ -58,7 +60,7 @@ impl Model for FrozenCodePointSet {
 
     ghost view = { λ a. a.set };
 
-    ghost invariant = { λ a. IsFrozen a.set a.ascii a.two_bytes a.words.items };
+    ghost invariant = { λ a. IsFrozen a.set a.ascii a.two_bytes a.words.items a.last };
 }
 
 /// Constructors and copies.
@@ -79,6 +81,7 @@ impl FrozenCodePointSet {
             set: set.try_clone(alloc)?,
             ascii: ascii_of(set),
             two_bytes: first_words(&words),
+            last: last_offset(&words),
             words,
         })
     }
@@ -95,6 +98,7 @@ impl FrozenCodePointSet {
             ascii: self.ascii,
             two_bytes: self.two_bytes,
             words: Vec::from_slice(alloc, &self.words)?,
+            last: self.last,
         })
     }
 }
@@ -143,7 +147,7 @@ impl FrozenCodePointSet {
         ensures held { result ≡ holds self.now c }
         ensures far { code_point_limit ≤ c → result ≡ false }
     {
-        contains(&self.words, c)
+        contains_by(&self.words, self.last, c)
     }
 
     /// Returns true if the set contains the character `c`.
@@ -186,7 +190,7 @@ impl FrozenCodePointSet {
         }
         if lead < 0xF0 {
             let (upper, lower) = place_of_three(bytes);
-            return (bit_of_parts(&self.words, upper, lower), 3);
+            return (bit_of_parts(&self.words, self.last, upper, lower), 3);
         }
         (self.contains32(number_of_four(bytes)), 4)
     }

@@ -1,7 +1,9 @@
 //! Frozen sets of code points, for many look-ups: a bit for each code point.
 
 use crate::icu_frozen_sets::ascii::ascii_of;
-use crate::icu_frozen_sets::view::{FrozenView, bit_of_parts, contains, first_words};
+use crate::icu_frozen_sets::view::{
+    FrozenView, bit_of_parts, contains_by, first_words, last_offset,
+};
 use crate::icu_frozen_sets::words::frozen_words;
 use crate::icu_invlist::codepointinvlist::CodePointInversionList;
 use crate::icu_utf::places::{number_of_four, place_of_three, place_of_two};
@@ -38,6 +40,8 @@ pub struct FrozenCodePointSet {
     two_bytes: [u64; 32],
     /// The offsets of the blocks, and then the words of the blocks.
     words: Vec<u64>,
+    /// The index of the last offset.
+    last: usize,
 }
 
 /// Constructors and copies.
@@ -54,6 +58,7 @@ impl FrozenCodePointSet {
             set: set.try_clone()?,
             ascii: ascii_of(set),
             two_bytes: first_words(&words),
+            last: last_offset(&words),
             words,
         })
     }
@@ -69,6 +74,7 @@ impl FrozenCodePointSet {
             ascii: self.ascii,
             two_bytes: self.two_bytes,
             words: Vec::from_slice(&self.words)?,
+            last: self.last,
         })
     }
 }
@@ -117,7 +123,7 @@ impl FrozenCodePointSet {
     #[inline(always)]
     #[must_use]
     pub fn contains32(&self, c: u32) -> bool {
-        contains(&self.words, c)
+        contains_by(&self.words, self.last, c)
     }
 
     /// Returns true if the set contains the character `c`.
@@ -151,7 +157,7 @@ impl FrozenCodePointSet {
         }
         if lead < 0xF0 {
             let (upper, lower) = place_of_three(bytes);
-            return (bit_of_parts(&self.words, upper, lower), 3);
+            return (bit_of_parts(&self.words, self.last, upper, lower), 3);
         }
         (self.contains32(number_of_four(bytes)), 4)
     }

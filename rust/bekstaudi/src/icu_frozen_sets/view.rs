@@ -9,10 +9,20 @@ use crate::support::prelude::*;
 /// The words of the block of U+0000 and of the empty block are between them.
 pub(crate) const FULL_BLOCK: usize = 32;
 
-/// Returns the word at this index, or 0 if there is none.
+/// Tells the compiler that the path on which it is called is rare.
+#[cold]
+#[inline(always)]
+fn rare() {}
+
+/// Returns the word at this index, or 0 if there is none, which is rare.
 #[inline(always)]
 pub(crate) fn word(table: &[u64], place: usize) -> u64 {
-    if place < table.len() { table[place] } else { 0 }
+    if place < table.len() {
+        table[place]
+    } else {
+        rare();
+        0
+    }
 }
 
 /// Returns the number of words of offsets.
@@ -21,12 +31,23 @@ pub(crate) fn offset_count(table: &[u64]) -> usize {
     (word(table, 0) % 0x1_0000_0000) as usize
 }
 
-/// Returns the index of the first of the block's words. The last offset is that of all later blocks,
-/// too.
+/// Returns the index of the last offset, or 0 if there is none.
+#[inline(always)]
+pub(crate) fn last_offset(table: &[u64]) -> usize {
+    offset_count(table).max(1) - 1
+}
+
+/// Returns the index of the first of the block's words. The last offset, which is at index `last`, is
+/// that of all later blocks, too.
+#[inline(always)]
+fn place_by(table: &[u64], last: usize, block: u32) -> usize {
+    (word(table, (block as usize).min(last)) % 0x1_0000_0000) as usize
+}
+
+/// Returns the index of the first of the block's words.
 #[inline(always)]
 pub(crate) fn place_of(table: &[u64], block: u32) -> usize {
-    let last = offset_count(table).max(1) - 1;
-    (word(table, (block as usize).min(last)) % 0x1_0000_0000) as usize
+    place_by(table, last_offset(table), block)
 }
 
 /// Returns the bits of the first 2,048 code points, 64 in each word.
@@ -42,18 +63,28 @@ pub(crate) fn first_words(table: &[u64]) -> [u64; 32] {
     words
 }
 
-/// Returns the bit of the code point `64 * upper + lower`.
+/// Returns the bit of the code point `64 * upper + lower`. The last offset is at index `last`.
 #[inline(always)]
-pub(crate) fn bit_of_parts(table: &[u64], upper: u32, lower: u32) -> bool {
-    let place = place_of(table, upper / 16);
+pub(crate) fn bit_of_parts(table: &[u64], last: usize, upper: u32, lower: u32) -> bool {
+    let place = place_by(table, last, upper / 16);
     let bits = word(table, place + (upper % 16) as usize);
     (bits >> lower) & 1 == 1
+}
+
+/// Returns whether the frozen set contains the code point. The last offset is at index `last`.
+#[inline(always)]
+pub(crate) fn contains_by(table: &[u64], last: usize, c: u32) -> bool {
+    if c >= CODE_POINT_LIMIT {
+        rare();
+        return false;
+    }
+    bit_of_parts(table, last, c / 64, c % 64)
 }
 
 /// Returns whether the frozen set contains the code point.
 #[inline(always)]
 pub(crate) fn contains(table: &[u64], c: u32) -> bool {
-    c < CODE_POINT_LIMIT && bit_of_parts(table, c / 64, c % 64)
+    contains_by(table, last_offset(table), c)
 }
 
 /// A frozen set in 64-bit words, borrowed, for example from a file. It is `Copy`, like `&[u64]`.

@@ -5,5 +5,5 @@ use Rattle.icu_frozen_sets.proofs.view.bit_of_parts.Goals as goal
 
 pub returns : goal.returns
 returns c = bit_tested c.word-bits.result c.args.lower
-    ∙ bit_read c.args.table.now c.args.upper c.args.lower c.place_of-place.result c.word-bits.result c.requires c.place_of-place.ensures
+    ∙ bit_read c.args.table.now c.args.upper c.args.lower c.place_by-place.result c.word-bits.result c.requires.within c.place_by-place.ensures
     c.word-bits.ensures

@@ -6,7 +6,7 @@ use Rattle.icu_frozen_sets.proofs.frozen.FrozenCodePointSet.contains32.Goals as 
 pub returns-clause-held : goal.returns-clause-held
 returns-clause-held c =
     let s = c.self.inside in
-    rw (← c.self.view_is) ((rw (c.deref.ensures.value) at c.contains.ensures) ∙ held_in s.set s.words.items c.self.invariant.frozen c.args.c)
+    rw (← c.self.view_is) ((rw (c.deref.ensures.value) at c.contains_by.ensures) ∙ held_in s.set s.words.items c.self.invariant.frozen c.args.c)
 
 pub returns-clause-far : goal.returns-clause-far
-returns-clause-far c = λ l. c.contains.ensures ∙ and_left _ _ (le-ltb c.args.c 0x110000 l)
+returns-clause-far c = λ l. c.contains_by.ensures ∙ and_left _ _ (le-ltb c.args.c 0x110000 l)
