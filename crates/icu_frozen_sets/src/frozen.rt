@@ -22,8 +22,8 @@ use icu_zerovec::ule::AsULE;
 use std::alloc::Global;
 use std::marker::Model;
 
-/// A set of code points for many look-ups, each of which takes at most three loads and no search
-/// (ICU: a frozen UnicodeSet).
+/// A set of code points for many look-ups, each of which reads two words and searches nothing (ICU: a
+/// frozen UnicodeSet).
 ///
 /// It stores the set and, in 64-bit words, a bit for each code point, in blocks of 1,024. The words
 /// take 8 bytes for each block up to that of the last boundary below 0x110000, at most 392 bytes more,
