@@ -10,13 +10,9 @@ use Rattle.std.specs.Char.{encode_utf8}
 use Rattle.std.specs.Char.Escape.{encode_utf16}
 use Rattle.std.specs.List.{flat_map}
 use Rattle.std.specs.Str.{chars, IsCharBoundary, IsUtf8}
-use Rattle.icu_char16trie.specs.UnitPlaces.{is_empty_at}
-use Rattle.icu_char16trie.specs.Steps.{StepsAlong}
-use Rattle.icu_char16trie.specs.Matches.{HasCharsStepped, front_units, in_bytes}
+use Rattle.icu_char16trie.specs.Matches.{front_units, in_bytes}
 use Rattle.icu_char16trie.specs.Inside.Fronts.{longer}
-use Rattle.icu_char16trie.specs.declared.place.Place.{Place}
-use Rattle.icu_char16trie.specs.declared.place.Place.TheVariants.{Node}
-use Rattle.icu_char16trie.proofs.FrontLemmas.{front_more, none_along}
+use Rattle.icu_char16trie.proofs.FrontLemmas.{front_more}
 
 -- A character has a unit.
 some_unit : (c : ℕ) → (u : ℕ) × (more : List ℕ) × (encode_utf16 c ≡ u ∷ more)

@@ -4,10 +4,10 @@ use Rattle.std.specs.Prelude.{option_and_then}
 use Rattle.std.proofs.Math.Seq.{take-length}
 use Rattle.std.proofs.lemmas.Bool.{lt-ltb}
 use Rattle.icu_char16trie.specs.Numbers.{node_end, end_by}
-use Rattle.icu_char16trie.specs.UnitPlaces.{value_at, value_by, is_empty_at, ends_by}
+use Rattle.icu_char16trie.specs.UnitPlaces.{value_at, value_by, ends_by}
 use Rattle.icu_char16trie.specs.Steps.{at_plain, at_valued, StepsAlong}
 use Rattle.icu_char16trie.specs.Matches.{HasFrontStepped, HasValueAlong, LongestWithin}
-use Rattle.icu_char16trie.specs.Inside.Fronts.{longer, HasValueFrom, NoneHasValue, LeadsToNode, LeadsByMatch, PassesMatch}
+use Rattle.icu_char16trie.specs.Inside.Fronts.{longer, HasValueFrom, LeadsToNode, LeadsByMatch, PassesMatch}
 use Rattle.icu_char16trie.specs.declared.place.Place.{Place}
 use Rattle.icu_char16trie.specs.declared.place.Place.TheVariants.{Node}
 use Rattle.icu_char16trie.proofs.FrontLemmas.{LongestWithin-more, LongestWithin-suc, LongestWithin-zero, no_longer_step, within_or_above}

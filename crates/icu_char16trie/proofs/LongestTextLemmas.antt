@@ -1,29 +1,28 @@
 -- The longest match of a text in UTF-8, found from node to node.
-use Rattle.std.proofs.Common.{◌≡◌, ℕ, ℤ, zero, suc, ◌+◌, ◌-◌, ◌/◌, ◌<◌, ◌≤◌, true, Bool, ◌&&◌, List, [], ◌∷◌, ◌++◌, Option, Some, None, length, take, drop, refl, sym, ap, subst, ◌∙◌, ◌⊎◌, inl, inr, arith, append_assoc, length-append, length-drop}
+use Rattle.std.proofs.Common.{◌≡◌, ℕ, ℤ, zero, suc, ◌+◌, ◌-◌, ◌/◌, ◌<◌, ◌≤◌, true, List, [], ◌∷◌, ◌++◌, Option, Some, None, length, take, drop, refl, sym, ap, subst, ◌∙◌, ◌⊎◌, inl, inr, arith, length-append, length-drop}
 use Rattle.std.proofs.Math.Seq.{drop-append_seam, take-append_seam}
 use Rattle.std.proofs.Math.Utf8.{encodes, scalar, scalar_cases, scalars}
 use Rattle.std.proofs.lemmas.Bool.{and_parts}
 use Rattle.std.proofs.lemmas.Grind.{flat_map-append}
-use Rattle.std.proofs.lemmas.List.{drop-drop, take-append-drop}
+use Rattle.std.proofs.lemmas.List.{take-append-drop}
 use Rattle.std.proofs.lemmas.Str.{encodes-append, encodes-chars, scalars-chars}
 use Rattle.std.specs.Char.Escape.{encode_utf16}
 use Rattle.std.specs.Int.{IsInRange}
 use Rattle.std.specs.List.{flat_map}
-use Rattle.std.specs.Prelude.{IfSome, encode_utf8_all}
+use Rattle.std.specs.Prelude.{encode_utf8_all}
 use Rattle.std.specs.Str.{IsUtf8, chars}
 use Rattle.icu_char16trie.specs.UnitPlaces.{value_at}
-use Rattle.icu_char16trie.specs.Steps.{StepsAlong}
 use Rattle.icu_char16trie.specs.Matches.{HasCharsStepped, HasFrontStepped, HasValueAlong, IsLongestSteppedInText, LongestWithin, front_units, in_bytes, text_units}
 use Rattle.icu_char16trie.specs.Inside.Fronts.{LeadsToNode, longer}
-use Rattle.icu_char16trie.specs.Inside.Texts.{AreLast, AreTextUnits, after_second, longer_after, units_left}
+use Rattle.icu_char16trie.specs.Inside.Texts.{AreTextUnits, after_second, longer_after}
 use Rattle.icu_char16trie.specs.declared.place.Place.TheVariants.{Node}
 use Rattle.icu_char16trie.specs.declared.text_units.TextUnits.{TextUnits}
 use Rattle.icu_char16trie.proofs.CharFronts.{longer_bytes, units_more}
 use Rattle.icu_char16trie.proofs.FrontLemmas.{within_or_above}
-use Rattle.icu_char16trie.proofs.LongestLemmas.{NoneAbove, along_on, none_between, within_text}
+use Rattle.icu_char16trie.proofs.LongestLemmas.{NoneAbove, none_between}
 use Rattle.icu_char16trie.proofs.PassedLemmas.{two_units}
 use Rattle.icu_char16trie.proofs.StandsLemmas.{longest_as}
-use Rattle.icu_char16trie.proofs.TextLemmas.{last_then, one_unit}
+use Rattle.icu_char16trie.proofs.TextLemmas.{HasRead, one_unit}
 
 -- ---- the units of the first characters
 
@@ -117,33 +116,13 @@ longer_at units cs i j (Some v) found within e has h = (within, as_chars units c
 
 -- ---- from node to node
 
--- The units that were read of the text lead to the node.
-pub record HasRead (units text : List ℕ) (t : TextUnits) (node : ℕ) : Type 0 where
-  pub front : List ℕ
-  pub passed : ℕ
-  pub last : chars text ≡ front ++ chars t.rest.now
-  pub left : units_left t ≡ drop passed (text_units text)
-  pub within : passed ≤ length (text_units text)
-  pub steps : StepsAlong units (Node 0) (take passed (text_units text)) (Node node)
-
 -- The match found is the longest among the first characters of fewer than i units.
 abbrev pub IsFound : List ℕ → List ℕ → ℕ → Option (ℕ × ℤ) → Type 0
 IsFound units text i found =
     (chosen : Option (ℕ × ℤ)) × LongestBefore units (chars text) i chosen × (found ≡ in_bytes (chars text) chosen)
 
-pub at_start : (units text : List ℕ) (t : TextUnits) → t.rest.now ≡ text → t.second ≡ None
-    → (at : HasRead units text t 0) × IsFound units text at.passed None
-at_start units text t whole no_second = (
-  record {
-    front = [];
-    passed = 0;
-    last = ap chars (sym whole);
-    left = rw no_second (ap text_units whole);
-    within = omega arith;
-    steps = refl;
-  },
-  (None, λ k _ below. absurd (omega (arith, below)), refl),
-)
+pub none_found : (units text : List ℕ) → IsFound units text 0 None
+none_found units text = (None, λ k _ below. absurd (omega (arith, below)), refl)
 
 -- The bytes of the characters that were read and of the others.
 pub bytes_of : (text rest front : List ℕ) → IsUtf8 text → IsUtf8 rest → chars text ≡ front ++ chars rest
@@ -227,29 +206,18 @@ not_looked_up units text t node found utf8 sound value =
     same (Some u) = refl
 
 -- The text leads on to the next node.
-pub reads_on : (units text : List ℕ) (t s : TextUnits) (node n q : ℕ) (found : Option (ℕ × ℤ)) (at : HasRead units text t node)
-    → AreLast s t → LeadsToNode units (Node node) (drop at.passed (text_units text)) q n
-    → units_left s ≡ drop n (drop at.passed (text_units text)) → IsFound units text (at.passed + 1) found
-    → (next : HasRead units text s q) × IsFound units text next.passed found
-reads_on units text t s node n q found at last on left so_far = (
-  record {
-    front = (last_then (at.front, at.last) last).0;
-    passed = at.passed + n;
-    last = (last_then (at.front, at.last) last).1;
-    left = left ∙ drop-drop n at.passed (text_units text);
-    within = within_text units (text_units text) at.passed node n q at.within on;
-    steps = along_on units (text_units text) at.passed node n q at.steps on;
-  },
-  (
-    so_far.0,
-    later units (chars text) (at.passed + 1) (at.passed + n) so_far.0
-        (λ k more below.
-        as_chars units (chars text) k (length (front_units (chars text) k)) None refl
-        (none_between units (text_units text) at.passed node n q at.steps on (length (front_units (chars text) k))
-        (omega (arith, more)) below))
-        so_far.1,
-    so_far.2,
-  ),
+pub found_on : (units text : List ℕ) (t : TextUnits) (node n q : ℕ) (found : Option (ℕ × ℤ)) (at : HasRead units text t node)
+    → LeadsToNode units (Node node) (drop at.passed (text_units text)) q n → IsFound units text (at.passed + 1) found
+    → IsFound units text (at.passed + n) found
+found_on units text t node n q found at on so_far = (
+  so_far.0,
+  later units (chars text) (at.passed + 1) (at.passed + n) so_far.0
+      (λ k more below.
+      as_chars units (chars text) k (length (front_units (chars text) k)) None refl
+      (none_between units (text_units text) at.passed node n q at.steps on (length (front_units (chars text) k))
+      (omega (arith, more)) below))
+      so_far.1,
+  so_far.2,
 )
 
 -- The text does not lead on.

@@ -1,5 +1,5 @@
 -- The units of a text that are still to be read.
-use Rattle.std.proofs.Common.{◌≡◌, ℕ, ◌+◌, ◌-◌, ◌/◌, ◌%◌, ◌<◌, ◌≤◌, Bool, true, false, not, nat_eq, nat_lt, add-zero, append_assoc, eq-eqb, eqb-true, List, [], ◌∷◌, ◌++◌, Option, Some, None, length, slice_get, drop, length-drop, zero, suc, refl, sym, ap, subst, ◌∙◌, arith}
+use Rattle.std.proofs.Common.{◌≡◌, ℕ, ◌+◌, ◌-◌, ◌/◌, ◌%◌, ◌<◌, ◌≤◌, Bool, true, false, not, nat_eq, nat_lt, add-zero, append_assoc, eq-eqb, eqb-true, List, [], ◌∷◌, ◌++◌, Option, Some, None, length, slice_get, drop, take, length-drop, zero, suc, refl, sym, ap, subst, ◌∙◌, arith}
 use Rattle.std.proofs.lemmas.Bool.{lt-ltb, true≢false}
 use Rattle.std.proofs.lemmas.List.{drop-drop}
 use Rattle.std.specs.Option.{option_eq}
@@ -7,11 +7,15 @@ use Rattle.std.proofs.lemmas.Str.{chars-nil, chars_past_char}
 use Rattle.std.specs.Char.{encode_utf8}
 use Rattle.std.specs.Char.Escape.{encode_utf16}
 use Rattle.std.specs.List.{flat_map}
-use Rattle.std.specs.Str.{IsUtf8}
+use Rattle.std.specs.Str.{IsUtf8, chars}
 use Rattle.icu_char16trie.specs.Matches.{text_units}
-use Rattle.icu_char16trie.specs.Steps.{InMatch, child_place}
-use Rattle.icu_char16trie.specs.Inside.Fronts.{BeginsRun}
-use Rattle.icu_char16trie.specs.Inside.Texts.{PassesUnits, after_second}
+use Rattle.icu_char16trie.specs.Numbers.{node_end}
+use Rattle.icu_char16trie.specs.Steps.{InMatch, StepsAlong, child_place}
+use Rattle.icu_char16trie.specs.Inside.Fronts.{BeginsRun, LeadsToNode}
+use Rattle.icu_char16trie.specs.Inside.Texts.{AreLast, PassesUnits, after_second, units_left}
+use Rattle.icu_char16trie.specs.declared.place.Place.TheVariants.{Node}
+use Rattle.icu_char16trie.specs.declared.text_units.TextUnits.{TextUnits}
+use Rattle.icu_char16trie.proofs.LongestLemmas.{NoneAbove, along_on, match_leads, none_above_match, within_text}
 use Rattle.icu_char16trie.proofs.PassedLemmas.{two_units}
 use Rattle.icu_char16trie.proofs.RunLemmas.{begins_more, leaves_branch, leaves_run, passes_branch, passes_run}
 
@@ -122,3 +126,62 @@ run_differs units text left p low u n big e never from leads =
     leaves_run units (u ∷ text) p low n big e
     (λ b. let both = begins_after units p (n - 1) u text (subst (λ k. BeginsRun units p k (u ∷ text)) more b) in never both.0 both.1)
     from leads
+
+-- ---- from node to node
+
+-- The units that were read of the text lead to the node.
+pub record HasRead (units text : List ℕ) (t : TextUnits) (node : ℕ) : Type 0 where
+  pub front : List ℕ
+  pub passed : ℕ
+  pub last : chars text ≡ front ++ chars t.rest.now
+  pub left : units_left t ≡ drop passed (text_units text)
+  pub within : passed ≤ length (text_units text)
+  pub steps : StepsAlong units (Node 0) (take passed (text_units text)) (Node node)
+
+abbrev pub at_start : (units text : List ℕ) (t : TextUnits) → t.rest.now ≡ text → t.second ≡ None → HasRead units text t 0
+at_start units text t whole no_second = record {
+  front = [];
+  passed = 0;
+  last = ap chars (sym whole);
+  left = rw no_second (ap text_units whole);
+  within = omega arith;
+  steps = refl;
+}
+
+-- The next unit is u, and after it those of `mid` are left. At the match node the text continues to
+-- the next node,
+pub leads_on : (units text : List ℕ) (t mid s : TextUnits) (node lead place u q : ℕ) (at : HasRead units text t node)
+    → units_left t ≡ u ∷ units_left mid → slice_get units node ≡ Some lead → lead < 0x8000 → place ≡ node_end (node + 1) lead
+    → PassesUnits units (u ∷ units_left mid) place (lead % 64) (Some q) (units_left s)
+    → (n : ℕ) × LeadsToNode units (Node node) (drop at.passed (text_units text)) q n
+    × (units_left s ≡ drop n (drop at.passed (text_units text)))
+leads_on units text t mid s node lead place u q at next g small e passes =
+    subst (λ w. PassesUnits units w place (lead % 64) (Some q) (units_left s)) (sym next ∙ at.left) passes (Node node)
+    (match_leads units node lead place g small e)
+
+-- or it does not.
+pub none_on : (units text left : List ℕ) (t mid : TextUnits) (node lead place u : ℕ) (at : HasRead units text t node)
+    → units_left t ≡ u ∷ units_left mid → slice_get units node ≡ Some lead → lead < 0x8000 → place ≡ node_end (node + 1) lead
+    → PassesUnits units (u ∷ units_left mid) place (lead % 64) None left → NoneAbove units (text_units text) at.passed
+none_on units text left t mid node lead place u at next g small e passes =
+    none_above_match units (text_units text) at.passed node lead place at.steps g small e
+    (subst (λ w. PassesUnits units w place (lead % 64) None left) (sym next ∙ at.left) passes)
+
+-- Fewer units are left at the next node.
+pub fewer_left : (units text : List ℕ) (t s : TextUnits) (node n q : ℕ) (at : HasRead units text t node)
+    → LeadsToNode units (Node node) (drop at.passed (text_units text)) q n
+    → units_left s ≡ drop n (drop at.passed (text_units text)) → length (units_left s) < length (units_left t)
+fewer_left units text t s node n q at on left =
+    omega (arith, on.some, on.within, ap length left, length-drop n (drop at.passed (text_units text)), ap length at.left)
+
+abbrev pub read_on : (units text : List ℕ) (t s : TextUnits) (node n q : ℕ) (at : HasRead units text t node) → AreLast s t
+    → LeadsToNode units (Node node) (drop at.passed (text_units text)) q n
+    → units_left s ≡ drop n (drop at.passed (text_units text)) → HasRead units text s q
+read_on units text t s node n q at last on left = record {
+  front = (last_then (at.front, at.last) last).0;
+  passed = at.passed + n;
+  last = (last_then (at.front, at.last) last).1;
+  left = left ∙ drop-drop n at.passed (text_units text);
+  within = within_text units (text_units text) at.passed node n q at.within on;
+  steps = along_on units (text_units text) at.passed node n q at.steps on;
+}

@@ -1,5 +1,5 @@
 -- The number of entries of the nodes of a trie, counted from the last node to the root.
-use Rattle.std.specs.Prelude.{◌≡◌, ℕ, ◌+◌, ◌-◌, ◌%◌, ◌<◌, ◌≤◌, Bool, List, [], ◌∷◌, Some, ⊤, length, min, slice_get, slice_index}
+use Rattle.std.specs.Prelude.{◌≡◌, ℕ, ◌+◌, ◌%◌, ◌<◌, ◌≤◌, Bool, List, [], ◌∷◌, Some, ⊤, length, min, slice_get, slice_index}
 use Rattle.icu_char16trie.specs.Constants.{min_linear_match, min_value_lead, run_len, value_is_final}
 use Rattle.icu_char16trie.specs.Numbers.{node_end}
 use Rattle.icu_char16trie.specs.Grammar.{Arms, Holds, Part, branch_len, branch_start}

@@ -16,18 +16,17 @@ after_second (Some u) w = u ∷ w
 abbrev pub units_left : TextUnits → List ℕ
 units_left t = after_second t.second (text_units t.rest.now)
 
--- They are units of a text: its other characters are UTF-8, and a second unit of a character is a
--- trail surrogate.
+-- They are those of text in UTF-8, and the second unit of a character is a trail surrogate.
 pub record AreTextUnits (t : TextUnits) : Type 0 where
   pub utf8 : IsUtf8 t.rest.now
   pub second : IfSome t.second (λ u. IsInRange 0xDC00 0xDFFF u)
 
--- The whole characters that are left in t are the last ones of those in s.
+-- The whole characters that are left in t are the last of those that are left in s.
 abbrev pub AreLast : TextUnits → TextUnits → Type 0
 AreLast t s = (front : List ℕ) × (chars s.rest.now ≡ front ++ chars t.rest.now)
 
--- The longest match once the prefix of n bytes is looked up, if it does not end between the two
--- units of a character.
+-- The longest match once the prefix of n bytes is looked up, given the longest match before it. If
+-- the second unit of a character is still to be read, the prefix does not count.
 abbrev pub longer_after : Option ℕ → ℕ → Option ℤ → Option (ℕ × ℤ) → Option (ℕ × ℤ)
 longer_after None n v found = longer n v found
 longer_after (Some second) n v found = found

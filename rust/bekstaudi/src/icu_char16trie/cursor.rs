@@ -68,7 +68,8 @@ impl<'a> Char16TrieCursor<'a> {
     }
 
     /// Advances by the UTF-16 units of the code point `c`: one unit below 0x10000, surrogates
-    /// included, and two from there to 0x10FFFF. Above 0x10FFFF nothing matches.
+    /// included, and two from there to 0x10FFFF. Above 0x10FFFF nothing matches. If nothing matched
+    /// before, nothing matches now.
     #[inline(always)]
     pub fn step32(&mut self, c: u32) {
         if let Ok(unit) = u16::try_from(c) {

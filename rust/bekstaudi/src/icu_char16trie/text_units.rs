@@ -36,8 +36,8 @@ impl<'a> TextUnits<'a> {
         Some((0xD800 + supplementary / 0x400) as u16)
     }
 
-    /// Returns the match of what was read of `text` if that has a value and ends with a whole
-    /// character, and otherwise the earlier match. Its length is in bytes.
+    /// Returns the match of the units that were read of `text` if they are whole characters and have
+    /// a value, and otherwise the earlier match. Its length is in bytes.
     #[inline(always)]
     fn longer_match(
         &self,

@@ -1,5 +1,5 @@
 use Rattle.icu_zerovec.specs.Slice.{slice_values}
-use Rattle.std.proofs.Common.{◌+◌, [], ◌∷◌, ◌++◌, refl, sym, ap, ◌∙◌, arith, append_assoc, append-nil, slice_get}
+use Rattle.std.proofs.Common.{[], ◌∷◌, ◌++◌, refl, sym, ap, ◌∙◌, arith, append_assoc, append-nil, slice_get}
 use Rattle.icu_char16trie.specs.NextUnits.{cut, more, unit_list}
 use Rattle.icu_char16trie.proofs.NextUnitLemmas.{added_more, row_end}
 use Rattle.icu_char16trie.proofs.next_units.add_row.Goals as goal

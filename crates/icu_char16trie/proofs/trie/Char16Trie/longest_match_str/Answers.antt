@@ -1,26 +1,29 @@
 use Rattle.icu_zerovec.specs.Slice.{slice_values}
-use Rattle.std.proofs.Common.{◌≡◌, ℕ, ℤ, ◌+◌, ◌%◌, ◌∷◌, ◌∙◌, None, Some, List, Option, arith, ap, drop, length, length-drop, refl, subst, sym}
+use Rattle.std.proofs.Common.{◌≡◌, ℕ, ℤ, ◌+◌, ◌∙◌, List, Option, arith, ap, drop, refl, subst, sym}
 use Rattle.std.specs.Prelude.{IfSome, option_and_then}
 use Rattle.std.specs.Str.{IsCharBoundary, IsUtf8}
 use Rattle.icu_char16trie.specs.Grammar.{IsTrieOf}
 use Rattle.icu_char16trie.specs.Matches.{IsLongestInText, IsLongestSteppedInText, text_units}
 use Rattle.icu_char16trie.specs.UnitMap.{UnitMap}
 use Rattle.icu_char16trie.specs.UnitPlaces.{value_by}
-use Rattle.icu_char16trie.specs.Inside.Fronts.{LeadsToNode, PassesMatch}
+use Rattle.icu_char16trie.specs.Inside.Fronts.{LeadsToNode}
 use Rattle.icu_char16trie.specs.Inside.Texts.{units_left}
 use Rattle.icu_char16trie.specs.declared.place.Place.TheVariants.{Node}
 use Rattle.icu_char16trie.proofs.CharFronts.{ends_at_boundary}
-use Rattle.icu_char16trie.proofs.LongestLemmas.{NoneAbove, match_leads, none_above_final, none_above_match, none_above_missing}
-use Rattle.icu_char16trie.proofs.LongestTextLemmas.{IsFound, at_start, bytes_of, ends_in_text, looked_up, not_looked_up, reads_on}
+use Rattle.icu_char16trie.proofs.LongestLemmas.{NoneAbove, none_above_final, none_above_missing}
+use Rattle.icu_char16trie.proofs.LongestTextLemmas.{IsFound, bytes_of, ends_in_text, found_on, looked_up, none_found, not_looked_up}
 use Rattle.icu_char16trie.proofs.StandsLemmas.{stepped_is_longest_text}
-use Rattle.icu_char16trie.proofs.TextLemmas.{last_then, none_after}
+use Rattle.icu_char16trie.proofs.TextLemmas.{at_start, fewer_left, last_then, leads_on, none_after, none_on, read_on}
 use Rattle.icu_char16trie.proofs.trie.Char16Trie.longest_match_str.Goals as goal
 use Rattle.icu_char16trie.proofs.trie.Char16Trie.longest_match_str.Goals.{After-longer_match-found}
 
 pub loop-lead-init : goal.loop-lead-init
 loop-lead-init c =
-    let start = at_start (slice_values c.as_slice-units.result) c.args.text.now _ refl refl in
-    record { units = record { utf8 = c.utf8.text; second = tt }; at = start.0; longest = start.1 }
+    record {
+      units = record { utf8 = c.utf8.text; second = tt };
+      at = at_start (slice_values c.as_slice-units.result) c.args.text.now _ refl refl;
+      longest = none_found (slice_values c.as_slice-units.result) c.args.text.now;
+    }
 
 pub longer_match-found-requires : goal.longer_match-found-requires
 longer_match-found-requires c =
@@ -75,46 +78,39 @@ returns-in_default-pass_units c =
     let at = c.loop-lead.invariant.at in
     clauses (slice_values c.as_slice-units.result) c.args.self.now c.args.text.now at.passed c.longer_match-found.result
     (c.as_slice-units.ensures ∙ c.self.view_is) c.utf8.text
-    (none_above_match _ _ at.passed c.loop-lead.node c.in-Some.lead c.node_end-place.result at.steps (sym c.in-Some.ensures.unit)
-    c.if-lead-ge-VALUE_IS_FINAL.false c.node_end-place.ensures.end
-    (subst (λ w. PassesMatch (slice_values c.as_slice-units.result) w c.node_end-place.result (c.in-Some.lead % 64) None)
-    (sym c.in-Some-next_unit.ensures.unit ∙ at.left) c.in_default-pass_units.ensures.passes))
+    (none_on _ c.args.text.now (units_left c.pass_units.new.text) c.loop-lead.left c.next_unit.new.self c.loop-lead.node c.in-Some.lead c.node_end-place.result
+    c.in-Some-next_unit.unit at c.in-Some-next_unit.ensures.unit (sym c.in-Some.ensures.unit) c.if-lead-ge-VALUE_IS_FINAL.false
+    c.node_end-place.ensures.end c.in_default-pass_units.ensures.passes)
     (here (goal.at.returns-in_default-pass_units c).After-longer_match-found)
 
 -- The text continues to the next node.
-leads_on : (c : goal.In-Some-pass_units)
+next_node : (c : goal.In-Some-pass_units)
     → (n : ℕ) × LeadsToNode (slice_values c.as_slice-units.result) (Node c.loop-lead.node)
     (drop c.loop-lead.invariant.at.passed (text_units c.args.text.now)) c.in-Some-pass_units.next n
     × (units_left c.pass_units.new.text ≡ drop n (drop c.loop-lead.invariant.at.passed (text_units c.args.text.now)))
-leads_on c =
-    let left : c.in-Some-next_unit.unit ∷ units_left c.next_unit.new.self
-    ≡ drop c.loop-lead.invariant.at.passed (text_units c.args.text.now) =
-    sym c.in-Some-next_unit.ensures.unit ∙ c.loop-lead.invariant.at.left in
-    let passes = rw left at c.in-Some-pass_units.ensures.passes in
-    passes (Node c.loop-lead.node)
-    (match_leads (slice_values c.as_slice-units.result) c.loop-lead.node c.in-Some.lead c.node_end-place.result
-    (sym c.in-Some.ensures.unit) c.if-lead-ge-VALUE_IS_FINAL.false c.node_end-place.ensures.end)
+next_node c =
+    leads_on (slice_values c.as_slice-units.result) c.args.text.now c.loop-lead.left c.next_unit.new.self c.pass_units.new.text
+    c.loop-lead.node c.in-Some.lead c.node_end-place.result c.in-Some-next_unit.unit c.in-Some-pass_units.next c.loop-lead.invariant.at
+    c.in-Some-next_unit.ensures.unit (sym c.in-Some.ensures.unit) c.if-lead-ge-VALUE_IS_FINAL.false c.node_end-place.ensures.end
+    c.in-Some-pass_units.ensures.passes
 
 pub loop-lead-smaller : goal.loop-lead-smaller
 loop-lead-smaller c =
-    let on = leads_on c in
-    omega (
-      arith,
-      on.1.some,
-      on.1.within,
-      ap length on.2,
-      length-drop on.0 (drop c.loop-lead.invariant.at.passed (text_units c.args.text.now)),
-      ap length c.loop-lead.invariant.at.left,
-    )
+    let on = next_node c in
+    fewer_left (slice_values c.as_slice-units.result) c.args.text.now c.loop-lead.left c.pass_units.new.text c.loop-lead.node on.0
+    c.in-Some-pass_units.next c.loop-lead.invariant.at on.1 on.2
 
 pub loop-lead-preserved : goal.loop-lead-preserved
 loop-lead-preserved c =
-    let on = leads_on c in
-    let next = reads_on (slice_values c.as_slice-units.result) c.args.text.now c.loop-lead.left c.pass_units.new.text c.loop-lead.node
-    on.0 c.in-Some-pass_units.next c.longer_match-found.result c.loop-lead.invariant.at
-    (last_then c.in-Some-next_unit.ensures.last c.in-Some-pass_units.ensures.last) on.1 on.2
-    (here (goal.at.loop-lead-preserved c).After-longer_match-found) in
-    record { units = c.in-Some-pass_units.ensures.units; at = next.0; longest = next.1 }
+    let at = c.loop-lead.invariant.at in
+    let on = next_node c in
+    record {
+      units = c.in-Some-pass_units.ensures.units;
+      at = read_on (slice_values c.as_slice-units.result) c.args.text.now c.loop-lead.left c.pass_units.new.text c.loop-lead.node on.0
+          c.in-Some-pass_units.next at (last_then c.in-Some-next_unit.ensures.last c.in-Some-pass_units.ensures.last) on.1 on.2;
+      longest = found_on (slice_values c.as_slice-units.result) c.args.text.now c.loop-lead.left c.loop-lead.node on.0
+          c.in-Some-pass_units.next c.longer_match-found.result at on.1 (here (goal.at.loop-lead-preserved c).After-longer_match-found);
+    }
 
 pub returns : goal.returns
 returns c =

@@ -1,7 +1,8 @@
 use Rattle.icu_zerovec.specs.Slice.{slice_values}
 use Rattle.std.proofs.Common.{length}
 use Rattle.icu_char16trie.specs.Inside.Texts.{AreTextUnits, units_left}
-use Rattle.icu_char16trie.proofs.LongestTextLemmas.{HasRead, IsFound}
+use Rattle.icu_char16trie.proofs.LongestTextLemmas.{IsFound}
+use Rattle.icu_char16trie.proofs.TextLemmas.{HasRead}
 use Rattle.icu_char16trie.proofs.trie.Char16Trie.longest_match_str.Given as goal
 
 -- The node's value is not looked up yet.
