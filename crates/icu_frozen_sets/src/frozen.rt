@@ -44,7 +44,7 @@ pub struct FrozenCodePointSet {
     /// takes one load.
     ascii: [bool; 128],
     /// The bits of the code points below 0x800, which have at most two bytes in UTF-8: one word for
-    /// each lead byte.
+    /// each lead byte. Repeats the bits so that a look-up takes one load.
     two_bytes: [u64; 32],
     /// The offsets of the blocks, and then the words of the blocks.
     words: Vec<u64>,
@@ -147,6 +147,9 @@ impl FrozenCodePointSet {
         ensures held { result ≡ holds self.now c }
         ensures far { code_point_limit ≤ c → result ≡ false }
     {
+        if c < 0x800 {
+            return self.contains_short(c / 64, c % 64);
+        }
         contains_by(&self.words, self.last, c)
     }
 

@@ -36,7 +36,7 @@ pub struct FrozenCodePointSet {
     /// takes one load.
     ascii: [bool; 128],
     /// The bits of the code points below 0x800, which have at most two bytes in UTF-8: one word for
-    /// each lead byte.
+    /// each lead byte. Repeats the bits so that a look-up takes one load.
     two_bytes: [u64; 32],
     /// The offsets of the blocks, and then the words of the blocks.
     words: Vec<u64>,
@@ -123,6 +123,9 @@ impl FrozenCodePointSet {
     #[inline(always)]
     #[must_use]
     pub fn contains32(&self, c: u32) -> bool {
+        if c < 0x800 {
+            return self.contains_short(c / 64, c % 64);
+        }
         contains_by(&self.words, self.last, c)
     }
 
