@@ -1,14 +1,14 @@
 -- Setting blocks of the words of a frozen set.
-use Rattle.std.proofs.Common.{◌≡◌, ◌∙◌, ℕ, ◌+◌, ◌-◌, ◌*◌, ◌/◌, ◌%◌, ◌^◌, ◌<◌, ◌≤◌, List, ◌++◌, length, get_or, set, min, refl, ap, sym, arith, Bool, true, false, cond, inl, inr}
+use Rattle.std.proofs.Common.{◌≡◌, ◌∙◌, ℕ, ◌+◌, ◌-◌, ◌*◌, ◌/◌, ◌%◌, ◌^◌, ◌<◌, ◌≤◌, List, ◌++◌, length, take, drop, get_or, set, replicate, min, refl, ap, sym, arith, Bool, true, false, cond, inl, inr}
 use Rattle.std.specs.Int.{bit_at}
 use Rattle.std.specs.Prelude.{nat_eq, ◌||◌}
 use Rattle.std.proofs.lemmas.Bool.{cases_eq, cases_lt, cond-false, cond-true}
 use Rattle.std.proofs.lemmas.Grind.{get_or-set_at}
-use Rattle.std.proofs.lemmas.List.{length-append, length-set, get_or_append_left, get_or-append_right, get_or-set_other}
+use Rattle.std.proofs.lemmas.List.{length-append, length-drop, length-replicate, length-set, length-take-le, get_or_append_left, get_or-append_right, get_or-drop, get_or-set_other, get_or-take, take_all}
 use Rattle.std.proofs.lemmas.Nat.Bits.{bit_at_ones, bit_at-zero}
 use Rattle.icu_invlist.specs.InversionList.{between}
 use Rattle.icu_frozen_sets.specs.FrozenWords.{bit_in, offset_at, offset_words, place_in}
-use Rattle.icu_frozen_sets.specs.Inside.Filling.{AreTables, HasOffset, IsFilling, SetsBlock, block_bit}
+use Rattle.icu_frozen_sets.specs.Inside.Filling.{AreTables, HasOffset, IsFilling, SetsBlock}
 use Rattle.icu_frozen_sets.proofs.BitLemmas.{between_after, between_before, between_in, between_more, or_false, or_true}
 use Rattle.icu_frozen_sets.proofs.PlaceLemmas.{place_inside, place_of_first, same_place}
 
@@ -127,35 +127,34 @@ sets_full t new at f some there put =
     (omega arith) (omega (arith, m)) (λ c. true)
     (λ c q. bit_of_uniform true _ (c % 64) (a.all (c / 64 % 16) (omega arith)) (omega arith))
 
--- A block gets sixteen words of its own.
-pub sets_own : (t mid new block : List ℕ) (at : ℕ) → IsFilling t at → 0 < at → at < 1088 → length block ≡ 16
-    → mid ≡ t ++ block → new ≡ set mid at (length t) → SetsBlock t new at (block_bit block)
-sets_own t mid new block at f some there many grown put =
+-- A block gets sixteen words of its own, which are appended as zeros and then written.
+pub sets_own : (t longer mid new : List ℕ) (bits : ℕ → Bool) (at place n len : ℕ) → IsFilling t at → 0 < at → at < 1088
+    → length t ≡ len → place ≡ len → n ≡ place + 16 → longer ≡ take n t ++ replicate (n - len) 0 → length mid ≡ length longer
+    → ((k : ℕ) → k < place → get_or mid k 0 ≡ get_or longer k 0)
+    → ((c : ℕ) → nat_eq (bit_at (get_or mid (place + c / 64 % 16) 0) (c % 64)) 1 ≡ bits c)
+    → new ≡ set mid at place → SetsBlock t new at bits
+sets_own t longer mid new bits at place n len f some there count is size grown as_long kept written put =
     let a = f.tables in
     let m = a.least in
     let r = f.few in
-    let place : ℕ = length t in
-    let is : place ≡ length t = refl in
-    let long : length mid ≡ length t + 16 = ap (λ (l : List ℕ). length l) grown ∙ length-append t block ∙ omega (arith, many) in
+    let zeros : List ℕ = replicate (n - len) 0 in
+    let more : longer ≡ t ++ zeros = grown ∙ ap (λ (l : List ℕ). l ++ zeros) (take_all n t (omega (arith, count, is, size))) in
+    let long : length mid ≡ length t + 16 = as_long ∙ (ap (λ (l : List ℕ). length l) more
+    ∙ (length-append t zeros ∙ (let z = length-replicate {A = ℕ} (n - len) 0 in omega (arith, z, count, is, size)))) in
     sets_block t mid new at place a some there f.own (omega (arith, long)) (omega (arith, long)) (omega (arith, long, r, there, some))
-    (λ k h. ap (λ (l : List ℕ). get_or l k 0) grown ∙ get_or_append_left t block 0 k h) put (omega (arith, is, m)) (omega (arith, long, is))
-    (block_bit block)
-    (λ c q.
-    let j : ℕ = place + c / 64 % 16 in
-    let less : j - length t ≡ c / 64 % 16 = omega (arith, is) in
-    ap (λ (w : ℕ). nat_eq (bit_at w (c % 64)) 1) (ap (λ (l : List ℕ). get_or l j 0) grown
-    ∙ (get_or-append_right t block (length t) j 0 refl (omega (arith, is)) ∙ ap (λ (k : ℕ). get_or block k 0) less)))
+    (λ k h. kept k (omega (arith, h, count, is)) ∙ (ap (λ (l : List ℕ). get_or l k 0) more ∙ get_or_append_left t zeros 0 k h)) put
+    (omega (arith, count, is, m)) (omega (arith, long, count, is)) bits (λ c q. written c)
 
--- A block of equal words.
-pub uniform_block : (t new : List ℕ) (block : List ℕ) (at : ℕ) (value : Bool) → SetsBlock t new at (λ c. value)
-    → ((k : ℕ) → k < 16 → get_or block k 0 ≡ cond value (2 ^ 64 - 1) 0) → SetsBlock t new at (block_bit block)
-uniform_block t new block at value s all = record {
+-- A block of equal bits.
+pub uniform_block : (t new : List ℕ) (bits : ℕ → Bool) (at : ℕ) (value : Bool) → SetsBlock t new at (λ c. value)
+    → ((c : ℕ) → bits c ≡ value) → SetsBlock t new at bits
+uniform_block t new bits at value s all = record {
   tables = s.tables;
   offsets = s.offsets;
   few = s.few;
   others = s.others;
   kept = s.kept;
-  set = λ c q. s.set c q ∙ sym (bit_of_uniform value _ (c % 64) (all (c / 64 % 16) (omega arith)) (omega arith));
+  set = λ c q. s.set c q ∙ sym (all c);
 }
 
 -- A block that is empty stays so.
@@ -169,9 +168,48 @@ sets_empty t at f some there = record {
   set = λ c q. empty_block t c f.tables (ap (λ (n : ℕ). place_in t n) q ∙ f.empty at some (omega arith) there);
 }
 
+-- Sixteen words among others are replaced.
+module _ (t out : List ℕ) (at n : ℕ) (there : at + 16 ≤ length t) (len : length out ≡ 16) (size : n ≡ 16) where
+  abbrev back : List ℕ
+  back = drop n (drop at t)
+
+  abbrev pub replaced : List ℕ
+  replaced = take at t ++ (out ++ back)
+
+  front_long : length (take at t) ≡ at
+  front_long = length-take-le at t (omega (arith, there))
+
+  pub replaced_long : length replaced ≡ length t
+  replaced_long =
+      let front = front_long in
+      let past = length-drop at t in
+      let last = length-drop n (drop at t) in
+      let rest = length-append out back in
+      length-append (take at t) (out ++ back) ∙ omega (arith, front, past, last, rest, len, there, size)
+
+  pub replaced_before : (k : ℕ) → k < at → get_or replaced k 0 ≡ get_or t k 0
+  replaced_before k h =
+      let front = front_long in
+      get_or_append_left (take at t) (out ++ back) 0 k (omega (arith, front, h)) ∙ get_or-take at t k 0 h
+
+  behind : (k : ℕ) → get_or replaced (at + k) 0 ≡ get_or (out ++ back) k 0
+  behind k = get_or-append_right (take at t) (out ++ back) at (at + k) 0 front_long (omega arith)
+      ∙ ap (λ (i : ℕ). get_or (out ++ back) i 0) (omega arith)
+
+  pub replaced_in : (k : ℕ) → k < 16 → get_or replaced (at + k) 0 ≡ get_or out k 0
+  replaced_in k h = behind k ∙ get_or_append_left out back 0 k (omega (arith, len, h))
+
+  pub replaced_after : (k : ℕ) → at + 16 ≤ k → get_or replaced k 0 ≡ get_or t k 0
+  replaced_after k h =
+      let far : at + (k - at) ≡ k = omega (arith, h) in
+      ap (λ (i : ℕ). get_or replaced i 0) (sym far) ∙ (behind (k - at)
+      ∙ (get_or-append_right out back 16 (k - at) 0 len (omega (arith, h))
+      ∙ (get_or-drop n (drop at t) (k - at - 16) 0
+      ∙ (get_or-drop at t (n + (k - at - 16)) 0 ∙ ap (λ (i : ℕ). get_or t i 0) (omega (arith, h, size))))))
+
 -- The words of the block of U+0000 are written.
-module _ (t new block : List ℕ) (f : IsFilling t 0) (len : length new ≡ length t)
-    (written : (k : ℕ) → k < 16 → get_or new (offset_words t + k) 0 ≡ get_or block k 0)
+module _ (t new : List ℕ) (bits : ℕ → Bool) (f : IsFilling t 0) (len : length new ≡ length t)
+    (written : (c : ℕ) → nat_eq (bit_at (get_or new (offset_words t + c / 64 % 16) 0) (c % 64)) 1 ≡ bits c)
     (before : (k : ℕ) → k < offset_words t → get_or new k 0 ≡ get_or t k 0)
     (after : (k : ℕ) → offset_words t + 16 ≤ k → get_or new k 0 ≡ get_or t k 0) where
   first_as_many : offset_words new ≡ offset_words t
@@ -183,7 +221,7 @@ module _ (t new block : List ℕ) (f : IsFilling t 0) (len : length new ≡ leng
       let k : ℕ = min b (offset_words t - 1) in
       same_place t new b first_as_many (ap (λ (w : ℕ). w % 2 ^ 32) (before k (omega (arith, s))))
 
-  pub sets_first : SetsBlock t new 0 (block_bit block)
+  pub sets_first : SetsBlock t new 0 bits
   sets_first =
       let a = f.tables in
       let s = a.some in
@@ -209,7 +247,7 @@ module _ (t new block : List ℕ) (f : IsFilling t 0) (len : length new ≡ leng
             ∙ (ap (λ (x : ℕ). nat_eq (bit_at x (c % 64)) 1) (after (offset_words t + 16 + c / 64 % 16) (omega arith))
             ∙ sym (bit_by_place t c (offset_words t + 16) e));
         set = λ c q. bit_by_place new c (offset_words t) (first_place (c / 1024) ∙ (ap (λ (b : ℕ). place_in t b) q ∙ place_of_first t))
-            ∙ ap (λ (x : ℕ). nat_eq (bit_at x (c % 64)) 1) (written (c / 64 % 16) (omega arith));
+            ∙ written c;
       }
 
 -- No word of a run is written.

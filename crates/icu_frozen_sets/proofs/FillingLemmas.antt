@@ -5,7 +5,7 @@ use Rattle.std.proofs.lemmas.Bool.{cases_eq, cases_lt, eq-eqb, ne_eqb}
 use Rattle.icu_zerovec.specs.CodePoints.{code_point_limit}
 use Rattle.icu_invlist.specs.InversionList.{between}
 use Rattle.icu_frozen_sets.specs.FrozenWords.{bit_in}
-use Rattle.icu_frozen_sets.specs.Inside.Filling.{IsFilledBelow, IsFilling, SetsBlock, block_bit, filled, is_odd_at}
+use Rattle.icu_frozen_sets.specs.Inside.Filling.{IsFilledBelow, IsFilling, SetsBlock, filled, is_odd_at}
 use Rattle.icu_frozen_sets.proofs.BitLemmas.{between_after, between_before, between_in, between_more, or_false, or_true}
 use Rattle.icu_frozen_sets.proofs.BlockLemmas.{empty_block}
 
@@ -36,15 +36,14 @@ below_later t block at next later b l =
     record { here = omega (arith, here, l); none = λ c m h. b.none c (omega (arith, l, m)) h }
 
 -- ---- the current block is written, and an empty one begins
-pub moved_same : (t new block words empty : List ℕ) (at next : ℕ) → IsFilling t at → at < next
-    → SetsBlock t new at (block_bit words) → ((c : ℕ) → block_bit words c ≡ is_odd_at block c)
-    → ((c : ℕ) → is_odd_at empty c ≡ false)
+pub moved_same : (t new block empty : List ℕ) (at next : ℕ) → IsFilling t at → at < next
+    → SetsBlock t new at (is_odd_at block) → ((c : ℕ) → is_odd_at empty c ≡ false)
     → (c : ℕ) → c < code_point_limit → filled new empty next c ≡ filled t block at c
-moved_same t new block words empty at next f order s alike none c h = elim (cases_eq (c / 1024) next) [
+moved_same t new block empty at next f order s none c h = elim (cases_eq (c / 1024) next) [
   | inl q ↦ filled_here new empty next c q ∙ (none c ∙ sym (filled_else t block at c (λ p. omega (arith, order, p, q))
       ∙ empty_block t c f.tables (f.empty (c / 1024) (omega (arith, q, order)) (omega (arith, q, order)) (omega (arith, h)))))
   | inr n ↦ filled_else new empty next c n ∙ elim (cases_eq (c / 1024) at) [
-    | inl q ↦ s.set c q ∙ (alike c ∙ sym (filled_here t block at c q))
+    | inl q ↦ s.set c q ∙ sym (filled_here t block at c q)
     | inr m ↦ s.kept c m h ∙ sym (filled_else t block at c m)
   ]
 ]

@@ -1,12 +1,12 @@
 -- The bits of a block by the parity of the boundaries before them.
-use Rattle.std.proofs.Common.{◌≡◌, ◌∙◌, ℕ, ◌+◌, ◌-◌, ◌*◌, ◌/◌, ◌%◌, ◌^◌, ◌<◌, ◌≤◌, List, length, get_or, set, replicate, refl, ap, sym, add-one, arith, zero, suc, false, not, bit_xor, inl, inr}
+use Rattle.std.proofs.Common.{◌≡◌, ◌∙◌, ℕ, ◌+◌, ◌-◌, ◌*◌, ◌/◌, ◌%◌, ◌^◌, ◌<◌, ◌≤◌, List, length, get_or, set, replicate, refl, ap, sym, add-one, arith, zero, suc, Bool, true, false, not, bit_xor, inl, inr}
 use Rattle.std.specs.Int.{bit_at}
 use Rattle.std.specs.Prelude.{nat_eq}
 use Rattle.std.proofs.lemmas.Bool.{cases_eq, cases_lt, eq-eqb, ne_eqb}
 use Rattle.std.proofs.lemmas.Grind.{get_or-set_at}
 use Rattle.std.proofs.lemmas.List.{get_or_past, get_or-replicate, get_or-set_other, length-set}
-use Rattle.std.proofs.lemmas.Nat.Bits.{bit_at-lt, bit_at_mask_below, bit_at_mask_inside, bit_at_ones, bit_at_xor, bit_at-zero}
-use Rattle.icu_frozen_sets.specs.Inside.Filling.{block_bit, is_odd_at, last_bits}
+use Rattle.std.proofs.lemmas.Nat.Bits.{bit_at-lt, bit_at_mask_below, bit_at_mask_inside, bit_at_ones, bit_at_xor, bit_at-zero, same_from_bits_below}
+use Rattle.icu_frozen_sets.specs.Inside.Filling.{IsOnly, block_bit, is_odd_at, last_bits}
 
 -- ---- parity
 -- One more changes the parity.
@@ -163,3 +163,89 @@ unfolding is_odd_at
 all_flipped block bits flip k h all c =
     ap (λ (n : ℕ). nat_eq n 1) (ap (λ (w : ℕ). bit_at w (c % 64)) (all.words (c / 64 % 16) (omega (arith, h)))
     ∙ flipped_bit (get_or block (c / 64 % 16) 0) (last_bits block (c / 64 % 16)) (c % 64) (omega arith))
+
+-- ---- a block whose bits are all the same
+no_last : (marks : List ℕ) → last_bits marks 0 ≡ 0
+unfolding last_bits
+no_last marks = refl
+
+module _ (marks : List ℕ) (p : ℕ) (small : p < 2) (only : IsOnly marks (p * (2 ^ 64 - 1))) where
+  only_last : (w : ℕ) → 0 < w → w ≤ 16 → last_bits marks w ≡ p
+  unfolding last_bits
+  only_last zero l h = absurd (omega (arith, l))
+  only_last (suc w) l h = elim (cases_eq w 0) [
+    | inl q ↦ (let none : last_bits marks w ≡ 0 = ap (λ (i : ℕ). last_bits marks i) q ∙ no_last marks in
+        let bit : bit_at (get_or marks w 0) 63 ≡ p = ap (λ (i : ℕ). bit_at (get_or marks i 0) 63) q
+        ∙ (ap (λ (n : ℕ). bit_at n 63) only.first ∙ bit_of_flip p 63 small (omega arith)) in
+        omega (arith, none, bit))
+    | inr n ↦ (let rest : last_bits marks w ≡ p = only_last w (omega (arith, n)) (omega (arith, h)) in
+        let bit : bit_at (get_or marks w 0) 63 ≡ 0 = ap (λ (n : ℕ). bit_at n 63) (only.none w (omega (arith, n)) (omega (arith, h)))
+        ∙ bit_at-zero 63 in
+        omega (arith, rest, bit))
+  ]
+
+  only_parity : (k j : ℕ) → k < 16 → j < 64 → (bit_at (get_or marks k 0) j + last_bits marks k) % 2 ≡ p
+  only_parity k j h l = elim (cases_eq k 0) [
+    | inl q ↦ (let none : last_bits marks k ≡ 0 = ap (λ (i : ℕ). last_bits marks i) q ∙ no_last marks in
+        let bit : bit_at (get_or marks k 0) j ≡ p = ap (λ (i : ℕ). bit_at (get_or marks i 0) j) q
+        ∙ (ap (λ (n : ℕ). bit_at n j) only.first ∙ bit_of_flip p j small l) in
+        omega (arith, none, bit, small))
+    | inr n ↦ (let rest : last_bits marks k ≡ p = only_last k (omega (arith, n)) (omega (arith, h)) in
+        let bit : bit_at (get_or marks k 0) j ≡ 0 = ap (λ (n : ℕ). bit_at n j) (only.none k (omega (arith, n)) h) ∙ bit_at-zero j in
+        omega (arith, rest, bit, small))
+  ]
+
+  pub only_odd : (c : ℕ) → is_odd_at marks c ≡ nat_eq p 1
+  unfolding is_odd_at
+  only_odd c = ap (λ (n : ℕ). nat_eq n 1) (only_parity (c / 64 % 16) (c % 64) (omega arith) (omega arith))
+
+same_parity : (n p : ℕ) → n < 2 → p < 2 → nat_eq n 1 ≡ nat_eq p 1 → n ≡ p
+same_parity n p l s e = elim (cases_eq n 1) [
+  | inl q ↦ elim (cases_eq p 1) [
+    | inl r ↦ omega (arith, q, r)
+    | inr r ↦ absurd (let a : true ≡ false = sym (eq-eqb n 1 q) ∙ (e ∙ ne_eqb p 1 r) in cc)
+  ]
+  | inr q ↦ elim (cases_eq p 1) [
+    | inl r ↦ absurd (let a : true ≡ false = sym (eq-eqb p 1 r) ∙ (sym e ∙ ne_eqb n 1 q) in cc)
+    | inr r ↦ omega (arith, l, s, q, r)
+  ]
+]
+
+module _ (marks : List ℕ) (p : ℕ) (small : p < 2) (all : (c : ℕ) → is_odd_at marks c ≡ nat_eq p 1) where
+  parity_at : (c : ℕ) → (bit_at (get_or marks (c / 64 % 16) 0) (c % 64) + last_bits marks (c / 64 % 16)) % 2 ≡ p
+  unfolding is_odd_at
+  parity_at c = same_parity _ p (omega arith) small (all c)
+
+  parity_in : (k j : ℕ) → k < 16 → j < 64 → (bit_at (get_or marks k 0) j + last_bits marks k) % 2 ≡ p
+  parity_in k j h l =
+      let word : (64 * k + j) / 64 % 16 ≡ k = omega (arith, h, l) in
+      let bit : (64 * k + j) % 64 ≡ j = omega (arith, l) in
+      sym (ap (λ (i : ℕ). (bit_at (get_or marks i 0) ((64 * k + j) % 64) + last_bits marks i) % 2) word
+      ∙ ap (λ (i : ℕ). (bit_at (get_or marks k 0) i + last_bits marks k) % 2) bit) ∙ parity_at (64 * k + j)
+
+  last_parity : (k : ℕ) → 0 < k → k < 16 → last_bits marks k % 2 ≡ p
+  unfolding last_bits
+  last_parity zero l h = absurd (omega (arith, l))
+  last_parity (suc k) l h = let o = parity_in k 63 (omega (arith, h)) (omega arith) in omega (arith, o)
+
+  pub only_if_odd : ((k : ℕ) → get_or marks k 0 < 2 ^ 64) → IsOnly marks (p * (2 ^ 64 - 1))
+  only_if_odd fits = record {
+    first = same_from_bits_below 64 (get_or marks 0 0) (p * (2 ^ 64 - 1)) (fits 0) (omega (arith, small)) (λ i l.
+        let o = parity_in 0 i (omega arith) l in
+        let b = bit_at-lt (get_or marks 0 0) i in
+        let z = no_last marks in
+        let flip = bit_of_flip p i small l in
+        omega (arith, o, b, z, flip, small));
+    none = λ k m h. same_from_bits_below 64 (get_or marks k 0) 0 (fits k) (omega arith) (λ i l.
+        let o = parity_in k i h l in
+        let b = bit_at-lt (get_or marks k 0) i in
+        let last = last_parity k m h in
+        let zero_bit = bit_at-zero i in
+        omega (arith, o, b, last, zero_bit));
+  }
+
+-- A block that has other marks than an empty one and a full one has two different bits.
+pub never_same : (marks : List ℕ) (value none all : Bool) → ((k : ℕ) → get_or marks k 0 < 2 ^ 64) → none ≡ false → all ≡ false
+    → (IsOnly marks 0 → none ≡ true) → (IsOnly marks (2 ^ 64 - 1) → all ≡ true) → ((c : ℕ) → is_odd_at marks c ≡ value) → ⊥
+never_same marks true none all fits n a f g u = let e = g (only_if_odd marks 1 (omega arith) u fits) in cc
+never_same marks false none all fits n a f g u = let e = f (only_if_odd marks 0 (omega arith) u fits) in cc

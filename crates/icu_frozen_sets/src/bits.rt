@@ -1,9 +1,10 @@
 //! Writing the words of a frozen set: the offset of each block, and the words of each.
-ghost use Rattle.std.specs.Prelude.{◌≡◌, ◌≢◌, ℕ, ◌+◌, ◌-◌, ◌/◌, ◌<◌, ◌≤◌, ◌↔◌, ◌||◌, Bool, true, length, slice_index, min, IfOk, OnOk, IsTrue, if◌then◌else◌};
+ghost use Rattle.std.specs.Prelude.{◌≡◌, ◌≢◌, ℕ, ◌+◌, ◌-◌, ◌/◌, ◌%◌, ◌<◌, ◌≤◌, ◌↔◌, ◌||◌, ◌==◌, Bool, true, length, slice_index, min, IfOk, OnOk, IsTrue, if◌then◌else◌};
+ghost use Rattle.std.specs.Int.{bit_at};
 ghost use Rattle.icu_zerovec.specs.CodePoints.{code_point_limit};
 ghost use Rattle.icu_invlist.specs.InversionList.{between};
 ghost use Rattle.icu_frozen_sets.specs.FrozenWords.{bit_in, offset_words, place_in};
-ghost use Rattle.icu_frozen_sets.specs.Inside.Filling.{AreTables, HasOffset, IsFilling, IsUniform, SetsBlock, bit_among, block_bit};
+ghost use Rattle.icu_frozen_sets.specs.Inside.Filling.{AreTables, HasOffset, IsFilling, IsOnly, SetsBlock, bit_among, block_bit, is_odd_at};
 
 use crate::view::{FULL_BLOCK, offset_count};
 use icu_zerovec::{CODE_POINT_LIMIT, MemoryError};
@@ -42,11 +43,22 @@ impl Model for FrozenWords {
     ghost view = { λ a. a.words.items };
 }
 
-/// Returns true if all words of the block equal `word`.
-fn is_all(block: &[u64; 16], word: u64) -> bool
-    ensures { IsTrue result ↔ ((k : ℕ) → k < 16 → slice_index block.now k ≡ word) }
+/// Returns true if all words equal `word`.
+fn is_all(words: &[u64], word: u64) -> bool
+    ensures { IsTrue result ↔ ((k : ℕ) → k < length words.now → slice_index words.now k ≡ word) }
 {
-    block.iter().all(|own| *own == word)
+    words.iter().all(|own| *own == word)
+}
+
+/// Returns true if the first word of the marks is `first` and all others are 0.
+#[inline(always)]
+fn is_only(marks: &[u64; 16], first: u64) -> bool
+    ensures { IsTrue result ↔ IsOnly marks.now first }
+{
+    if marks[0] != first {
+        return false;
+    }
+    is_all(&marks[1..], 0)
 }
 
 /// Returns the number of offsets of a set. `last` is its last boundary that is not the end of the code
@@ -73,17 +85,33 @@ fn fill(words: &mut [u64], from: usize, to: usize, word: u64)
     }
 }
 
-/// Writes the words of a block from index `at` on.
-fn put_block(words: &mut [u64], at: usize, block: &[u64; 16])
+/// Writes the bits of a block. A word is flipped if an odd number of boundaries is before it.
+#[inline(always)]
+fn write_bits(out: &mut [u64], marks: &[u64; 16])
+    requires { length out.old ≡ 16 }
+    ensures len { length out.new ≡ 16 }
+    ensures bits { (c : ℕ) → block_bit out.new c ≡ is_odd_at marks.now c }
+{
+    let mut flip = 0;
+    for k in 0..16 {
+        let word = marks[k] ^ flip;
+        out[k] = word;
+        // All bits of the next word flip if the last bit of this one is 1.
+        flip = (word >> 63).wrapping_neg();
+    }
+}
+
+/// Writes the bits of a block from index `at` on.
+#[inline(always)]
+fn write_block(words: &mut [u64], at: usize, marks: &[u64; 16])
     requires there { at + 16 ≤ length words.old }
     ensures len { length words.new ≡ length words.old }
-    ensures set { (k : ℕ) → k < 16 → slice_index words.new (at + k) ≡ slice_index block.now k }
+    ensures set { (c : ℕ) → (bit_at (slice_index words.new (at + c / 64 % 16)) (c % 64) == 1)
+        ≡ is_odd_at marks.now c }
     ensures before { (k : ℕ) → k < at → slice_index words.new k ≡ slice_index words.old k }
     ensures after { (k : ℕ) → at + 16 ≤ k → slice_index words.new k ≡ slice_index words.old k }
 {
-    for k in 0..16 {
-        words[at + k] = block[k];
-    }
+    write_bits(&mut words[at..at + BLOCK_WORDS], marks);
 }
 
 impl FrozenWords {
@@ -134,53 +162,55 @@ impl FrozenWords {
 
     /// Gives block `at` sixteen words of its own. It is empty before.
     #[inline(always)]
-    fn set_own(&mut self, at: usize, block: &[u64; 16]) -> Result<(), MemoryError>
+    fn set_own(&mut self, at: usize, marks: &[u64; 16]) -> Result<(), MemoryError>
         requires filling { IsFilling self.old at }
         requires some { 0 < at }
         requires there { at < BLOCKS }
-        ensures { OnOk result (SetsBlock self.old self.new at (block_bit block.now)) }
+        ensures { OnOk result (SetsBlock self.old self.new at (is_odd_at marks.now)) }
     {
         let place = self.words.len();
-        self.words.extend_from_slice(block)?;
+        self.words.resize(place + BLOCK_WORDS, 0)?;
+        write_block(&mut self.words, place, marks);
         self.words[at] = place as u64;
         Ok(())
     }
 
     /// Sets the words of the block of U+0000.
-    fn set_first(&mut self, block: &[u64; 16])
+    fn set_first(&mut self, marks: &[u64; 16])
         requires { IsFilling self.old 0 }
-        ensures sets { SetsBlock self.old self.new 0 (block_bit block.now) }
+        ensures sets { SetsBlock self.old self.new 0 (is_odd_at marks.now) }
         ensures len { length self.new ≡ length self.old }
     {
         let first = offset_count(&self.words);
-        put_block(&mut self.words, first, block);
+        write_block(&mut self.words, first, marks);
     }
 
-    /// Sets the words of block `at`, which is empty before. An empty or full block shares its words
+    /// Sets the words of block `at`, which is empty before. In `marks`, each boundary in the block
+    /// has flipped the bits of its own word. A block whose bits are all 0 or all 1 shares its words
     /// with the others of its kind, unless it is the block of U+0000.
     ///
     /// # Errors
     /// Returns `MemoryError` if an allocation fails. The words must not be used after that.
     #[inline(always)]
-    pub(crate) fn set_block(&mut self, at: usize, block: &[u64; 16]) -> Result<(), MemoryError>
+    pub(crate) fn set_block(&mut self, at: usize, marks: &[u64; 16]) -> Result<(), MemoryError>
         requires filling { IsFilling self.old at }
         requires there { at < BLOCKS }
-        ensures sets { OnOk result (SetsBlock self.old self.new at (block_bit block.now)) }
-        ensures shared { OnOk result ((value : Bool) → IsUniform block.now value
+        ensures sets { OnOk result (SetsBlock self.old self.new at (is_odd_at marks.now)) }
+        ensures shared { OnOk result ((value : Bool) → ((c : ℕ) → is_odd_at marks.now c ≡ value)
             → length self.new ≡ length self.old) }
     {
         if at == 0 {
-            self.set_first(block);
+            self.set_first(marks);
             return Ok(());
         }
-        if is_all(block, 0) {
+        if is_only(marks, 0) {
             return Ok(());
         }
-        if is_all(block, ONES) {
+        if is_only(marks, ONES) {
             self.set_full(at);
             return Ok(());
         }
-        self.set_own(at, block)
+        self.set_own(at, marks)
     }
 
     /// Makes the blocks from `from` to before `to` full. They are empty before. If `to` is the end of

@@ -3,7 +3,7 @@ ghost use Rattle.std.specs.Prelude.{◌≡◌, ℕ, ◌+◌, ◌*◌, ◌/◌, �
 ghost use Rattle.icu_zerovec.specs.CodePoints.{code_point_limit};
 ghost use Rattle.icu_invlist.specs.InversionList.{between};
 ghost use Rattle.icu_frozen_sets.specs.FrozenWords.{bit_in, offset_words, place_in};
-ghost use Rattle.icu_frozen_sets.specs.Inside.Filling.{AreTables, HasOffset, IsFilledBelow, IsFilling, block_bit, filled, is_odd_at};
+ghost use Rattle.icu_frozen_sets.specs.Inside.Filling.{AreTables, HasOffset, IsFilledBelow, IsFilling, filled, is_odd_at};
 
 use crate::bits::{BLOCKS, FrozenWords, offsets_for};
 use icu_zerovec::MemoryError;
@@ -33,22 +33,6 @@ fn flip_from(block: &mut [u64; 16], c: u32)
         → is_odd_at block.new d ≡ not (is_odd_at block.old d) }
 {
     block[(c / 64 % 16) as usize] ^= u64::MAX << (c % 64);
-}
-
-/// Returns the bits of a block: a word is flipped if an odd number of boundaries is before it.
-#[inline(always)]
-fn bits_of(block: &[u64; 16]) -> [u64; 16]
-    ensures { (c : ℕ) → block_bit result c ≡ is_odd_at block.now c }
-{
-    let mut bits = [0; 16];
-    let mut flip = 0;
-    for k in 0..16 {
-        let word = block[k] ^ flip;
-        bits[k] = word;
-        // All bits of the next word flip if the last bit of this one is 1.
-        flip = (word >> 63).wrapping_neg();
-    }
-    bits
 }
 
 impl Filling {
@@ -88,8 +72,7 @@ impl Filling {
             → filled self.new.bits self.new.block at c
             ≡ filled self.old.bits self.old.block self.old.at c) }
     {
-        let bits = bits_of(&self.block);
-        self.bits.set_block(self.at as usize, &bits)?;
+        self.bits.set_block(self.at as usize, &self.block)?;
         self.block = [0; 16];
         self.at = at;
         Ok(())

@@ -14,10 +14,10 @@ block_bit block c = bit_at (slice_index block (c / 64 % 16)) (c % 64) == 1
 abbrev pub bit_among : List ℕ → ℕ → Bool
 bit_among words c = bit_at (slice_index words (c / 64)) (c % 64) == 1
 
--- The block is full if `value` is true, and empty otherwise.
-abbrev pub IsUniform : List ℕ → Bool → Type 0
-IsUniform block value =
-    (k : ℕ) → k < 16 → slice_index block k ≡ (if value then 2 ^ 64 - 1 else 0)
+-- The first of sixteen words is `word`, and all others are 0.
+pub record IsOnly (words : List ℕ) (word : ℕ) : Type 0 where
+  pub first : slice_index words 0 ≡ word
+  pub none : (k : ℕ) → 0 < k → k < 16 → slice_index words k ≡ 0
 
 -- The offsets are followed by the words of the block of U+0000, of the empty block and of the full block.
 -- The sixteen words of each block are there. There are at most sixteen words for each block, and 32 more.

@@ -28,10 +28,19 @@ pub(crate) struct FrozenWords {
     words: Vec<u64>,
 }
 
-/// Returns true if all words of the block equal `word`.
+/// Returns true if all words equal `word`.
 #[inline]
-fn is_all(block: &[u64; 16], word: u64) -> bool {
-    block.iter().all(|own| *own == word)
+fn is_all(words: &[u64], word: u64) -> bool {
+    words.iter().all(|own| *own == word)
+}
+
+/// Returns true if the first word of the marks is `first` and all others are 0.
+#[inline(always)]
+fn is_only(marks: &[u64; 16], first: u64) -> bool {
+    if marks[0] != first {
+        return false;
+    }
+    is_all(&marks[1..], 0)
 }
 
 /// Returns the number of offsets of a set. `last` is its last boundary that is not the end of the code
@@ -49,12 +58,22 @@ fn fill(words: &mut [u64], from: usize, to: usize, word: u64) {
     }
 }
 
-/// Writes the words of a block from index `at` on.
-#[inline]
-fn put_block(words: &mut [u64], at: usize, block: &[u64; 16]) {
+/// Writes the bits of a block. A word is flipped if an odd number of boundaries is before it.
+#[inline(always)]
+fn write_bits(out: &mut [u64], marks: &[u64; 16]) {
+    let mut flip = 0;
     for k in 0..16 {
-        words[at + k] = block[k];
+        let word = marks[k] ^ flip;
+        out[k] = word;
+        // All bits of the next word flip if the last bit of this one is 1.
+        flip = (word >> 63).wrapping_neg();
     }
+}
+
+/// Writes the bits of a block from index `at` on.
+#[inline(always)]
+fn write_block(words: &mut [u64], at: usize, marks: &[u64; 16]) {
+    write_bits(&mut words[at..at + BLOCK_WORDS], marks);
 }
 
 impl FrozenWords {
@@ -90,39 +109,41 @@ impl FrozenWords {
 
     /// Gives block `at` sixteen words of its own. It is empty before.
     #[inline(always)]
-    fn set_own(&mut self, at: usize, block: &[u64; 16]) -> Result<(), MemoryError> {
+    fn set_own(&mut self, at: usize, marks: &[u64; 16]) -> Result<(), MemoryError> {
         let place = self.words.len();
-        self.words.try_extend_from_slice(block)?;
+        self.words.try_resize(place + BLOCK_WORDS, 0)?;
+        write_block(&mut self.words, place, marks);
         self.words[at] = place as u64;
         Ok(())
     }
 
     /// Sets the words of the block of U+0000.
     #[inline]
-    fn set_first(&mut self, block: &[u64; 16]) {
+    fn set_first(&mut self, marks: &[u64; 16]) {
         let first = offset_count(&self.words);
-        put_block(&mut self.words, first, block);
+        write_block(&mut self.words, first, marks);
     }
 
-    /// Sets the words of block `at`, which is empty before. An empty or full block shares its words
+    /// Sets the words of block `at`, which is empty before. In `marks`, each boundary in the block
+    /// has flipped the bits of its own word. A block whose bits are all 0 or all 1 shares its words
     /// with the others of its kind, unless it is the block of U+0000.
     ///
     /// # Errors
     /// Returns `MemoryError` if an allocation fails. The words must not be used after that.
     #[inline(always)]
-    pub(crate) fn set_block(&mut self, at: usize, block: &[u64; 16]) -> Result<(), MemoryError> {
+    pub(crate) fn set_block(&mut self, at: usize, marks: &[u64; 16]) -> Result<(), MemoryError> {
         if at == 0 {
-            self.set_first(block);
+            self.set_first(marks);
             return Ok(());
         }
-        if is_all(block, 0) {
+        if is_only(marks, 0) {
             return Ok(());
         }
-        if is_all(block, ONES) {
+        if is_only(marks, ONES) {
             self.set_full(at);
             return Ok(());
         }
-        self.set_own(at, block)
+        self.set_own(at, marks)
     }
 
     /// Makes the blocks from `from` to before `to` full. They are empty before. If `to` is the end of

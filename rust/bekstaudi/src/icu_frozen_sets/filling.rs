@@ -25,20 +25,6 @@ fn flip_from(block: &mut [u64; 16], c: u32) {
     block[(c / 64 % 16) as usize] ^= u64::MAX << (c % 64);
 }
 
-/// Returns the bits of a block: a word is flipped if an odd number of boundaries is before it.
-#[inline(always)]
-fn bits_of(block: &[u64; 16]) -> [u64; 16] {
-    let mut bits = [0; 16];
-    let mut flip = 0;
-    for k in 0..16 {
-        let word = block[k] ^ flip;
-        bits[k] = word;
-        // All bits of the next word flip if the last bit of this one is 1.
-        flip = (word >> 63).wrapping_neg();
-    }
-    bits
-}
-
 impl Filling {
     /// Returns a filling without ranges, with capacity for a set of `ranges` ranges. `last` is the
     /// last boundary of the set that is not the end of the code space, or 0 if there is none.
@@ -57,8 +43,7 @@ impl Filling {
     /// Writes the current block. Block `at`, which is empty, is then the current one.
     #[inline(always)]
     fn end_block(&mut self, at: u32) -> Result<(), MemoryError> {
-        let bits = bits_of(&self.block);
-        self.bits.set_block(self.at as usize, &bits)?;
+        self.bits.set_block(self.at as usize, &self.block)?;
         self.block = [0; 16];
         self.at = at;
         Ok(())

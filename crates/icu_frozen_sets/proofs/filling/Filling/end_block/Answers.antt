@@ -8,5 +8,5 @@ returns-clause-none c = none_odd
 pub returns-clause-same : goal.returns-clause-same
 returns-clause-same c =
     let s = c.args.self.now in
-    moved_same s.bits c.set_block.new.self s.block c.bits_of-bits.result _ s.at c.args.at c.requires.filling c.requires.order
-    c.in_ok-set_block.ensures.sets c.bits_of-bits.ensures none_odd
+    moved_same s.bits c.set_block.new.self s.block _ s.at c.args.at c.requires.filling c.requires.order
+    c.in_ok-set_block.ensures.sets none_odd
