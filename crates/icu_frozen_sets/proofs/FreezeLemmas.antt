@@ -7,7 +7,7 @@ use Rattle.std.proofs.lemmas.Bool.{cases_lt, lt-ltb, le-ltb, le-leb, lt-leb}
 use Rattle.std.proofs.lemmas.List.{drop_all, drop_more}
 use Rattle.icu_zerovec.specs.CodePoints.{code_point_limit}
 use Rattle.icu_invlist.specs.InversionList.{AreApart, IsOfCodePoints, IsValid, StartsBehind, between, holds, in_ranges, ranges_of}
-use Rattle.icu_frozen_sets.specs.FrozenWords.{IsFrozenOf, bit_in, offset_words}
+use Rattle.icu_frozen_sets.specs.FrozenWords.{IsFrozenOf, bit_in, offset_words, place_in}
 use Rattle.icu_frozen_sets.specs.Inside.Filling.{AreTables, HasOffset, IsFilledBelow, IsFilling, IsFrozen, bit_among, filled}
 use Rattle.icu_frozen_sets.proofs.BitLemmas.{or_false}
 use Rattle.icu_frozen_sets.proofs.FillingLemmas.{below_later}
@@ -173,13 +173,15 @@ module _ (set : List ℕ) (left : List (RangeInclusive ℕ)) (t block : List ℕ
 -- The words, with the bits that are repeated.
 pub frozen_owned : (set words : List ℕ) → IsFrozenOf set words → (ascii : List Bool)
     → ((c : ℕ) → c < 128 → get_or ascii c false ≡ holds set c) → (two_bytes : List ℕ)
-    → ((c : ℕ) → c < 2048 → bit_among two_bytes c ≡ bit_in words c) → (last : ℕ) → last ≡ offset_words words - 1
-    → IsFrozen set ascii two_bytes words last
-frozen_owned set words frozen ascii first two_bytes alike last end = record {
+    → ((c : ℕ) → c < 2048 → bit_among two_bytes c ≡ bit_in words c) → (bmp : List ℕ)
+    → ((b : ℕ) → b < 64 → get_or bmp b 0 ≡ place_in words b) → (last : ℕ) → last ≡ offset_words words - 1
+    → IsFrozen set ascii two_bytes bmp words last
+frozen_owned set words frozen ascii first two_bytes alike bmp offsets last end = record {
   frozen = frozen;
   end = end;
   first = first;
   short = λ c h. alike c h ∙ frozen.bits c (omega arith);
+  offsets = offsets;
 }
 
 -- The range of the two boundaries from index 2 * i on is the next of those that are left.

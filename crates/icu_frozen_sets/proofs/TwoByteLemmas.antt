@@ -6,7 +6,7 @@ use Rattle.std.specs.Int.{bit_at}
 use mathlib.Core.Bool.{beq}
 use Rattle.std.proofs.lemmas.Bool.{cases_eq, cases_lt, cond-false, cond-true, eq-eqb, eqb-true, leb-false, leb-true, lt-ltb, ne_eqb}
 use Rattle.std.proofs.lemmas.Grind.{get_or-set_at}
-use Rattle.std.proofs.lemmas.List.{drop-drop, get_or-drop, get_or-set_other, get_or-take, length-drop, length-set}
+use Rattle.std.proofs.lemmas.List.{drop-drop, get_or-drop, get_or-set_other, get_or-take, length-drop}
 use Rattle.std.proofs.lemmas.Nat.Bits.{bit_at_mask_above, bit_at_mask_below}
 use Rattle.std.proofs.lemmas.Str.{length-encode}
 use Rattle.icu_zerovec.specs.CodePoints.{code_point_limit}

@@ -13,7 +13,7 @@ ghost use Rattle.icu_frozen_sets.specs.FrozenWords.{IsFrozenOf};
 ghost use Rattle.icu_frozen_sets.specs.Inside.Characters.{IsAsked};
 
 use crate::ascii::ascii_of;
-use crate::view::{FrozenView, bit_of_parts, contains_by, first_words, last_offset};
+use crate::view::{FrozenView, bit_from, bmp_offsets, contains_by, first_words, last_offset};
 use crate::words::frozen_words;
 use icu_invlist::codepointinvlist::CodePointInversionList;
 use icu_utf::places::{number_of_four, place_of_three, place_of_two};
@@ -22,8 +22,8 @@ use icu_zerovec::ule::AsULE;
 use std::alloc::Global;
 use std::marker::Model;
 
-/// A set of code points for many look-ups, each of which reads two words and searches nothing (ICU: a
-/// frozen UnicodeSet).
+/// A set of code points for many look-ups, each of which reads an offset and a word and searches
+/// nothing (ICU: a frozen UnicodeSet).
 ///
 /// It stores the set and, in 64-bit words, a bit for each code point, in blocks of 1,024. The words
 /// take 8 bytes for each block up to that of the last boundary below 0x110000, at most 392 bytes more,
@@ -44,8 +44,11 @@ pub struct FrozenCodePointSet {
     /// takes one load.
     ascii: [bool; 128],
     /// The bits of the code points below 0x800, which have at most two bytes in UTF-8: one word for
-    /// each lead byte. Repeats the bits so that a look-up takes one load.
+    /// each lead byte. Repeats the bits so that a look-up in a text takes one load.
     two_bytes: [u64; 32],
+    /// The offsets of the 64 blocks of the Basic Multilingual Plane. Repeats them so that a look-up
+    /// does not compare the block with the last offset's.
+    bmp_offsets: [u32; 64],
     /// The offsets of the blocks, and then the words of the blocks.
     words: Vec<u64>,
     /// The index of the last offset.
@@ -60,7 +63,7 @@ impl Model for FrozenCodePointSet {
 
     ghost view = { λ a. a.set };
 
-    ghost invariant = { λ a. IsFrozen a.set a.ascii a.two_bytes a.words.items a.last };
+    ghost invariant = { λ a. IsFrozen a.set a.ascii a.two_bytes a.bmp_offsets a.words.items a.last };
 }
 
 /// Constructors and copies.
@@ -81,6 +84,7 @@ impl FrozenCodePointSet {
             set: set.try_clone(alloc)?,
             ascii: ascii_of(set),
             two_bytes: first_words(&words),
+            bmp_offsets: bmp_offsets(&words),
             last: last_offset(&words),
             words,
         })
@@ -97,6 +101,7 @@ impl FrozenCodePointSet {
             set: self.set.try_clone(alloc)?,
             ascii: self.ascii,
             two_bytes: self.two_bytes,
+            bmp_offsets: self.bmp_offsets,
             words: Vec::from_slice(alloc, &self.words)?,
             last: self.last,
         })
@@ -147,8 +152,8 @@ impl FrozenCodePointSet {
         ensures held { result ≡ holds self.now c }
         ensures far { code_point_limit ≤ c → result ≡ false }
     {
-        if c < 0x800 {
-            return self.contains_short(c / 64, c % 64);
+        if c < 0x10000 {
+            return self.contains_bmp(c / 64, c % 64);
         }
         contains_by(&self.words, self.last, c)
     }
@@ -176,6 +181,18 @@ impl FrozenCodePointSet {
         (bits >> place) & 1 == 1
     }
 
+    /// Returns true if the set contains the code point `64 * upper + lower`, which is below 0x10000.
+    #[inline(always)]
+    fn contains_bmp(&self, upper: u32, lower: u32) -> bool
+        requires plane { upper < 1024 }
+        requires within { lower < 64 }
+        ensures { result ≡ holds self.now (64 * upper + lower) }
+    {
+        // The remainder is the block itself. It shows rustc that the index is in bounds.
+        let place = self.bmp_offsets[(upper / 16 % 64) as usize];
+        bit_from(&self.words, place as usize, upper, lower)
+    }
+
     /// Returns whether the set contains the first character of the bytes, and its length in bytes.
     #[inline(always)]
     fn ask_first(&self, bytes: &[u8]) -> (bool, usize)
@@ -193,7 +210,7 @@ impl FrozenCodePointSet {
         }
         if lead < 0xF0 {
             let (upper, lower) = place_of_three(bytes);
-            return (bit_of_parts(&self.words, self.last, upper, lower), 3);
+            return (self.contains_bmp(upper, lower), 3);
         }
         (self.contains32(number_of_four(bytes)), 4)
     }

@@ -1,5 +1,5 @@
 //! A view of a frozen set in 64-bit words: look-ups, and spans of texts.
-ghost use Rattle.std.specs.Prelude.{◌≡◌, ℕ, ◌+◌, ◌-◌, ◌*◌, ◌<◌, ◌++◌, List, length, slice_index};
+ghost use Rattle.std.specs.Prelude.{◌≡◌, ℕ, ◌+◌, ◌-◌, ◌*◌, ◌/◌, ◌<◌, ◌++◌, List, length, slice_index};
 ghost use Rattle.std.specs.List.{take_while};
 ghost use Rattle.std.specs.Str.{IsCharBoundary, chars, encode_utf8_all};
 ghost use mathlib.Core.Bool.{beq};
@@ -84,16 +84,38 @@ pub(crate) fn first_words(table: &[u64]) -> [u64; 32]
     words
 }
 
+/// Returns the offsets of the 64 blocks of the Basic Multilingual Plane.
+#[inline]
+pub(crate) fn bmp_offsets(table: &[u64]) -> [u32; 64]
+    ensures { (b : ℕ) → b < 64 → slice_index result b ≡ place_in table.now b }
+{
+    let last = last_offset(table);
+    let mut offsets = [place_by(table, last, 64) as u32; 64];
+    for b in 0..last.min(64) {
+        offsets[b] = place_by(table, last, b as u32) as u32;
+    }
+    offsets
+}
+
+/// Returns the bit of the code point `64 * upper + lower`. Its block's words start at index `place`.
+#[inline(always)]
+pub(crate) fn bit_from(table: &[u64], place: usize, upper: u32, lower: u32) -> bool
+    requires place { place ≡ place_in table.now (upper / 16) }
+    requires within { lower < 64 }
+    ensures { result ≡ bit_in table.now (64 * upper + lower) }
+{
+    let bits = word(table, place + (upper % 16) as usize);
+    (bits >> lower) & 1 == 1
+}
+
 /// Returns the bit of the code point `64 * upper + lower`. The last offset is at index `last`.
 #[inline(always)]
-pub(crate) fn bit_of_parts(table: &[u64], last: usize, upper: u32, lower: u32) -> bool
+fn bit_of_parts(table: &[u64], last: usize, upper: u32, lower: u32) -> bool
     requires last { last ≡ offset_words table.now - 1 }
     requires within { lower < 64 }
     ensures { result ≡ bit_in table.now (64 * upper + lower) }
 {
-    let place = place_by(table, last, upper / 16);
-    let bits = word(table, place + (upper % 16) as usize);
-    (bits >> lower) & 1 == 1
+    bit_from(table, place_by(table, last, upper / 16), upper, lower)
 }
 
 /// Returns whether the frozen set contains the code point. The last offset is at index `last`.

@@ -73,9 +73,11 @@ pub record IsFilledBelow (table block : List ℕ) (at next : ℕ) : Type 0 where
   pub none : (c : ℕ) → next ≤ c → c < code_point_limit → filled table block at c ≡ false
 
 -- The words are the frozen set with these boundaries, and their last offset is at index `last`. `ascii`
--- and `two_bytes` repeat the bits of ASCII and of the code points below 0x800.
-pub record IsFrozen (ends : List ℕ) (ascii : List Bool) (two_bytes table : List ℕ) (last : ℕ) : Type 0 where
+-- and `two_bytes` repeat the bits of ASCII and of the code points below 0x800, and `bmp` the offsets of the
+-- blocks below 0x10000.
+pub record IsFrozen (ends : List ℕ) (ascii : List Bool) (two_bytes bmp table : List ℕ) (last : ℕ) : Type 0 where
   pub frozen : IsFrozenOf ends table
   pub end : last ≡ offset_words table - 1
   pub first : (c : ℕ) → c < 128 → slice_index_or ascii c false ≡ holds ends c
   pub short : (c : ℕ) → c < 2048 → bit_among two_bytes c ≡ holds ends c
+  pub offsets : (b : ℕ) → b < 64 → slice_index bmp b ≡ place_in table b

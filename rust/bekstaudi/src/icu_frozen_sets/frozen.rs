@@ -2,7 +2,7 @@
 
 use crate::icu_frozen_sets::ascii::ascii_of;
 use crate::icu_frozen_sets::view::{
-    FrozenView, bit_of_parts, contains_by, first_words, last_offset,
+    FrozenView, bit_from, bmp_offsets, contains_by, first_words, last_offset,
 };
 use crate::icu_frozen_sets::words::frozen_words;
 use crate::icu_invlist::codepointinvlist::CodePointInversionList;
@@ -11,8 +11,8 @@ use crate::icu_zerovec::MemoryError;
 use crate::icu_zerovec::ule::AsULE;
 use crate::support::prelude::*;
 
-/// A set of code points for many look-ups, each of which reads two words and searches nothing (ICU: a
-/// frozen UnicodeSet).
+/// A set of code points for many look-ups, each of which reads an offset and a word and searches
+/// nothing (ICU: a frozen UnicodeSet).
 ///
 /// It stores the set and, in 64-bit words, a bit for each code point, in blocks of 1,024. The words
 /// take 8 bytes for each block up to that of the last boundary below 0x110000, at most 392 bytes more,
@@ -36,8 +36,11 @@ pub struct FrozenCodePointSet {
     /// takes one load.
     ascii: [bool; 128],
     /// The bits of the code points below 0x800, which have at most two bytes in UTF-8: one word for
-    /// each lead byte. Repeats the bits so that a look-up takes one load.
+    /// each lead byte. Repeats the bits so that a look-up in a text takes one load.
     two_bytes: [u64; 32],
+    /// The offsets of the 64 blocks of the Basic Multilingual Plane. Repeats them so that a look-up
+    /// does not compare the block with the last offset's.
+    bmp_offsets: [u32; 64],
     /// The offsets of the blocks, and then the words of the blocks.
     words: Vec<u64>,
     /// The index of the last offset.
@@ -58,6 +61,7 @@ impl FrozenCodePointSet {
             set: set.try_clone()?,
             ascii: ascii_of(set),
             two_bytes: first_words(&words),
+            bmp_offsets: bmp_offsets(&words),
             last: last_offset(&words),
             words,
         })
@@ -73,6 +77,7 @@ impl FrozenCodePointSet {
             set: self.set.try_clone()?,
             ascii: self.ascii,
             two_bytes: self.two_bytes,
+            bmp_offsets: self.bmp_offsets,
             words: Vec::from_slice(&self.words)?,
             last: self.last,
         })
@@ -123,8 +128,8 @@ impl FrozenCodePointSet {
     #[inline(always)]
     #[must_use]
     pub fn contains32(&self, c: u32) -> bool {
-        if c < 0x800 {
-            return self.contains_short(c / 64, c % 64);
+        if c < 0x10000 {
+            return self.contains_bmp(c / 64, c % 64);
         }
         contains_by(&self.words, self.last, c)
     }
@@ -147,6 +152,14 @@ impl FrozenCodePointSet {
         (bits >> place) & 1 == 1
     }
 
+    /// Returns true if the set contains the code point `64 * upper + lower`, which is below 0x10000.
+    #[inline(always)]
+    fn contains_bmp(&self, upper: u32, lower: u32) -> bool {
+        // The remainder is the block itself. It shows rustc that the index is in bounds.
+        let place = self.bmp_offsets[(upper / 16 % 64) as usize];
+        bit_from(&self.words, place as usize, upper, lower)
+    }
+
     /// Returns whether the set contains the first character of the bytes, and its length in bytes.
     #[inline(always)]
     fn ask_first(&self, bytes: &[u8]) -> (bool, usize) {
@@ -160,7 +173,7 @@ impl FrozenCodePointSet {
         }
         if lead < 0xF0 {
             let (upper, lower) = place_of_three(bytes);
-            return (bit_of_parts(&self.words, self.last, upper, lower), 3);
+            return (self.contains_bmp(upper, lower), 3);
         }
         (self.contains32(number_of_four(bytes)), 4)
     }

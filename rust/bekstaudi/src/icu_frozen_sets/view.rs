@@ -63,12 +63,28 @@ pub(crate) fn first_words(table: &[u64]) -> [u64; 32] {
     words
 }
 
-/// Returns the bit of the code point `64 * upper + lower`. The last offset is at index `last`.
+/// Returns the offsets of the 64 blocks of the Basic Multilingual Plane.
+#[inline]
+pub(crate) fn bmp_offsets(table: &[u64]) -> [u32; 64] {
+    let last = last_offset(table);
+    let mut offsets = [place_by(table, last, 64) as u32; 64];
+    for b in 0..last.min(64) {
+        offsets[b] = place_by(table, last, b as u32) as u32;
+    }
+    offsets
+}
+
+/// Returns the bit of the code point `64 * upper + lower`. Its block's words start at index `place`.
 #[inline(always)]
-pub(crate) fn bit_of_parts(table: &[u64], last: usize, upper: u32, lower: u32) -> bool {
-    let place = place_by(table, last, upper / 16);
+pub(crate) fn bit_from(table: &[u64], place: usize, upper: u32, lower: u32) -> bool {
     let bits = word(table, place + (upper % 16) as usize);
     (bits >> lower) & 1 == 1
+}
+
+/// Returns the bit of the code point `64 * upper + lower`. The last offset is at index `last`.
+#[inline(always)]
+fn bit_of_parts(table: &[u64], last: usize, upper: u32, lower: u32) -> bool {
+    bit_from(table, place_by(table, last, upper / 16), upper, lower)
 }
 
 /// Returns whether the frozen set contains the code point. The last offset is at index `last`.

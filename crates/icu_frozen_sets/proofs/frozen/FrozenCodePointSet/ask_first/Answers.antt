@@ -1,6 +1,5 @@
-use Rattle.std.proofs.Common.{◌≡◌, ◌∙◌, ◌+◌, ◌*◌, ℕ, ap, arith, refl, slice_index}
+use Rattle.std.proofs.Common.{◌∙◌, ◌+◌, ◌*◌, ℕ, ap, arith, refl, slice_index}
 use Rattle.icu_invlist.specs.InversionList.{holds}
-use Rattle.icu_frozen_sets.specs.FrozenWords.{bit_in}
 use Rattle.icu_frozen_sets.proofs.CharacterLemmas.{asked_ascii, asked_first}
 use Rattle.icu_frozen_sets.proofs.frozen.FrozenCodePointSet.ask_first.Goals as goal
 
@@ -20,12 +19,8 @@ returns-then-lead-lt224 c =
 pub returns-then-lead-lt240 : goal.returns-then-lead-lt240
 returns-then-lead-lt240 c =
     let p = c.place_of_three-upper in
-    let s = c.self.inside in
-    let n : ℕ = p.result.0 * 64 + p.result.1 in
-    let told : c.bit_of_parts.result ≡ holds s.set n =
-    (rw (c.deref.ensures.value) at c.bit_of_parts.ensures) ∙ (ap (λ (k : ℕ). bit_in s.words.items k) (omega arith)
-    ∙ c.self.invariant.frozen.bits n (omega (arith, p.ensures.block, p.ensures.place))) in
-    rw (← c.self.view_is) (asked_first s.set c.args.bytes.now n 3 c.bit_of_parts.result p.ensures.part told)
+    asked_first c.args.self.now c.args.bytes.now (p.result.0 * 64 + p.result.1) 3 c.contains_bmp.result p.ensures.part
+    (c.contains_bmp.ensures ∙ ap (λ (n : ℕ). holds c.args.self.now n) (omega arith))
 
 pub returns : goal.returns
 returns c =

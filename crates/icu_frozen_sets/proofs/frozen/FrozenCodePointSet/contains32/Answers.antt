@@ -4,8 +4,8 @@ use Rattle.icu_invlist.specs.InversionList.{holds}
 use Rattle.icu_frozen_sets.proofs.FrozenWordLemmas.{held_in}
 use Rattle.icu_frozen_sets.proofs.frozen.FrozenCodePointSet.contains32.Goals as goal
 
-pub returns-then-c-lt2048-clause-held : goal.returns-then-c-lt2048-clause-held
-returns-then-c-lt2048-clause-held c = c.contains_short.ensures ∙ ap (λ (n : ℕ). holds c.args.self.now n) (omega arith)
+pub returns-then-c-lt65536-clause-held : goal.returns-then-c-lt65536-clause-held
+returns-then-c-lt65536-clause-held c = c.contains_bmp.ensures ∙ ap (λ (n : ℕ). holds c.args.self.now n) (omega arith)
 
 pub returns-clause-held : goal.returns-clause-held
 returns-clause-held c =
