@@ -113,6 +113,7 @@ fn count_node(units: ZeroSlice<'_, u16>, counts: &[u64], place: usize) -> Option
 }
 
 /// Counts the entries of each node that is marked in `wanted`.
+#[tactic(auto, using(crate::proofs::CountLemmas::count_here))]
 fn count_wanted(units: ZeroSlice<'_, u16>, wanted: &[bool], counts: &mut [u64])
     requires wanted { length wanted.now ≡ length (slice_values units) }
     requires counts { length counts.old ≡ length (slice_values units) }

@@ -46,6 +46,7 @@ impl<'a> Model for Char16TrieCursor<'a> {
 
 impl<'a> Char16TrieCursor<'a> {
     /// Creates a cursor at the root of the trie with these units.
+    #[tactic(auto, using(crate::proofs::PlaceLemmas::root_stands), unfolding(crate::specs::UnitMap::after_all))]
     #[inline]
     pub fn new<S: Into<ZeroSlice<'a, u16>>>(trie: S) -> Self
         ensures units { (s : _) × S.converts trie s × (result.units ≡ slice_values s) }
@@ -88,6 +89,7 @@ impl<'a> Char16TrieCursor<'a> {
     }
 
     /// Advances by one unit. If nothing matched before, nothing matches now.
+    #[tactic(auto, using(crate::proofs::StepLemmas::steps_one, crate::proofs::PlaceLemmas::step_is_after))]
     #[inline(always)]
     pub fn step16(&mut self, unit: u16)
         ensures units { self.new.units ≡ self.old.units }
@@ -139,6 +141,7 @@ impl<'a> Char16TrieCursor<'a> {
 
     /// Returns the value of the units so far if they are a key. The value is 0 if some of its own
     /// units are missing.
+    #[tactic(auto, using(crate::proofs::PlaceLemmas::value_is_after))]
     #[inline]
     pub fn value(&self) -> Option<i32>
         ensures value { (m : UnitMap) (w : List ℕ) → HasPassed self.now m w
@@ -150,6 +153,7 @@ impl<'a> Char16TrieCursor<'a> {
 
     /// Returns true if no key continues after the units so far: if they match nothing, if they end
     /// in a final value, or if the lead unit of their node is missing.
+    #[tactic(auto, using(crate::proofs::PlaceLemmas::empty_is_after))]
     #[inline]
     pub fn is_empty(&self) -> bool
         ensures empty { (m : UnitMap) (w : List ℕ) → HasPassed self.now m w

@@ -28,6 +28,7 @@ impl<'a> Iter2<'a> {
     ghost use Rattle.icu_char16trie.specs.Entries.{IsLeft};
 
     /// Creates an iterator over the entries of the trie with these units.
+    #[tactic(auto, using(crate::proofs::PlaceLemmas::root_stands))]
     pub(crate) fn new(alloc: Global, units: ZeroSlice<'a, u16>) -> Self
         ensures left { (m : UnitMap) → IsTrieOf (slice_values units.entry) m → IsLeft result m }
         ensures units { slice_values result.walk.pending.units ≡ slice_values units.entry }

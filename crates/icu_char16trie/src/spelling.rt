@@ -96,6 +96,7 @@ impl Spelling {
     }
 
     /// Appends a unit after a held lead surrogate with which it is no pair.
+    #[tactic(auto, using(crate::proofs::SpellingLemmas::on_apart))]
     #[cold]
     #[inline(never)]
     fn push_apart(&mut self, _lead: LeadSurrogate, unit: u16) -> Result<(), AllocError>

@@ -37,6 +37,7 @@ fn step_in_run(units: ZeroSlice<'_, u16>, place: usize, left: u8, unit: u16) -> 
 }
 
 /// Returns the position after the unit `unit` at a branch with `length` entries.
+#[tactic(auto, using(crate::proofs::NodeLemmas::children_found, crate::proofs::NodeLemmas::children_other, crate::proofs::PartLemmas::part_finds))]
 #[inline(always)]
 fn step_in_branch(units: ZeroSlice<'_, u16>, place: usize, length: usize, unit: u16) -> Place
     requires { place < 2 ^ 63 }

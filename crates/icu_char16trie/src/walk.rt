@@ -29,6 +29,7 @@ impl<'a> Walk<'a> {
     ghost use Rattle.icu_char16trie.specs.Inside.Walking.{EndsKey, FindsEntry, IsSound};
 
     /// Creates the walk over the entries from a position.
+    #[tactic(auto, using(crate::proofs::WalkLemmas::place_gives))]
     pub(crate) fn new(alloc: Global, units: ZeroSlice<'a, u16>, place: Place) -> Self
         requires { IsNear place }
         ensures entries { (m : UnitMap) → Stands (slice_values units.entry) place m
