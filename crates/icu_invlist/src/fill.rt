@@ -12,6 +12,7 @@ ghost use Rattle.icu_invlist.specs.Inside.Places.{AreStepsBelow, IsFilled, Run, 
 use icu_zerovec::{CODE_POINT_LIMIT, MemoryError};
 
 /// Returns true if the boundary at index `place` is below `c`.
+#[tactic(auto, using(crate::proofs::Searches::place_of_end))]
 #[inline(always)]
 fn is_below(ends: &[u32], place: usize, c: u32) -> bool
     requires rises { Run 0 (suc code_point_limit) ends.now }
@@ -23,6 +24,7 @@ fn is_below(ends: &[u32], place: usize, c: u32) -> bool
 
 /// Returns how many of the next three steps from `low` end at a boundary below `c`. All boundaries
 /// before `low` must be below `c`.
+#[tactic(auto, using(crate::proofs::Searches::steps_counted))]
 #[inline(always)]
 fn steps_below(ends: &[u32], low: usize, step: usize, c: u32) -> usize
     requires rises { Run 0 (suc code_point_limit) ends.now }
@@ -61,6 +63,7 @@ fn narrowed(ends: &[u32], c: u32) -> (usize, usize)
 
 /// Returns how many boundaries are below `c`. There is no search if all are, as when ranges are
 /// added in ascending order.
+#[tactic(auto, using(crate::proofs::PlaceLemmas::all_below, crate::proofs::Searches::one_counted))]
 fn count_below(ends: &[u32], c: u32) -> usize
     requires { Run 0 (suc code_point_limit) ends.now }
     ensures count { result ≡ ends_below ends.now c }
@@ -124,6 +127,7 @@ fn overwrite(
 }
 
 /// Inserts two boundaries at index `place`. The boundaries after them are moved only once.
+#[tactic(auto, using(crate::proofs::Splices::two_put_in))]
 fn insert_two(ends: &mut Vec<u32>, place: usize, start: u32, end: u32) -> Result<(), MemoryError>
     requires { place ≤ length ends.old.items }
     ensures ok { OnOk result

@@ -267,6 +267,7 @@ fn pass_both<O: SetOperation, A: Boundaries, B: Boundaries>(
 
 /// Passes boundaries of the first list only, then common ones, then boundaries of the second list
 /// only: at least one in total.
+#[tactic(auto, using(crate::proofs::Merging::some_passed))]
 #[inline(always)]
 fn pass_some<O: SetOperation, A: Boundaries, B: Boundaries>(
     a: A,
@@ -293,6 +294,7 @@ fn pass_some<O: SetOperation, A: Boundaries, B: Boundaries>(
 }
 
 /// Merges until one of the lists is used up.
+#[tactic(auto, using(crate::proofs::MergeLemmas::walks_none))]
 fn pass_all<O: SetOperation, A: Boundaries, B: Boundaries>(a: A, b: B, out: &mut [u32]) -> Walk
     ghost base: { List ℕ }
     requires first { IsValid (A.list a) }
@@ -377,6 +379,7 @@ fn merged<O: SetOperation>(
 
 /// Returns true if all boundaries in `ends` are below those of `set`, which includes the case that
 /// one of them has none.
+#[tactic(auto, using(crate::proofs::Merging::stand_by_ends, crate::proofs::Merging::stand_of_none, crate::proofs::Merging::stand_before_none))]
 fn stand_before(ends: &[u32], set: &CodePointInversionList<'_>) -> bool
     requires { IsValid ends.now }
     ensures apart { IsTrue result → StandBefore ends.now set.now }
@@ -392,6 +395,7 @@ fn stand_before(ends: &[u32], set: &CodePointInversionList<'_>) -> bool
 
 /// Returns true if all boundaries of `set` are below those in `ends`, which includes the case that
 /// one of them has none.
+#[tactic(auto, using(crate::proofs::Merging::stand_by_ends, crate::proofs::Merging::stand_of_none, crate::proofs::Merging::stand_before_none))]
 fn stand_past(ends: &[u32], set: &CodePointInversionList<'_>) -> bool
     requires { IsValid ends.now }
     ensures { IsTrue result → StandBefore set.now ends.now }

@@ -8,6 +8,7 @@ use icu_zerovec::MemoryError;
 use std::alloc::Global;
 
 /// Returns the first character and the rest of the text.
+#[tactic(auto, using(std::proofs::lemmas::Str::chars_past_char))]
 fn first_of(text: &str) -> Option<(char, &str)>
     ensures { option_map (λ x. (x.0, chars x.1.now)) result ≡ first_of (chars text.now) }
 {

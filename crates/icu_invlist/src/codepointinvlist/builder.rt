@@ -297,6 +297,7 @@ impl CodePointInversionListBuilder {
     ///
     /// # Errors
     /// Returns `MemoryError` if an allocation fails. The set is then unchanged.
+    #[tactic(auto, using(std::proofs::lemmas::Result::on_ok_weaker, crate::proofs::Splices::in_range, crate::proofs::EqualSets::same_sets))]
     pub fn complement(&mut self) -> Result<(), MemoryError>
         ensures ok { OnOk result
             ((c : ℕ) → c < code_point_limit → holds self.new c ≡ not (holds self.old c)) }

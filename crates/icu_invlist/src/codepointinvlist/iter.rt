@@ -81,6 +81,7 @@ impl<'a> Iterator for IterRanges<'a> {
         Some(RangeInclusive::new(u32::from(start), u32::from(end) - 1))
     }
 
+    #[tactic(auto, using(crate::proofs::PackedEnds::count_ranges))]
     fn size_hint(&self) -> (usize, Option<usize>)
         ensures lower { IsWithinCount result.0 (at_most (length (ranges_of self.now))) }
         ensures upper { IfSome result.1 (UpTo (at_most (length (ranges_of self.now)))) }
@@ -93,6 +94,7 @@ impl<'a> Iterator for IterRanges<'a> {
 }
 
 impl<'a> ExactSizeIterator for IterRanges<'a> {
+    #[tactic(auto, using(crate::proofs::PackedEnds::count_ranges))]
     fn len(&self) -> usize {
         self.bytes.len() / 6
     }
@@ -207,6 +209,7 @@ impl<'a> IterChars<'a> {
 }
 
 /// Does what [`take_char`] does if `next` is no character: passes all surrogates in one step.
+#[tactic(auto, using(crate::proofs::CharacterLemmas::char_or_none, crate::proofs::CharacterLemmas::moved_past, crate::proofs::CharacterLemmas::none_left))]
 #[cold]
 fn take_past_surrogates(next: &mut u32, end: u32) -> Option<char>
     requires { OutOfScalarRange next.old }
@@ -231,6 +234,7 @@ fn take_past_surrogates(next: &mut u32, end: u32) -> Option<char>
 /// surrogates.
 ///
 /// There is no loop here: LLVM vectorises one, as if it had far to search for each character.
+#[tactic(auto, using(crate::proofs::CharacterLemmas::char_found, crate::proofs::CharacterLemmas::none_left, crate::proofs::CharacterLemmas::none_read))]
 #[inline(always)]
 fn take_char(next: &mut u32, end: u32) -> Option<char>
     ensures { MatchOption result

@@ -29,6 +29,7 @@ pub fn is_valid_zv(ends: &ZeroVec<'_, PotentialCodePoint>) -> bool
 }
 
 /// Returns true if the numbers ascend strictly. The loop looks at all of them, so LLVM vectorises it.
+#[tactic(auto, using(std::proofs::lemmas::Bool::cases_lt, crate::proofs::AscendLemmas::false_if_not, crate::proofs::AscendLemmas::not_if_false))]
 fn ascend(ends: &[u32]) -> bool
     ensures { IsTrue result ↔ IsStrictlyIncreasing ends.now }
 {
