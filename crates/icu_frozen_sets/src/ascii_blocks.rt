@@ -49,6 +49,7 @@ fn are_plain(others: &[u8; 256], bytes: &[u8]) -> bool
 const HIGH_BITS: u64 = 0x8080_8080_8080_8080;
 
 /// Returns the highest bits of eight bytes, the first byte in the lowest bits.
+#[tactic(auto, using(crate::proofs::AsciiBlockLemmas::high_of))]
 #[inline(always)]
 fn high_bits(bytes: &[u8]) -> u64
     requires { length bytes.now ≡ 8 }

@@ -102,6 +102,7 @@ impl Filling {
     /// Writes the current block, and fills those after it up to block `at`, the new current one.
     ///
     /// This is not inlined: few ranges need it, and the loop over all ranges is faster without it.
+    #[tactic(auto, using(crate::proofs::FillingLemmas::filled_to))]
     #[inline(never)]
     fn fill_later(&mut self, at: u32) -> Result<(), MemoryError>
         requires filling { IsFilling self.old.bits self.old.at }
@@ -126,6 +127,7 @@ impl Filling {
 
     /// Makes `at` the current block. If that changes it, the block before is written, and those
     /// after it are filled up to block `at`.
+    #[tactic(auto, using(crate::proofs::FillingLemmas::filled_none))]
     #[inline(always)]
     fn fill_to(&mut self, at: u32) -> Result<(), MemoryError>
         requires filling { IsFilling self.old.bits self.old.at }
@@ -179,6 +181,7 @@ impl Filling {
     ///
     /// # Errors
     /// Returns `MemoryError` if an allocation fails.
+    #[tactic(auto, using(crate::proofs::FillingLemmas::filled_else))]
     pub(crate) fn finish(mut self) -> Result<Vec<u64>, MemoryError>
         requires { IsFilling self.bits self.at }
         ensures tables { IfOk result (λ words. AreTables words.items) }

@@ -73,6 +73,7 @@ impl FrozenCodePointSet {
     ///
     /// # Errors
     /// Returns `MemoryError` if an allocation fails.
+    #[tactic(auto, using(crate::proofs::FreezeLemmas::frozen_owned))]
     pub fn freeze(
         alloc: Global,
         set: &CodePointInversionList<'_>,
@@ -217,6 +218,7 @@ impl FrozenCodePointSet {
 
     /// Returns whether the set contains the character that starts at offset `start`, and the offset
     /// of its end.
+    #[tactic(auto, using(std::proofs::lemmas::Slice::between_to_end, crate::proofs::CharacterLemmas::asked_on))]
     #[inline(always)]
     fn ask_character(&self, bytes: &[u8], start: usize) -> (bool, usize)
         requires utf8 { IsUtf8 (drop start bytes.now) }

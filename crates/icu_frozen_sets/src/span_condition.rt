@@ -95,6 +95,7 @@ impl<'a> Model for FrozenKind<'a> {
 }
 
 /// Returns the word if `held` is true, and otherwise the word with each bit the other way.
+#[tactic(auto, using(crate::proofs::SpanConditionLemmas::turned_word))]
 #[inline(always)]
 pub(crate) fn turned(word: u64, held: bool) -> u64
     ensures { (i : ℕ) → i < 64 → (bit_at result i == 1) ≡ beq (bit_at word i == 1) held }
@@ -114,6 +115,7 @@ fn ascii_word(words: &[u64; 2], c: u32) -> u64
 
 impl<'a> FrozenKind<'a> {
     /// Returns the kind by the frozen set at the start of the words.
+    #[tactic(auto, using(crate::proofs::SpanConditionLemmas::has_ascii))]
     #[inline(always)]
     pub(crate) fn new(table: &'a [u64], held: bool) -> FrozenKind<'a>
         ensures { result ≡ record { numbers = table.now; held = held } }

@@ -34,6 +34,7 @@ fn wide_place_of(table: &[u64], block: u32) -> u32
 
 /// Returns the offsets of the first 64 blocks. Blocks of shorter characters, and of surrogates, have
 /// [`NO_PLACE`].
+#[tactic(auto, using(crate::proofs::ThreeByteLemmas::wide_more))]
 #[inline(always)]
 pub(crate) fn wide_places(table: &[u64]) -> [u32; 64]
     ensures { (b : ℕ) → b < 64 → slice_index result b ≡ wide_place table.now b }

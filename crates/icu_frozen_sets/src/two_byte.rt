@@ -14,6 +14,7 @@ const LEADS: u64 = 0xFFFF_FFFC;
 
 /// Returns the words of a kind: one for each byte that starts a character of two bytes, and those
 /// of the bytes that start a character.
+#[tactic(auto, using(crate::proofs::TwoByteLemmas::short_more))]
 #[inline(always)]
 pub(crate) fn short_words(table: &[u64], held: bool) -> [u64; 36]
     ensures { AreShortWords table.now held result }

@@ -98,6 +98,7 @@ pub(crate) fn bmp_offsets(table: &[u64]) -> [u32; 64]
 }
 
 /// Returns the bit of the code point `64 * upper + lower`. Its block's words start at index `place`.
+#[tactic(auto, using(crate::proofs::BitLemmas::bit_tested, crate::proofs::FrozenWordLemmas::bit_read))]
 #[inline(always)]
 pub(crate) fn bit_from(table: &[u64], place: usize, upper: u32, lower: u32) -> bool
     requires place { place ≡ place_in table.now (upper / 16) }
