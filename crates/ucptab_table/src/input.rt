@@ -1,6 +1,7 @@
 //! Reads a table: its bytes, its lines and its rows.
 ghost use Rattle.std.specs.Prelude.{◌≡◌, ◌⊎◌, ◌<◌, ◌-◌, ℕ, length, ◌∷◌, [], slice_get, option_map, IfOk, IfErr, IfSome, IfNone};
 ghost use Rattle.std.specs.Io.KnownBytes.{IsAtEnd};
+ghost use Rattle.std.specs.Iterator.{YieldsFirstRef, item_count};
 ghost use Rattle.std.specs.Str.Lines.{lines, strip_carriage_return};
 ghost use Rattle.ucptab_table.specs.TableText.{AreRows, IsFirstFault};
 ghost use Rattle.ucptab_table.specs.declared.error.RowError.{RowError};
@@ -11,6 +12,7 @@ use crate::rows::{position_or_len, row_of};
 use crate::streams::{Failed, Source};
 use icu_trie_builder::writes::Write;
 use std::alloc::Global;
+use std::marker::Model;
 
 /// Reads all bytes that are left.
 ///
@@ -67,6 +69,45 @@ pub fn first_line(input: &[u8]) -> Option<(&[u8], &[u8])>
         return None;
     }
     Some((input, &[]))
+}
+
+/// An iterator over the lines of an input, without their line ends. [`lines`] returns it.
+///
+/// # Contract
+/// In contracts, it is the list of the lines that are left.
+#[derive(Drop)]
+pub struct InputLines<'a> {
+    rest: &'a [u8],
+}
+
+impl<'a> Model for InputLines<'a> {
+    ghost use Rattle.std.specs.Prelude.{List, ℕ};
+    ghost use Rattle.std.specs.Str.Lines.{lines};
+
+    ghost Value = { List (List ℕ) };
+
+    ghost view = { λ a. lines a.rest.now };
+}
+
+impl<'a> Iterator for InputLines<'a> {
+    type Item = &'a [u8];
+
+    ghost next_gives = { YieldsFirstRef (λ left. left) };
+
+    ghost remaining = { item_count (λ left. left) };
+
+    fn next(&mut self) -> Option<&'a [u8]> {
+        let (line, rest) = first_line(self.rest)?;
+        self.rest = rest;
+        Some(line)
+    }
+}
+
+/// Returns an iterator over the lines of an input, without their line ends.
+pub fn lines(input: &[u8]) -> InputLines<'_>
+    ensures { result ≡ lines input.now }
+{
+    InputLines { rest: input }
 }
 
 /// Returns the line of this number, counted from 1, without its line end, or `None` if there are

@@ -5,7 +5,7 @@ use clap::ArgMatches;
 use clap::builder::ValueParser;
 use std::alloc::{AllocError, Global};
 use ucd_files::title::{note_of, title_of};
-use ucptab_table::input::first_line;
+use ucptab_table::input::lines;
 use ucptrie_inputs::number;
 use ucptrie_inputs::words::{push_in_line, push_word};
 
@@ -110,9 +110,7 @@ fn push_note(text: &mut String, mark: &str, note: &[u8]) -> Result<(), AllocErro
 
 /// Appends the date or the versions that an input says.
 fn push_notes(text: &mut String, input: &[u8]) -> Result<(), AllocError> {
-    let mut rest = input;
-    while let Some((line, after)) = first_line(rest) {
-        rest = after;
+    for line in lines(input) {
         if let Some(note) = note_of(line) {
             push_note(text, ", ", note)?;
         }

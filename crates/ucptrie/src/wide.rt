@@ -5,7 +5,7 @@ use icu_zerovec::CODE_POINT_LIMIT;
 use std::alloc::{AllocError, Global};
 use ucd_files::names::Numbering;
 use ucd_files::statement::{Statement, statement_of};
-use ucptab_table::input::first_line;
+use ucptab_table::input::lines;
 use ucptab_table::rows::row_of;
 use ucptrie_inputs::error::{Error, said};
 use ucptrie_inputs::number;
@@ -31,9 +31,7 @@ fn is_row_with(line: &[u8], value: u32) -> bool {
 /// Returns the number of the first row with this value, counted from 1.
 pub fn row_with(rows: &[u8], value: u32) -> Option<u64> {
     let mut number = 0u64;
-    let mut rest = rows;
-    while let Some((line, after)) = first_line(rest) {
-        rest = after;
+    for line in lines(rows) {
         number = number.saturating_add(1);
         if is_row_with(line, value) {
             return Some(number);
@@ -60,9 +58,7 @@ fn says(
 pub fn line_with(file: &UnicodeFile<'_>, numbering: Numbering<'_>, value: u32) -> Option<u64> {
     let mut number = 0u64;
     let mut previous: &[u8] = &[];
-    let mut rest = file.bytes;
-    while let Some((line, after)) = first_line(rest) {
-        rest = after;
+    for line in lines(file.bytes) {
         number = number.saturating_add(1);
         if says(file, numbering, previous, line, value) {
             return Some(number);

@@ -10,7 +10,7 @@ use ucd_files::kind::{are_code_points, are_digits};
 use ucd_files::names::{Name, Numbering, short_decimal};
 use ucd_files::order::text_of_line;
 use ucd_files::statement::Columns;
-use ucptab_table::input::first_line;
+use ucptab_table::input::lines;
 
 /// Returns whether a text is written as a number that a table can't have, as `1/2`, `0.5` or `-1`:
 /// digits, `.` and `/` after a digit, and `-` before them or not, but no decimal number of at most
@@ -75,9 +75,7 @@ fn ambiguous<'f>(file: &UnicodeFile<'f>) -> Option<&'f [u8]> {
         return None;
     }
     let mut found: Option<&'f [u8]> = None;
-    let mut rest = file.bytes;
-    while let Some((line, after)) = first_line(rest) {
-        rest = after;
+    for line in lines(file.bytes) {
         if let Some(text) = text_of_line(file.columns, line) {
             let first = found.unwrap_or(text);
             let is_alike = if are_digits(first) {

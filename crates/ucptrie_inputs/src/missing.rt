@@ -15,7 +15,7 @@ use ucd_files::names::Numbering;
 use ucd_files::order::text_of_line;
 use ucd_files::statement::Columns;
 use ucd_files::title::title_of;
-use ucptab_table::input::first_line;
+use ucptab_table::input::lines;
 use ucptab_table::rows::{after, code_points_of, content_of, trimmed};
 
 /// Returns the line about a value that only an `@missing` line has.
@@ -106,9 +106,7 @@ fn is_nearly_missing(line: &[u8]) -> bool {
 /// 1.
 fn nearly_missing(file: &[u8]) -> Option<u64> {
     let mut number = 0u64;
-    let mut rest = file;
-    while let Some((line, after)) = first_line(rest) {
-        rest = after;
+    for line in lines(file) {
         number = number.saturating_add(1);
         if is_nearly_missing(line) {
             return Some(number);
@@ -119,9 +117,7 @@ fn nearly_missing(file: &[u8]) -> Option<u64> {
 
 /// Returns whether a line that is no `@missing` line has this value.
 fn has_value(file: &UnicodeFile<'_>, value: &[u8]) -> bool {
-    let mut rest = file.bytes;
-    while let Some((line, after)) = first_line(rest) {
-        rest = after;
+    for line in lines(file.bytes) {
         if missing_of(line).is_none() && text_of_line(file.columns, line) == Some(value) {
             return true;
         }
@@ -137,9 +133,7 @@ fn value_in_missing<'f>(columns: Columns<'_>, line: &'f [u8]) -> Option<&'f [u8]
 
 /// Returns the value of the first `@missing` line of the property.
 fn first_missing<'f>(file: &UnicodeFile<'f>) -> Option<&'f [u8]> {
-    let mut rest = file.bytes;
-    while let Some((line, after)) = first_line(rest) {
-        rest = after;
+    for line in lines(file.bytes) {
         let value = value_in_missing(file.columns, line);
         if value.is_some() {
             return value;

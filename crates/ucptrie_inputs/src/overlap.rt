@@ -7,7 +7,7 @@ use ucd_files::fields::{ends_in_first, field};
 use ucd_files::names::{Matching, Numbering};
 use ucd_files::statement::{Columns, Statement, statement_of};
 use ucd_files::value_names::ValueNames;
-use ucptab_table::input::{first_line, line_at};
+use ucptab_table::input::{line_at, lines};
 use ucptab_table::rows::content_of;
 
 /// Two lines that give a code point different values.
@@ -62,9 +62,7 @@ fn line_values(
     let mut all = Vec::new(alloc);
     let mut number = 0u64;
     let mut previous: &[u8] = &[];
-    let mut rest = file;
-    while let Some((line, after)) = first_line(rest) {
-        rest = after;
+    for line in lines(file) {
         number = number.saturating_add(1);
         match statement_of(columns, numbering, previous, line) {
             Ok(Some(Statement::Explicit(write))) if !is_first_of_range(columns, line) => {

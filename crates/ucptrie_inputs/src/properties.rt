@@ -7,7 +7,7 @@ use ucd_files::fields::{column, field, has_field, missing_of};
 use ucd_files::names::{Matching, Name, is_same_name};
 use ucd_files::statement::Columns;
 use ucd_files::value_names::ValueNames;
-use ucptab_table::input::first_line;
+use ucptab_table::input::lines;
 use ucptab_table::rows::content_of;
 
 /// How many properties a message lists at most.
@@ -24,9 +24,7 @@ fn property_of<'f>(columns: Columns<'_>, line: &'f [u8]) -> &'f [u8] {
 
 /// Returns whether a line of a file of Unihan has this property.
 pub fn has_unihan_property(file: &[u8], property: &[u8]) -> bool {
-    let mut rest = file;
-    while let Some((line, after)) = first_line(rest) {
-        rest = after;
+    for line in lines(file) {
         if is_same_name(column(1, content_of(line)), property) {
             return true;
         }
@@ -50,9 +48,7 @@ pub fn properties_in<'f>(
     file: &'f [u8],
 ) -> Result<ValueNames<'f>, AllocError> {
     let mut names = ValueNames::new(alloc);
-    let mut rest = file;
-    while let Some((line, after)) = first_line(rest) {
-        rest = after;
+    for line in lines(file) {
         push_new(&mut names, property_of(columns, line))?;
     }
     Ok(names)
@@ -118,9 +114,7 @@ fn has_field_in(n: usize, line: &[u8]) -> bool {
 
 /// Returns whether a line of a file has field `n`.
 pub fn is_field_of(n: usize, file: &[u8]) -> bool {
-    let mut rest = file;
-    while let Some((line, after)) = first_line(rest) {
-        rest = after;
+    for line in lines(file) {
         if has_field_in(n, line) {
             return true;
         }

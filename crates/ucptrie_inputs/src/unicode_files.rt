@@ -15,7 +15,7 @@ use ucd_files::kind::{FileKind, has_property, has_values};
 use ucd_files::names::{Numbering, is_same_name};
 use ucd_files::statement::Columns;
 use ucd_files::title::title_of;
-use ucptab_table::input::{first_line, line_at};
+use ucptab_table::input::{line_at, lines};
 use ucptab_table::message::line_message;
 use ucptab_table::rows::content_of;
 
@@ -140,9 +140,7 @@ fn old_block(file: &[u8]) -> Option<u64> {
         return None;
     }
     let mut number = 0u64;
-    let mut rest = file;
-    while let Some((line, after)) = first_line(rest) {
-        rest = after;
+    for line in lines(file) {
         number = number.saturating_add(1);
         if has_field(2, content_of(line)) {
             return Some(number);

@@ -50,6 +50,26 @@ pub fn first_line(input: &[u8]) -> Option<(&[u8], &[u8])> {
     Some((input, &[]))
 }
 
+/// An iterator over the lines of an input, without their line ends. [`lines`] returns it.
+pub struct InputLines<'a> {
+    rest: &'a [u8],
+}
+
+impl<'a> Iterator for InputLines<'a> {
+    type Item = &'a [u8];
+
+    fn next(&mut self) -> Option<&'a [u8]> {
+        let (line, rest) = first_line(self.rest)?;
+        self.rest = rest;
+        Some(line)
+    }
+}
+
+/// Returns an iterator over the lines of an input, without their line ends.
+pub fn lines(input: &[u8]) -> InputLines<'_> {
+    InputLines { rest: input }
+}
+
 /// Returns the line of this number, counted from 1, without its line end, or `None` if there are
 /// fewer lines.
 pub fn line_at(input: &[u8], number: u64) -> Option<&[u8]> {

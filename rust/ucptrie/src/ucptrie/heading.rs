@@ -5,7 +5,7 @@ use crate::host::*;
 use crate::support::AllocError;
 use crate::support::prelude::*;
 use crate::ucd_files::title::{note_of, title_of};
-use crate::ucptab_table::input::first_line;
+use crate::ucptab_table::input::lines;
 use crate::ucptrie::arguments::{Argument, arguments_of};
 use crate::ucptrie::columns::Input;
 use crate::ucptrie_inputs::number;
@@ -112,9 +112,7 @@ fn push_note(text: &mut String, mark: &str, note: &[u8]) -> Result<(), AllocErro
 
 /// Appends the date or the versions that an input says.
 fn push_notes(text: &mut String, input: &[u8]) -> Result<(), AllocError> {
-    let mut rest = input;
-    while let Some((line, after)) = first_line(rest) {
-        rest = after;
+    for line in lines(input) {
         if let Some(note) = note_of(line) {
             push_note(text, ", ", note)?;
         }

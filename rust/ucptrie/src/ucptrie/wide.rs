@@ -5,7 +5,7 @@ use crate::support::AllocError;
 use crate::support::prelude::*;
 use crate::ucd_files::names::Numbering;
 use crate::ucd_files::statement::{Statement, statement_of};
-use crate::ucptab_table::input::first_line;
+use crate::ucptab_table::input::lines;
 use crate::ucptab_table::rows::row_of;
 use crate::ucptrie_inputs::error::{Error, said};
 use crate::ucptrie_inputs::number;
@@ -33,9 +33,7 @@ fn is_row_with(line: &[u8], value: u32) -> bool {
 /// Returns the number of the first row with this value, counted from 1.
 pub fn row_with(rows: &[u8], value: u32) -> Option<u64> {
     let mut number = 0u64;
-    let mut rest = rows;
-    while let Some((line, after)) = first_line(rest) {
-        rest = after;
+    for line in lines(rows) {
         number = number.saturating_add(1);
         if is_row_with(line, value) {
             return Some(number);
@@ -62,9 +60,7 @@ fn says(
 pub fn line_with(file: &UnicodeFile<'_>, numbering: Numbering<'_>, value: u32) -> Option<u64> {
     let mut number = 0u64;
     let mut previous: &[u8] = &[];
-    let mut rest = file.bytes;
-    while let Some((line, after)) = first_line(rest) {
-        rest = after;
+    for line in lines(file.bytes) {
         number = number.saturating_add(1);
         if says(file, numbering, previous, line, value) {
             return Some(number);

@@ -7,7 +7,7 @@ use crate::ucd_files::fields::field;
 use crate::ucd_files::names::is_same_name;
 use crate::ucd_files::title::title_of;
 use crate::ucd_files::value_names::ValueNames;
-use crate::ucptab_table::input::first_line;
+use crate::ucptab_table::input::lines;
 use crate::ucptab_table::rows::content_of;
 use crate::ucptrie_inputs::error::{Error, said};
 use crate::ucptrie_inputs::properties::{push_listed, push_new};
@@ -72,9 +72,7 @@ fn has_name(content: &[u8], name: &[u8]) -> bool {
 
 /// Returns the content of the first line of PropertyAliases.txt that has this name, or nothing.
 fn line_of<'a>(aliases: &'a Aliases, property: &[u8]) -> &'a [u8] {
-    let mut rest = aliases.properties.as_slice();
-    while let Some((line, after)) = first_line(rest) {
-        rest = after;
+    for line in lines(&aliases.properties) {
         let content = content_of(line);
         if !content.is_empty() && has_name(content, property) {
             return content;
@@ -83,13 +81,11 @@ fn line_of<'a>(aliases: &'a Aliases, property: &[u8]) -> &'a [u8] {
     &[]
 }
 
-/// Returns field `n` of the first line that has a name of the property there, or `None` if no line
-/// has one.
-fn name_in<'f>(aliases: &Aliases, n: usize, lines: &'f [u8], property: &[u8]) -> Option<&'f [u8]> {
+/// Returns field `n` of the first line of a file that has a name of the property there, or `None` if
+/// no line has one.
+fn name_in<'f>(aliases: &Aliases, n: usize, file: &'f [u8], property: &[u8]) -> Option<&'f [u8]> {
     let all_names = line_of(aliases, property);
-    let mut rest = lines;
-    while let Some((line, after)) = first_line(rest) {
-        rest = after;
+    for line in lines(file) {
         let name = field(n, content_of(line));
         let is_known = has_name(all_names, name) || are_names_of_one(property, name);
         if !name.is_empty() && is_known {
@@ -112,9 +108,7 @@ pub fn name_in_values<'a>(aliases: &'a Aliases, property: &'a [u8]) -> &'a [u8] 
 /// Returns the properties in PropertyValueAliases.txt, in order.
 fn properties_in(aliases: &Aliases) -> Result<ValueNames<'_>, AllocError> {
     let mut names = ValueNames::new();
-    let mut rest = aliases.values.as_slice();
-    while let Some((line, after)) = first_line(rest) {
-        rest = after;
+    for line in lines(&aliases.values) {
         push_new(&mut names, field(0, content_of(line)))?;
     }
     Ok(names)

@@ -9,7 +9,7 @@ use crate::ucd_files::kind::{are_code_points, are_digits};
 use crate::ucd_files::names::{Name, Numbering, short_decimal};
 use crate::ucd_files::order::text_of_line;
 use crate::ucd_files::statement::Columns;
-use crate::ucptab_table::input::first_line;
+use crate::ucptab_table::input::lines;
 use crate::ucptrie_inputs::numbering::{UnicodeFile, numbering};
 use crate::ucptrie_inputs::properties::push_text;
 use crate::ucptrie_inputs::streams::say;
@@ -79,9 +79,7 @@ fn ambiguous<'f>(file: &UnicodeFile<'f>) -> Option<&'f [u8]> {
         return None;
     }
     let mut found: Option<&'f [u8]> = None;
-    let mut rest = file.bytes;
-    while let Some((line, after)) = first_line(rest) {
-        rest = after;
+    for line in lines(file.bytes) {
         if let Some(text) = text_of_line(file.columns, line) {
             let first = found.unwrap_or(text);
             let is_alike = if are_digits(first) {

@@ -11,7 +11,7 @@ use crate::ucd_files::names::Numbering;
 use crate::ucd_files::order::text_of_line;
 use crate::ucd_files::statement::Columns;
 use crate::ucd_files::title::title_of;
-use crate::ucptab_table::input::first_line;
+use crate::ucptab_table::input::lines;
 use crate::ucptab_table::rows::{after, code_points_of, content_of, trimmed};
 use crate::ucptrie_inputs::aliases::name_in_values;
 use crate::ucptrie_inputs::error::{Error, about, said};
@@ -98,9 +98,7 @@ fn is_nearly_missing(line: &[u8]) -> bool {
 /// 1.
 fn nearly_missing(file: &[u8]) -> Option<u64> {
     let mut number = 0u64;
-    let mut rest = file;
-    while let Some((line, after)) = first_line(rest) {
-        rest = after;
+    for line in lines(file) {
         number = number.saturating_add(1);
         if is_nearly_missing(line) {
             return Some(number);
@@ -111,9 +109,7 @@ fn nearly_missing(file: &[u8]) -> Option<u64> {
 
 /// Returns whether a line that is no `@missing` line has this value.
 fn has_value(file: &UnicodeFile<'_>, value: &[u8]) -> bool {
-    let mut rest = file.bytes;
-    while let Some((line, after)) = first_line(rest) {
-        rest = after;
+    for line in lines(file.bytes) {
         if missing_of(line).is_none() && text_of_line(file.columns, line) == Some(value) {
             return true;
         }
@@ -129,9 +125,7 @@ fn value_in_missing<'f>(columns: Columns<'_>, line: &'f [u8]) -> Option<&'f [u8]
 
 /// Returns the value of the first `@missing` line of the property.
 fn first_missing<'f>(file: &UnicodeFile<'f>) -> Option<&'f [u8]> {
-    let mut rest = file.bytes;
-    while let Some((line, after)) = first_line(rest) {
-        rest = after;
+    for line in lines(file.bytes) {
         let value = value_in_missing(file.columns, line);
         if value.is_some() {
             return value;

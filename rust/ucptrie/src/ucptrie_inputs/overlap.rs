@@ -8,7 +8,7 @@ use crate::ucd_files::fields::{ends_in_first, field};
 use crate::ucd_files::names::{Matching, Numbering};
 use crate::ucd_files::statement::{Columns, Statement, statement_of};
 use crate::ucd_files::value_names::ValueNames;
-use crate::ucptab_table::input::{first_line, line_at};
+use crate::ucptab_table::input::{line_at, lines};
 use crate::ucptab_table::rows::content_of;
 use bekstaudi::codepointtrie::Write;
 
@@ -63,9 +63,7 @@ fn line_values(
     let mut all = Vec::new();
     let mut number = 0u64;
     let mut previous: &[u8] = &[];
-    let mut rest = file;
-    while let Some((line, after)) = first_line(rest) {
-        rest = after;
+    for line in lines(file) {
         number = number.saturating_add(1);
         match statement_of(columns, numbering, previous, line) {
             Ok(Some(Statement::Explicit(write))) if !is_first_of_range(columns, line) => {

@@ -7,7 +7,7 @@ use crate::ucd_files::fields::{column, field, has_field, missing_of};
 use crate::ucd_files::names::{Matching, Name, is_same_name};
 use crate::ucd_files::statement::Columns;
 use crate::ucd_files::value_names::ValueNames;
-use crate::ucptab_table::input::first_line;
+use crate::ucptab_table::input::lines;
 use crate::ucptab_table::rows::content_of;
 use crate::ucptrie_inputs::error::{Error, said};
 use crate::ucptrie_inputs::number;
@@ -26,9 +26,7 @@ fn property_of<'f>(columns: Columns<'_>, line: &'f [u8]) -> &'f [u8] {
 
 /// Returns whether a line of a file of Unihan has this property.
 pub fn has_unihan_property(file: &[u8], property: &[u8]) -> bool {
-    let mut rest = file;
-    while let Some((line, after)) = first_line(rest) {
-        rest = after;
+    for line in lines(file) {
         if is_same_name(column(1, content_of(line)), property) {
             return true;
         }
@@ -51,9 +49,7 @@ pub fn properties_in<'f>(
     file: &'f [u8],
 ) -> Result<ValueNames<'f>, AllocError> {
     let mut names = ValueNames::new();
-    let mut rest = file;
-    while let Some((line, after)) = first_line(rest) {
-        rest = after;
+    for line in lines(file) {
         push_new(&mut names, property_of(columns, line))?;
     }
     Ok(names)
@@ -112,9 +108,7 @@ fn has_field_in(n: usize, line: &[u8]) -> bool {
 
 /// Returns whether a line of a file has field `n`.
 pub fn is_field_of(n: usize, file: &[u8]) -> bool {
-    let mut rest = file;
-    while let Some((line, after)) = first_line(rest) {
-        rest = after;
+    for line in lines(file) {
         if has_field_in(n, line) {
             return true;
         }

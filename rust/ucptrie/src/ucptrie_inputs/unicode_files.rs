@@ -9,7 +9,7 @@ use crate::ucd_files::kind::{FileKind, has_property, has_values};
 use crate::ucd_files::names::{Numbering, is_same_name};
 use crate::ucd_files::statement::Columns;
 use crate::ucd_files::title::title_of;
-use crate::ucptab_table::input::{first_line, line_at};
+use crate::ucptab_table::input::{line_at, lines};
 use crate::ucptab_table::message::line_message;
 use crate::ucptab_table::rows::content_of;
 use crate::ucptrie_inputs::aliases::{Aliases, name_in_lines, name_in_values, named_aliases};
@@ -135,9 +135,7 @@ fn old_block(file: &[u8]) -> Option<u64> {
         return None;
     }
     let mut number = 0u64;
-    let mut rest = file;
-    while let Some((line, after)) = first_line(rest) {
-        rest = after;
+    for line in lines(file) {
         number = number.saturating_add(1);
         if has_field(2, content_of(line)) {
             return Some(number);
