@@ -53,7 +53,6 @@ impl<'a> Iterator for IterRanges<'a> {
         let end = PotentialCodePoint::from_unaligned(&range[3..6])?;
         Some(RangeInclusive::new(u32::from(start), u32::from(end) - 1))
     }
-
     #[inline]
     fn size_hint(&self) -> (usize, Option<usize>) {
         let len = self.bytes.len() / 6;
