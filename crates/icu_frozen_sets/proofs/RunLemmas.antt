@@ -1,5 +1,5 @@
 -- Runs of ones in the words of a frozen set.
-use Rattle.std.proofs.Common.{◌≡◌, ◌∙◌, ℕ, ◌+◌, ◌-◌, ◌/◌, ◌%◌, ◌^◌, ◌<◌, ◌≤◌, List, get_or, refl, ap, sym, arith, true, false, inl, inr}
+use Rattle.std.proofs.Common.{◌≡◌, ◌∙◌, ℕ, ◌+◌, ◌-◌, ◌/◌, ◌%◌, ◌^◌, ◌<◌, ◌≤◌, List, get_or, ap, sym, arith, true, false, inl, inr}
 use Rattle.std.specs.Int.{bit_at, trailing_ones, w64}
 use Rattle.std.specs.Prelude.{nat_eq}
 use Rattle.std.proofs.Math.Nat.{div-div-eq-div-mul, div-le_self}
@@ -42,11 +42,10 @@ module _ (word s : ℕ) (fits : word < 2 ^ 64) where
         ap (λ (n : ℕ). bit_at n i) e ∙ bit_at_ones 64 i (omega (arith, all_ones e)))
   ])
 
-  pub run_stops : trailing_ones w64 shift ≡ 0 → bit_at word s ≡ 0
-  run_stops e = elim (cases_lt (shift + 1) (2 ^ 64)) [
-    | inl l ↦ sym (ap (λ (n : ℕ). bit_at word n) (omega arith)) ∙ (sym (shifted word s 0)
-        ∙ (sym (ap (λ (n : ℕ). bit_at shift n) e) ∙ (bit_at-trailing_ones w64 shift l).1))
-    | inr l ↦ absurd (let f : shift ≡ 2 ^ 64 - 1 = omega (arith, small) in omega (arith, all_ones f))
+  pub run_stops : s + trailing_ones w64 shift < 64 → bit_at word (s + trailing_ones w64 shift) ≡ 0
+  run_stops h = elim (cases_lt (shift + 1) (2 ^ 64)) [
+    | inl l ↦ sym (shifted word s (trailing_ones w64 shift)) ∙ (bit_at-trailing_ones w64 shift l).1
+    | inr l ↦ absurd (let f : shift ≡ 2 ^ 64 - 1 = omega (arith, small) in omega (arith, all_ones f, h))
   ]
 
 -- ---- the run of a code point
@@ -72,5 +71,5 @@ module _ (t : List ℕ) (c word run : ℕ) (there : word ≡ get_or t (place_in 
       let o = ones (k - c) (omega arith) in
       bit_here k (c % 64 + (k - c)) (omega (arith, o.0)) (omega (arith, o.0)) ∙ ap (λ (n : ℕ). nat_eq n 1) o.1
 
-  pub stops_at_word : bit_at word (c % 64) ≡ 0 → bit_in t c ≡ false
-  stops_at_word e = bit_here c (c % 64) refl refl ∙ ap (λ (n : ℕ). nat_eq n 1) e
+  pub stops_at_word : (i : ℕ) → c % 64 + i < 64 → bit_at word (c % 64 + i) ≡ 0 → bit_in t (c + i) ≡ false
+  stops_at_word i h e = bit_here (c + i) (c % 64 + i) (omega (arith, h)) (omega (arith, h)) ∙ ap (λ (n : ℕ). nat_eq n 1) e

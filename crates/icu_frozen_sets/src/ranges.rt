@@ -1,15 +1,15 @@
 //! Whether a frozen set contains a range.
-ghost use Rattle.std.specs.Prelude.{◌≡◌, ℕ, ◌+◌, ◌-◌, ◌^◌, ◌<◌, ◌≤◌, ◌++◌, ◌↔◌, List, true, false, min, slice_index, IfSome, IsTrue};
+ghost use Rattle.std.specs.Prelude.{◌≡◌, ℕ, ◌+◌, ◌-◌, ◌^◌, ◌<◌, ◌≤◌, ◌++◌, ◌↔◌, List, true, false, min, slice_index, IfNone, IfSome, IsTrue};
 ghost use Rattle.std.specs.Int.{bit_at};
 ghost use Rattle.std.specs.Range.{range_inclusive_start};
 ghost use Rattle.icu_zerovec.specs.CodePoints.{code_point_limit};
 ghost use Rattle.icu_invlist.specs.InversionList.{HoldsAll};
 ghost use Rattle.icu_invlist.specs.NamedCodePoints.{end_of_inclusive};
 ghost use Rattle.icu_frozen_sets.specs.FrozenView.{view_words};
-ghost use Rattle.icu_frozen_sets.specs.FrozenWords.{IsFrozenOf, bit_in, is_held};
+ghost use Rattle.icu_frozen_sets.specs.FrozenWords.{IsFrozenOf, bit_in, is_held, offset_words};
 
 use crate::frozen::FrozenCodePointSet;
-use crate::view::{FULL_BLOCK, FrozenView, offset_count, place_of, word};
+use crate::view::{FULL_BLOCK, FrozenView, last_offset, offset_count, place_by, word};
 use icu_invlist::codepointinvlist::RangeOf;
 use icu_zerovec::CODE_POINT_LIMIT;
 use std::ops::RangeInclusive;
@@ -38,7 +38,7 @@ fn ones_from(word: u64, place: u32) -> u32
     requires within { place < 64 }
     ensures ones { (i : ℕ) → i < result
         → (place + i < 64) × (bit_at word (place + i) ≡ 1) }
-    ensures stops { result ≡ 0 → bit_at word place ≡ 0 }
+    ensures stops { place + result < 64 → bit_at word (place + result) ≡ 0 }
 {
     (word >> place).trailing_ones()
 }
@@ -62,21 +62,28 @@ fn is_full(table: &[u64], place: usize) -> bool
     true
 }
 
-/// Returns the end of a run of ones that starts with the bit of the code point `c`, or `c` if that
-/// bit is 0. The run is cut off at the end of the word, or of the block if the block is full.
+/// Returns the end of the word of the code point `c`, or `end` if that comes first, if the bits from `c`
+/// up to there are 1. If the range `c..end` goes on and the block is full, returns the end of the block.
+/// Returns `None` if one of these bits is 0. The last offset is at index `last`.
 #[inline(always)]
-fn past_ones(table: &[u64], c: u32) -> u32
-    requires within { c < CODE_POINT_LIMIT }
-    ensures order { c ≤ result }
-    ensures ones { (k : ℕ) → c ≤ k → k < result → bit_in table.now k ≡ true }
-    ensures stops { result ≡ c → bit_in table.now c ≡ false }
+fn past_ones(table: &[u64], last: usize, c: u32, end: u32) -> Option<u32>
+    requires last { last ≡ offset_words table.now - 1 }
+    requires order { c < end }
+    requires within { end ≤ CODE_POINT_LIMIT }
+    ensures some { IfSome result (λ past. (c < past)
+        × ((k : ℕ) → c ≤ k → k < past → bit_in table.now k ≡ true)) }
+    ensures none { IfNone result ((k : ℕ) × (c ≤ k) × (k < end) × (bit_in table.now k ≡ false)) }
 {
-    let place = place_of(table, c / 1024);
-    if is_full(table, place) {
-        return (c / 1024 + 1) * 1024;
-    }
+    let place = place_by(table, last, c / 1024);
     let bits = word(table, place + (c / 64 % 16) as usize);
-    c + ones_from(bits, c % 64)
+    let past = end.min((c / 64 + 1) * 64);
+    if ones_from(bits, c % 64) < past - c {
+        return None;
+    }
+    if past < end && is_full(table, place) {
+        return Some((c / 1024 + 1) * 1024);
+    }
+    Some(past)
 }
 
 /// Returns true if the bits of all code points in `start..end` are 1.
@@ -84,13 +91,13 @@ fn contains_all(table: &[u64], start: u32, end: u32) -> bool
     requires { end ≤ CODE_POINT_LIMIT }
     ensures { IsTrue result ↔ ((c : ℕ) → start ≤ c → c < end → bit_in table.now c ≡ true) }
 {
+    let last = last_offset(table);
     let mut next = start;
     while next < end {
-        let past = past_ones(table, next);
-        if past == next {
-            return false;
+        match past_ones(table, last, next, end) {
+            Some(past) => next = past,
+            None => return false,
         }
-        next = past;
     }
     true
 }

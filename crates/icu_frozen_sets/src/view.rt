@@ -54,7 +54,7 @@ pub(crate) fn last_offset(table: &[u64]) -> usize
 /// Returns the index of the first of the block's words. The last offset, which is at index `last`, is
 /// that of all later blocks, too.
 #[inline(always)]
-fn place_by(table: &[u64], last: usize, block: u32) -> usize
+pub(crate) fn place_by(table: &[u64], last: usize, block: u32) -> usize
     requires { last ≡ offset_words table.now - 1 }
     ensures { result ≡ place_in table.now block }
 {

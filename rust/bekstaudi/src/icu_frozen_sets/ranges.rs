@@ -1,7 +1,9 @@
 //! Whether a frozen set contains a range.
 
 use crate::icu_frozen_sets::frozen::FrozenCodePointSet;
-use crate::icu_frozen_sets::view::{FULL_BLOCK, FrozenView, offset_count, place_of, word};
+use crate::icu_frozen_sets::view::{
+    FULL_BLOCK, FrozenView, last_offset, offset_count, place_by, word,
+};
 use crate::icu_invlist::codepointinvlist::RangeOf;
 use crate::icu_zerovec::CODE_POINT_LIMIT;
 use crate::support::prelude::*;
@@ -44,28 +46,33 @@ fn is_full(table: &[u64], place: usize) -> bool {
     true
 }
 
-/// Returns the end of a run of ones that starts with the bit of the code point `c`, or `c` if that
-/// bit is 0. The run is cut off at the end of the word, or of the block if the block is full.
+/// Returns the end of the word of the code point `c`, or `end` if that comes first, if the bits from `c`
+/// up to there are 1. If the range `c..end` goes on and the block is full, returns the end of the block.
+/// Returns `None` if one of these bits is 0. The last offset is at index `last`.
 #[inline(always)]
-fn past_ones(table: &[u64], c: u32) -> u32 {
-    let place = place_of(table, c / 1024);
-    if is_full(table, place) {
-        return (c / 1024 + 1) * 1024;
-    }
+fn past_ones(table: &[u64], last: usize, c: u32, end: u32) -> Option<u32> {
+    let place = place_by(table, last, c / 1024);
     let bits = word(table, place + (c / 64 % 16) as usize);
-    c + ones_from(bits, c % 64)
+    let past = end.min((c / 64 + 1) * 64);
+    if ones_from(bits, c % 64) < past - c {
+        return None;
+    }
+    if past < end && is_full(table, place) {
+        return Some((c / 1024 + 1) * 1024);
+    }
+    Some(past)
 }
 
 /// Returns true if the bits of all code points in `start..end` are 1.
 #[inline]
 fn contains_all(table: &[u64], start: u32, end: u32) -> bool {
+    let last = last_offset(table);
     let mut next = start;
     while next < end {
-        let past = past_ones(table, next);
-        if past == next {
-            return false;
+        match past_ones(table, last, next, end) {
+            Some(past) => next = past,
+            None => return false,
         }
-        next = past;
     }
     true
 }

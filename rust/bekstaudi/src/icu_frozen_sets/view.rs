@@ -40,7 +40,7 @@ pub(crate) fn last_offset(table: &[u64]) -> usize {
 /// Returns the index of the first of the block's words. The last offset, which is at index `last`, is
 /// that of all later blocks, too.
 #[inline(always)]
-fn place_by(table: &[u64], last: usize, block: u32) -> usize {
+pub(crate) fn place_by(table: &[u64], last: usize, block: u32) -> usize {
     (word(table, (block as usize).min(last)) % 0x1_0000_0000) as usize
 }
 
